@@ -1,0 +1,8 @@
+//! Core programs: functions over numbered nodes and numbered variables.
+#![tactic(auto)]
+
+mod expression;
+mod program;
+
+pub use expression::{Expr, Op};
+pub use program::{Base, Core, Function, Interface, Kind, Node, Program, Sort, TagDecl};
