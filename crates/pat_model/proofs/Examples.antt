@@ -1,12 +1,12 @@
 -- Runs of small programs, computed.
-use Rattle.std.proofs.Common.{◌≡◌, ℕ, List, [], ◌∷◌, Option, Some, None, refl, Bool, true, false}
+use Rattle.std.proofs.Common.{◌≡◌, ℕ, List, [], ◌∷◌, Option, Some, None, refl}
 use Rattle.std.specs.Prelude.{codes, option_map}
-use Rattle.pat_words.specs.Patterns.{Pat, One, Tag}
-use Rattle.pat_model.specs.Values.{BaseUnit, Plain, MailboxOf, UnitConst, Literal, Const, Name}
-use Rattle.pat_model.specs.Programs.{BaseSort, Interface, Function, Program, Node, Core, Val, Let, New, Send, Guard, Clause, is_free}
-use Rattle.pat_model.specs.Configs.{Config, start}
-use Rattle.pat_model.specs.Steps.{Act, ActLocal, ActNew, ActSend, ActEnd, ActFree, ActReceive, Step}
-use Rattle.pat_model.specs.Runs.{run, replay, Entry, outcome, EndDone, Outcome}
+use Rattle.pat_words.specs.Patterns.{One, Tag}
+use Rattle.pat_model.specs.Values.{BaseUnit, Plain, MailboxOf, UnitConst, Literal}
+use Rattle.pat_model.specs.Programs.{BaseSort, Function, Program, Node, Core, Val, Let, New, Send, Guard, is_free}
+use Rattle.pat_model.specs.Configs.{Config}
+use Rattle.pat_model.specs.Steps.{Act, ActNew, ActSend, ActEnd, ActFree, ActReceive}
+use Rattle.pat_model.specs.Runs.{replay, Entry, outcome, EndDone}
 
 abbrev pub node_of : Core → Node
 node_of core = record { core = core; kind = Plain BaseUnit; function = 0 }

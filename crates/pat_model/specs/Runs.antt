@@ -1,5 +1,5 @@
 -- Runs, histories, and how a run ends.
-use Rattle.std.specs.Prelude.{◌≡◌, ℕ, ◌+◌, Bool, true, false, not, ◌&&◌, nat_eq, List, [], ◌∷◌, ◌++◌, length, replicate, Option, Some, None, option_and_then, is_some, map, filter, if◌then◌else◌}
+use Rattle.std.specs.Prelude.{ℕ, ◌+◌, Bool, true, false, not, ◌&&◌, nat_eq, List, [], ◌∷◌, ◌++◌, length, replicate, Option, Some, None, option_and_then, is_some, map, filter, if◌then◌else◌}
 use Rattle.std.specs.List.{list_any}
 use Rattle.pat_model.specs.Programs.{Program}
 use Rattle.pat_model.specs.Configs.{Thread, Config, start}
@@ -21,6 +21,7 @@ pub record Entry : Type 0 where
   pub local_steps : ℕ
   pub shared : Option Act
 
+-- the shared step of an entry, if it has one
 abbrev pub shared_step : ℕ → Option Act → List Step
 shared_step t None = []
 shared_step t (Some a) = record { thread = t; act = a } ∷ []
@@ -34,6 +35,7 @@ abbrev pub entry_from : Program → Config → List Step → Option Config
 entry_from p c [] = None
 entry_from p c (k ∷ ks) = run_from p c (k ∷ ks)
 
+-- the configuration after a history, from any configuration
 abbrev pub replay_from : Program → Config → List Entry → Option Config
 replay_from p c [] = Some c
 replay_from p c (e ∷ es) = option_and_then (λ d. replay_from p d es) (entry_from p c (entry_steps e))
@@ -63,13 +65,14 @@ can_step_thread p c t = can_take p c t (acts c)
 abbrev pub can_step : Program → Config → Bool
 can_step p c = list_any (λ e. can_step_thread p c e.0) c.threads
 
+-- whether the act is a send
 abbrev pub is_send : Act → Bool
 is_send ActSend = true
 is_send _ = false
 
 -- whether a step that is no send is enabled
-abbrev pub can_step_unsent : Program → Config → Bool
-can_step_unsent p c = list_any (λ e. can_take p c e.0 (filter (λ a. not (is_send a)) (acts c))) c.threads
+abbrev pub can_step_without_sending : Program → Config → Bool
+can_step_without_sending p c = list_any (λ e. can_take p c e.0 (filter (λ a. not (is_send a)) (acts c))) c.threads
 
 -- how a run ends
 pub data Outcome : Type 0 where
@@ -78,6 +81,7 @@ pub data Outcome : Type 0 where
   EndFull : Outcome
   EndBudget : Outcome
 
+-- whether a thread is left
 abbrev pub has_threads : List (ℕ × Thread) → Bool
 has_threads [] = false
 has_threads _ = true
@@ -94,6 +98,6 @@ abbrev pub outcome : Program → Config → (steps budget : ℕ) → (limit : Op
 outcome p c steps budget limit =
     if not (has_threads c.threads) then Some EndDone
     else if not (can_step p c) then Some EndWaiting
-    else if is_at_limit limit (length c.messages) && not (can_step_unsent p c) then Some EndFull
+    else if is_at_limit limit (length c.messages) && not (can_step_without_sending p c) then Some EndFull
     else if nat_eq steps budget then Some EndBudget
     else None
