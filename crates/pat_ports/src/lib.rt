@@ -1,0 +1,21 @@
+//! Where input comes from, where output goes, and what a worker passes on its way.
+#![tactic(auto)]
+
+mod copying;
+mod gate;
+mod mem_sink;
+mod mem_source;
+mod plan;
+mod port;
+mod standard;
+mod sure;
+
+pub use gate::{Gate, OpenGate};
+pub use mem_sink::MemSink;
+pub use mem_source::MemSource;
+pub use port::{Failed, Sink, Source};
+pub use standard::{StdSink, StdSource};
+pub use sure::{SureSink, SureSource};
+
+#[cfg(test)]
+mod tests;

@@ -1,0 +1,50 @@
+use super::*;
+use std::io;
+use std::test::Fail;
+
+#[test]
+fn ports_in_memory_fail_where_told(rt: HostRuntime) -> Result<(), Fail> {
+    let alloc = rt.alloc();
+    let mut source = MemSource::new(b"abc".to_vec(alloc)?, 2, vec![in alloc; 2]?);
+    let mut buf = [0u8; 4];
+    for want in [Ok(2), Err(Failed), Ok(1), Ok(0)] {
+        assert_eq!(rt; source.read(&mut buf), want);
+    }
+    assert_eq!(rt; buf[0], b'c');
+    let mut sink = MemSink::new(alloc, 2, vec![in alloc; 3]?, 4)?;
+    for (piece, want) in [
+        (b"abc", Ok(2)),
+        (b"cde", Ok(2)),
+        (b"efg", Err(Failed)),
+        (b"efg", Err(Failed)),
+    ] {
+        assert_eq!(rt; sink.write(piece), want);
+    }
+    assert_eq!(rt; sink.write(b""), Ok(0));
+    assert_eq!(rt; sink.taken(), b"abcd".as_slice());
+    let mut sure = SureSource::new(b"xyz".to_vec(alloc)?, 2);
+    assert_eq!(rt; sure.read(&mut buf), Ok(2));
+    assert_eq!(rt; SureSink::new(2).write(b"xyz"), Ok(2));
+    OpenGate.before(0, 1);
+    OpenGate.after(0, 1);
+    Ok(())
+}
+
+#[test]
+fn standard_ports(rt: HostRuntime) -> Result<(), Fail> {
+    let mut buf = [0u8; 4];
+    let mut input = StdSource::new(rt.reader());
+    assert_eq!(rt; input.read(&mut buf[..0]), Ok(0));
+    let mut source = StdSource::new(b"abcde".as_slice());
+    for want in [4, 1, 0] {
+        assert_eq!(rt; source.read(&mut buf), Ok(want));
+    }
+    let mut output = StdSink::new(io::writer(&rt));
+    assert_eq!(rt; output.write(b"to standard output\n"), Ok(19));
+    let mut none = [0u8; 2];
+    let mut sink = StdSink::new(none.as_mut_slice());
+    assert_eq!(rt; sink.write(b"abc"), Ok(2));
+    assert_eq!(rt; sink.write(b"c"), Err(Failed));
+    assert_eq!(rt; sink.write(b""), Ok(0));
+    Ok(())
+}
