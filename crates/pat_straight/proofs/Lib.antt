@@ -1,0 +1,4 @@
+pub mod Division
+pub mod Chains
+pub mod OneTree
+pub mod OneProgram

@@ -1,5 +1,6 @@
 pub mod Tokens
 pub mod Trees
 pub mod Grammar
+pub mod Fronts
 pub mod Numbering
 pub mod Spelling
