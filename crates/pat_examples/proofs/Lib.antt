@@ -1,0 +1,4 @@
+pub mod Examples
+pub mod ExampleFits
+pub mod Leak
+pub mod Example

@@ -1,0 +1,8 @@
+pub mod Lists
+pub mod FreeVars
+pub mod Scopes
+pub mod Inversion
+pub mod Acts
+pub mod Enabled
+pub mod Outcomes
+pub mod Replays
