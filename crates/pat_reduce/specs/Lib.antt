@@ -1,0 +1,5 @@
+pub mod Views
+pub mod Environments
+pub mod Results
+pub mod Places
+pub mod Acts
