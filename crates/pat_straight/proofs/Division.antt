@@ -7,7 +7,7 @@ use Rattle.std.proofs.lemmas.Slice.Eq.{bytes_eq-Decides}
 use Rattle.std.specs.Prelude.{bytes_eq}
 use Rattle.pat_straight.specs.Tokens.{Reserved, Mark, Token, NameToken, IntegerToken, WordToken, MarkToken, InterfaceWord, DefWord, LetWord, InWord, IfWord, ElseWord, PrintWord, NewWord, SpawnWord, GuardWord, FreeWord, FailWord, ReceiveWord, FromWord, TrueWord, FalseWord, UnitWord, BoolWord, IntWord, StringWord, RoundOpen, RoundClose, CurlyOpen, CurlyClose, Colon, Equals, Plus, Minus, Star, word_spelling, mark_spelling, is_blank, is_digit, starts_name, continues_name, Each, FrontFails, IsIdentifier, Spells, IsLongest, Begins, Divides}
 
-both : (b : Bool) → b ≡ true → b ≡ false → ⊥
+pub both : (b : Bool) → b ≡ true → b ≡ false → ⊥
 both b t f = cc
 
 -- ---- runs of bytes that pass a test
@@ -50,7 +50,7 @@ digit_blank b l = grind (arith, nat_tests)
 starts_continues : (b : ℕ) → starts_name b ≡ true → continues_name b ≡ true
 starts_continues b s = or_left (starts_name b) (is_digit b) s
 
-mark_starts : (m : Mark) → starts_name (mark_spelling m) ≡ false
+pub mark_starts : (m : Mark) → starts_name (mark_spelling m) ≡ false
 mark_starts RoundOpen = refl
 mark_starts RoundClose = refl
 mark_starts CurlyOpen = refl
@@ -61,7 +61,7 @@ mark_starts Plus = refl
 mark_starts Minus = refl
 mark_starts Star = refl
 
-mark_digit : (m : Mark) → is_digit (mark_spelling m) ≡ false
+pub mark_digit : (m : Mark) → is_digit (mark_spelling m) ≡ false
 mark_digit RoundOpen = refl
 mark_digit RoundClose = refl
 mark_digit CurlyOpen = refl
@@ -85,7 +85,7 @@ mark_blank Star = refl
 
 -- ---- identifiers
 
-identifier_each : (own : List ℕ) → IsIdentifier own → Each continues_name own
+pub identifier_each : (own : List ℕ) → IsIdentifier own → Each continues_name own
 identifier_each [] i = absurd i
 identifier_each (b ∷ bs) i = (starts_continues b i.0, i.1)
 
@@ -97,10 +97,10 @@ pub identifier_digits : (own more : List ℕ) → own ≢ [] → IsIdentifier (o
 identifier_digits [] more some i d = some refl
 identifier_digits (b ∷ bs) more some i d = starts_digit b i.0 d.0
 
-identifier_mark : (m : Mark) (more : List ℕ) → IsIdentifier (mark_spelling m ∷ more) → ⊥
+pub identifier_mark : (m : Mark) (more : List ℕ) → IsIdentifier (mark_spelling m ∷ more) → ⊥
 identifier_mark m more i = both (starts_name (mark_spelling m)) i.0 (mark_starts m)
 
-digits_mark : (m : Mark) (more : List ℕ) → Each is_digit (mark_spelling m ∷ more) → ⊥
+pub digits_mark : (m : Mark) (more : List ℕ) → Each is_digit (mark_spelling m ∷ more) → ⊥
 digits_mark m more d = both (is_digit (mark_spelling m)) d.0 (mark_digit m)
 
 pub identifier_some : (own : List ℕ) → IsIdentifier own → own ≢ []
@@ -109,7 +109,7 @@ identifier_some (b ∷ bs) i e = cc
 
 -- ---- reserved words and marks
 
-word_identifier : (w : Reserved) → IsIdentifier (word_spelling w)
+pub word_identifier : (w : Reserved) → IsIdentifier (word_spelling w)
 word_identifier InterfaceWord = (refl, (refl, (refl, (refl, (refl, (refl, (refl, (refl, (refl, tt)))))))))
 word_identifier DefWord = (refl, (refl, (refl, tt)))
 word_identifier LetWord = (refl, (refl, (refl, tt)))
@@ -255,7 +255,7 @@ same_piece (b ∷ []) rest (x ∷ xs) rest' (lone l d) (digits some each stop) e
 
 -- ---- one token
 
-identifier_no_digits : (own : List ℕ) → IsIdentifier own → Each is_digit own → ⊥
+pub identifier_no_digits : (own : List ℕ) → IsIdentifier own → Each is_digit own → ⊥
 identifier_no_digits [] i d = absurd i
 identifier_no_digits (x ∷ xs) i d = starts_digit x i.0 d.0
 
