@@ -1,0 +1,6 @@
+pub mod Words
+pub mod Marks
+pub mod Tokens
+pub mod Characters
+pub mod Lexemes
+pub mod Divisions
