@@ -1,12 +1,12 @@
 -- The place of a thread, and a local step there.
-use Rattle.std.proofs.Common.{◌≡◌, ◌+◌, ◌<◌, nat_eq, ℕ, true, List, ◌∷◌, ◌++◌, length, take, drop, get_or, suc, Some, Result, Ok, Err, slice_get, slice_set, ap, sym, ◌∙◌, eq-eqb, add-one, subst}
+use Rattle.std.proofs.Common.{refl, ◌≡◌, ◌+◌, ◌<◌, nat_eq, ℕ, true, List, ◌∷◌, ◌++◌, length, take, drop, get_or, suc, Some, Result, Ok, Err, slice_get, slice_set, ap, sym, ◌∙◌, eq-eqb, add-one, subst}
 use Rattle.std.specs.Prelude.{option_map, option_and_then}
 use Rattle.std.specs.Map.{lookup, set_value, remove_entry}
 use Rattle.std.proofs.lemmas.Bool.{cond-true}
 use Rattle.std.proofs.lemmas.List.{drop_more, set_split, map-append, set-get_or}
-use Rattle.std.proofs.lemmas.Option.{same_Some, slice_get-get_or, get_or_from_slice_get}
+use Rattle.std.proofs.lemmas.Option.{same_Some, slice_get-get_or, slice_get_read, get_or_from_slice_get}
 use Rattle.pat_model.specs.Programs.{Program}
-use Rattle.pat_model.specs.Configs.{Thread, with_thread}
+use Rattle.pat_model.specs.Configs.{Thread, thread_at, with_thread}
 use Rattle.pat_model.specs.Steps.{ActLocal, step, local_step, thread_step}
 use Rattle.pat_reduce.specs.declared.config.ThreadState.{ThreadState}
 use Rattle.pat_reduce.specs.declared.config.Config.{Config}
@@ -75,3 +75,8 @@ local_at_place p k c t i e same at value s r gives =
     let own = subst (λ (d : Config). IsPlace d.threads t i) (sym same) at in
     subst (λ (d : Config). StepGives config_view (step p (config_view d) (record { thread = t; act = ActLocal })) d (record k { threads = slice_set k.threads i (e.0, s) }) r) same
     (local_gives p k t i e own (slice_get-get_or k.threads i e own.within ∙ ap Some (sym value)) s r gives)
+
+-- the thread that stands at its place
+pub thread_there : (c : Config) (slice : Threads) (t i : ℕ) (e : ℕ × ThreadState) → slice ≡ c.threads → IsPlace slice t i → e ≡ get_or slice i e → thread_at (config_view c) t ≡ Some (thread_view e.1)
+thread_there c slice t i e same at is =
+    ap (λ l. lookup (nat_eq t) (threads_view l)) (sym same) ∙ (at.state e (slice_get_read slice (length slice) i e refl at.within is)).1

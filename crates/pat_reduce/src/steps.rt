@@ -1,14 +1,16 @@
 // The start of a program, and the steps of a configuration.
-ghost use Rattle.std.specs.Prelude.{◌≡◌, None, nat_eq, IfOk, IfSome, IfNone};
+ghost use Rattle.std.specs.Prelude.{◌≡◌, None, nat_eq, option_map, IfOk, IfSome, IfNone, IsTrue, IsFalse};
 ghost use Rattle.std.specs.Map.{lookup};
 ghost use Rattle.pat_model.specs.Configs.{start};
 ghost use Rattle.pat_model.specs.Steps.{ActLocal, ActPrint, ActEnd, step as after_step};
+ghost use Rattle.pat_model.specs.Runs.{can_step, can_step_thread};
 ghost use Rattle.pat_core.specs.Views.{program_view};
-ghost use Rattle.pat_reduce.specs.Views.{config_view, step_view, threads_view};
+ghost use Rattle.pat_reduce.specs.Views.{act_view, config_view, step_view, threads_view};
+ghost use Rattle.pat_reduce.specs.Acts.{EnabledAct};
 ghost use Rattle.pat_reduce.specs.Results.{StepGives};
 ghost use Rattle.pat_reduce.specs.Places.{IsPlace};
 
-use crate::threads::{is_over, next_line, step_locally};
+use crate::threads::{enabled_act, is_over, next_line, step_locally};
 use crate::{Act, Config, Control, Step, StepError, ThreadState, Value};
 use pat_core::Executable;
 use pat_sequences::{Sequence, Stack};
@@ -60,6 +62,30 @@ impl Config {
             Act::Print => self.print(alloc, code, step.thread, place),
             Act::End => self.end(code, step.thread, place),
         }
+    }
+
+    /// The act of the thread that is enabled, if one is.
+    pub fn enabled_act(&self, code: &Executable, thread: u32) -> Option<Act>
+        ensures { EnabledAct (program_view code.now.program) (config_view self.now) thread (option_map act_view result) }
+    {
+        let threads = self.threads.as_slice();
+        match place_of(threads, thread) {
+            Some(place) => enabled_act(code, &threads[place].1),
+            None => None,
+        }
+    }
+
+    /// A thread that has an enabled step, if one has.
+    pub fn ready_thread(&self, code: &Executable) -> Option<u32>
+        ensures some { IfSome result (λ t. IsTrue (can_step_thread (program_view code.now.program) (config_view self.now) t)) }
+        ensures none { IfNone result (IsFalse (can_step (program_view code.now.program) (config_view self.now))) }
+    {
+        for entry in self.threads.as_slice() {
+            if self.enabled_act(code, entry.0).is_some() {
+                return Some(entry.0);
+            }
+        }
+        None
     }
 
     // A local step of the thread at a place.

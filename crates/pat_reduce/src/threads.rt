@@ -3,13 +3,13 @@ ghost use Rattle.std.specs.Prelude.{◌≡◌, map, option_copied, option_map};
 ghost use Rattle.pat_model.specs.Programs.{core_at};
 ghost use Rattle.pat_model.specs.Steps.{local_step, redex};
 ghost use Rattle.pat_core.specs.Views.{core_view, program_view};
-ghost use Rattle.pat_reduce.specs.Views.{value_view, control_view, frame_view, thread_view};
-ghost use Rattle.pat_reduce.specs.Acts.{redex_value, resumed, other_local, redex_line, is_over_at};
+ghost use Rattle.pat_reduce.specs.Views.{act_view, value_view, control_view, frame_view, thread_view};
+ghost use Rattle.pat_reduce.specs.Acts.{redex_value, resumed, other_local, redex_line, is_over_at, plain_act};
 ghost use Rattle.pat_reduce.specs.Results.{Gives, StepGives};
 
 use crate::environments::{bound, kept, kept_but};
 use crate::evaluation::evaluate;
-use crate::{Control, Frame, StepError, ThreadState, Value};
+use crate::{Act, Control, Frame, StepError, ThreadState, Value};
 use pat_core::{Core, Executable};
 use pat_sequences::Text;
 use std::alloc::Global;
@@ -132,5 +132,30 @@ pub fn is_over(code: &Executable, state: &ThreadState) -> bool
     match &state.control {
         Control::Returned(_) => true,
         Control::Node { node, .. } => matches!(core_of(code, *node), Some(Core::Value(_))),
+    }
+}
+
+/// The act of a thread that is enabled, if one is.
+pub fn enabled_act(code: &Executable, state: &ThreadState) -> Option<Act>
+    ensures { option_map act_view result ≡ plain_act (redex (program_view code.now.program) (control_view state.now.control)) (map frame_view state.now.frames) }
+{
+    match &state.control {
+        Control::Returned(_) => Some(if state.frames.is_empty() {
+            Act::End
+        } else {
+            Act::Local
+        }),
+        Control::Node { node, env } => match core_of(code, *node)? {
+            Core::Let { .. } => Some(Act::Local),
+            Core::Print(e) => match evaluate(e, env.as_slice()) {
+                Some(Value::Int(_)) => Some(Act::Print),
+                _ => None,
+            },
+            Core::Value(_) if state.frames.is_empty() => Some(Act::End),
+            Core::Value(e) => match evaluate(e, env.as_slice()) {
+                Some(_) => Some(Act::Local),
+                None => None,
+            },
+        },
     }
 }
