@@ -78,6 +78,7 @@ impl Config {
     /// A thread that has an enabled step, if one has.
     pub fn ready_thread(&self, code: &Executable) -> Option<u32>
         ensures some { IfSome result (λ t. IsTrue (can_step_thread (program_view code.now.program) (config_view self.now) t)) }
+        ensures step { IfSome result (λ t. IsTrue (can_step (program_view code.now.program) (config_view self.now))) }
         ensures none { IfNone result (IsFalse (can_step (program_view code.now.program) (config_view self.now))) }
     {
         for entry in self.threads.as_slice() {

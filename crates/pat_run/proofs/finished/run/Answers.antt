@@ -1,0 +1,50 @@
+use Rattle.std.proofs.Common.{◌≡◌, ◌+◌, ◌-◌, ◌++◌, ◌∷◌, [], min, ap, sym, ◌∙◌, map, length, None, arith, subst}
+use Rattle.std.proofs.lemmas.List.{map-append}
+use Rattle.pat_model.specs.Configs.{start}
+use Rattle.pat_model.specs.Runs.{step_count, entry_steps, outcome}
+use Rattle.pat_core.specs.Views.{program_view}
+use Rattle.pat_reduce.specs.Views.{config_view, entry_view, outcome_view}
+use Rattle.pat_run.specs.Jobs.{IsJob, Jobs}
+use Rattle.pat_run.proofs.Cuts.{jobs_replay, jobs_more, count_more, ends_stuck, job_within}
+use Rattle.pat_run.proofs.finished.run.Goals as goal
+
+pub returns-in_default : goal.returns-in_default
+returns-in_default c =
+    let p = program_view c.args.code.now.program in
+    let es = map entry_view c.loop-left.entries in
+    let d = config_view c.loop-left.config in
+    record {
+      replayed = jobs_replay p c.args.steps (start p) es d c.loop-left.invariant.jobs;
+      jobs = c.loop-left.invariant.jobs;
+      ends = ends_stuck p d (step_count es) c.args.steps (outcome_view c.ending-outcome.result) c.in_default.ensures.none c.ending-outcome.ensures;
+    }
+
+pub returns : goal.returns
+returns c =
+    let p = program_view c.args.code.now.program in
+    let es = map entry_view c.loop-left.entries in
+    let d = config_view c.loop-left.config in
+    let counted : step_count es + c.loop-left.left ≡ c.args.steps = c.loop-left.invariant.counted in
+    let all : c.args.steps ≡ step_count es = omega arith in
+    record {
+      replayed = jobs_replay p c.args.steps (start p) es d c.loop-left.invariant.jobs;
+      jobs = c.loop-left.invariant.jobs;
+      ends = ap (λ n. outcome p d (step_count es) n None) all ∙ c.ending-outcome-2.ensures (step_count es);
+    }
+
+pub loop-left-preserved : goal.loop-left-preserved
+loop-left-preserved c =
+    let p = program_view c.args.code.now.program in
+    let es = map entry_view c.loop-left.entries in
+    let e = entry_view c.in_ok-entry.entry in
+    let counted : step_count es + c.loop-left.left ≡ c.args.steps = c.loop-left.invariant.counted in
+    let grown : map entry_view c.push.new.self ≡ es ++ e ∷ [] = ap (map entry_view) c.in_ok-push.ensures.ok ∙ map-append entry_view c.loop-left.entries (c.in_ok-entry.entry ∷ []) in
+    let left : c.loop-left.left ≡ c.args.steps - step_count es = omega arith in
+    let allowed = subst (λ n. IsJob p n (config_view c.loop-left.config) e (config_view c.run_job.new.config)) c.min.ensures c.in_ok-entry.ensures in
+    let within = job_within p (min c.loop-left.left 256) (config_view c.loop-left.config) e (config_view c.run_job.new.config) allowed in
+    let taken : c.steps_of-left.result ≡ length (entry_steps e) = c.steps_of-left.ensures in
+    let more = count_more es e in
+    record {
+      jobs = subst (λ l. Jobs p c.args.steps (start p) l (config_view c.run_job.new.config)) (sym grown) (jobs_more p c.args.steps c.loop-left.left (start p) es (config_view c.loop-left.config) e (config_view c.run_job.new.config) c.loop-left.invariant.jobs left allowed);
+      counted = ap (λ l. step_count l + (c.loop-left.left - c.steps_of-left.result)) grown ∙ omega arith;
+    }

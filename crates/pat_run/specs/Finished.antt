@@ -1,0 +1,14 @@
+-- What a run comes to.
+use Rattle.std.specs.Prelude.{◌≡◌, ℕ, map, Some, None}
+use Rattle.pat_model.specs.Programs.{Program}
+use Rattle.pat_model.specs.Configs.{start}
+use Rattle.pat_model.specs.Runs.{replay, step_count, outcome}
+use Rattle.pat_reduce.specs.Views.{config_view, entry_view, outcome_view}
+use Rattle.pat_run.specs.declared.finished.Finished.{Finished}
+use Rattle.pat_run.specs.Jobs.{Jobs}
+
+-- the history replays to the configuration, by jobs within the budget, and its outcome is the run's
+pub record IsRun (p : Program) (budget : ℕ) (f : Finished) : Type 0 where
+  pub replayed : replay p (map entry_view f.entries) ≡ Some (config_view f.config)
+  pub jobs : Jobs p budget (start p) (map entry_view f.entries) (config_view f.config)
+  pub ends : outcome p (config_view f.config) (step_count (map entry_view f.entries)) budget None ≡ Some (outcome_view f.outcome)

@@ -1,0 +1,7 @@
+//! The run of a program by one worker, from its start to an outcome.
+#![tactic(auto)]
+
+mod finished;
+mod job;
+
+pub use finished::{Finished, run};
