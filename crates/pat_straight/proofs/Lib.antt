@@ -2,3 +2,4 @@ pub mod Division
 pub mod Chains
 pub mod OneTree
 pub mod OneProgram
+pub mod Sizes

@@ -1,0 +1,8 @@
+//! The program that a straight-line text spells.
+#![tactic(auto)]
+
+mod numbering;
+mod reading;
+
+pub use pat_straight_lexer::ReadError;
+pub use reading::read_program;
