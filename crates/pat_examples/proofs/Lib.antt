@@ -1,4 +1,8 @@
-pub mod Examples
-pub mod ExampleFits
-pub mod Leak
-pub mod Example
+pub mod Tests
+pub mod Inclusion
+pub mod KindTests
+pub mod FitTests
+pub mod TypeTests
+pub mod SafePrograms
+pub mod Histories
+pub mod UnsafePrograms

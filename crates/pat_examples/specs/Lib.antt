@@ -1,0 +1,3 @@
+pub mod Build
+pub mod Safe
+pub mod Unsafe

@@ -1,2 +1,35 @@
-// Examples: programs shown safe by the law, and programs shown unsafe by a run. No code of the product.
+// Examples: programs that are safe by the law, and programs that reach a fault. No code of the product.
 #![tactic(auto)]
+
+ghost use Rattle.std.specs.Prelude.{List, [], ◌∷◌, pos};
+ghost use Rattle.std.specs.Fmt.{signed_decimal};
+ghost use Rattle.pat_model.specs.WellFormed.{WellFormed};
+ghost use Rattle.pat_model.specs.Faults.{IsSafe};
+ghost use Rattle.pat_examples.specs.Safe.{one_message, future, future_history, pump, delegation, swap, swap_history, EndsDone};
+ghost use Rattle.pat_examples.specs.Unsafe.{leak, alias, beside, ReachesFault, OnlyAlias, OnlyBeside};
+
+/// Programs with messages, spawning, calls, recursion, payloads and delegation are safe.
+pub fn safe_programs()
+    ensures one_message { IsSafe one_message }
+    ensures future { IsSafe future }
+    ensures pump { IsSafe pump }
+    ensures delegation { IsSafe delegation }
+    ensures swap { IsSafe swap }
+{}
+
+/// Histories of two of them, to the end: what they print, and which mailboxes are left.
+pub fn runs()
+    ensures future { EndsDone future future_history 34 (signed_decimal (pos 5) ∷ []) [] }
+    ensures swap { EndsDone swap swap_history 11 [] (0 ∷ 1 ∷ []) }
+{}
+
+/// Well-formed programs that reach a fault. Two of them are typed but for one rule: that a target and its payloads are
+/// different variables, and that beside a received mailbox a clause uses its own names alone.
+pub fn unsafe_programs()
+    ensures formed { WellFormed leak × WellFormed alias × WellFormed beside }
+    ensures leak { ReachesFault leak }
+    ensures alias { ReachesFault alias }
+    ensures only_alias { OnlyAlias }
+    ensures beside { ReachesFault beside }
+    ensures only_beside { OnlyBeside }
+{}
