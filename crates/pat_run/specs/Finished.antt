@@ -10,5 +10,6 @@ use Rattle.pat_run.specs.Jobs.{Jobs}
 -- the history replays to the configuration, by jobs within the budget, and its outcome is the run's
 pub record IsRun (p : Program) (budget : ℕ) (f : Finished) : Type 0 where
   pub replayed : replay p (map entry_view f.entries) ≡ Some (config_view f.config)
+  pub counted : f.steps ≡ step_count (map entry_view f.entries)
   pub jobs : Jobs p budget (start p) (map entry_view f.entries) (config_view f.config)
   pub ends : outcome p (config_view f.config) (step_count (map entry_view f.entries)) budget None ≡ Some (outcome_view f.outcome)

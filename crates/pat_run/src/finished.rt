@@ -18,6 +18,8 @@ pub struct Finished {
     pub config: Config,
     /// Its history.
     pub entries: Sequence<Entry>,
+    /// The number of steps of the history.
+    pub steps: u64,
     pub outcome: Outcome,
 }
 
@@ -37,6 +39,7 @@ pub fn run(alloc: Global, code: &Executable, steps: u64) -> Result<Finished, All
             return Ok(Finished {
                 config,
                 entries,
+                steps: steps - left,
                 outcome,
             });
         };
@@ -48,6 +51,7 @@ pub fn run(alloc: Global, code: &Executable, steps: u64) -> Result<Finished, All
     Ok(Finished {
         config,
         entries,
+        steps: steps - left,
         outcome,
     })
 }

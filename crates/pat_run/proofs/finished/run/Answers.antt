@@ -13,8 +13,10 @@ returns-in_default c =
     let p = program_view c.args.code.now.program in
     let es = map entry_view c.loop-left.entries in
     let d = config_view c.loop-left.config in
+    let counted : step_count es + c.loop-left.left ≡ c.args.steps = c.loop-left.invariant.counted in
     record {
       replayed = jobs_replay p c.args.steps (start p) es d c.loop-left.invariant.jobs;
+      counted = omega arith;
       jobs = c.loop-left.invariant.jobs;
       ends = ends_stuck p d (step_count es) c.args.steps (outcome_view c.ending-outcome.result) c.in_default.ensures.none c.ending-outcome.ensures;
     }
@@ -28,6 +30,7 @@ returns c =
     let all : c.args.steps ≡ step_count es = omega arith in
     record {
       replayed = jobs_replay p c.args.steps (start p) es d c.loop-left.invariant.jobs;
+      counted = omega arith;
       jobs = c.loop-left.invariant.jobs;
       ends = ap (λ n. outcome p d (step_count es) n None) all ∙ c.ending-outcome-2.ensures (step_count es);
     }

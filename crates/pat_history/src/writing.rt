@@ -1,0 +1,52 @@
+// Entries as lines.
+ghost use Rattle.std.specs.Prelude.{◌≡◌, ◌++◌, ◌∷◌, [], map, option_map, IfOk, OnOk};
+ghost use Rattle.std.specs.Fmt.{decimal};
+ghost use Rattle.pat_reduce.specs.Views.{act_view, entry_view};
+ghost use Rattle.pat_history.specs.HistoryText.{act_word, entry_line, history_text};
+
+use crate::push_number;
+use pat_reduce::{Act, Entry};
+use std::alloc::{AllocError, Global};
+
+/// The text of a history.
+pub fn write(alloc: Global, entries: &[Entry]) -> Result<Vec<u8>, AllocError>
+    ensures { IfOk result (λ t. t.items ≡ history_text (map entry_view entries.now)) }
+{
+    let mut text = b"%%history\n".to_vec(alloc)?;
+    for entry in entries {
+        push_entry(alloc, &mut text, entry)?;
+    }
+    Ok(text)
+}
+
+fn push_entry(alloc: Global, text: &mut Vec<u8>, entry: &Entry) -> Result<(), AllocError>
+    ensures { OnOk result (text.new.items ≡ text.old.items ++ entry_line (entry_view entry.now)) }
+{
+    push_field(alloc, text, entry.worker)?;
+    push_field(alloc, text, entry.thread)?;
+    push_field(alloc, text, entry.local)?;
+    text.extend_from_slice(word_of(entry.shared))?;
+    text.push(b'\n')?;
+    Ok(())
+}
+
+// A number and a space.
+fn push_field(alloc: Global, text: &mut Vec<u8>, n: u32) -> Result<(), AllocError>
+    ensures { OnOk result (text.new.items ≡ text.old.items ++ (decimal n ++ 32 ∷ [])) }
+{
+    push_number(alloc, text, n as u64)?;
+    text.push(b' ')?;
+    Ok(())
+}
+
+// No entry has a local step as its shared one; for one that had, there is no word of its own.
+fn word_of(shared: Option<Act>) -> &'static [u8]
+    ensures { result.now ≡ act_word (option_map act_view shared) }
+{
+    match shared {
+        None => b"-",
+        Some(Act::Local) => b"local",
+        Some(Act::Print) => b"print",
+        Some(Act::End) => b"end",
+    }
+}
