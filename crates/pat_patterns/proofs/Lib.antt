@@ -1,0 +1,5 @@
+pub mod Forms
+pub mod Meaning
+pub mod Rests
+pub mod Spans
+pub mod Totals

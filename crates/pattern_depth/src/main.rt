@@ -1,0 +1,122 @@
+//! Runs each call on patterns at the greatest depth and size that any may have, on main's own stack.
+#![tactic(auto)]
+
+use pat_bags::Bag;
+use pat_patterns::{
+    Pattern, covers, degree, has_values, inhabited, is_flat, levels, member, nullable, residual,
+    size, subst,
+};
+use std::alloc::{AllocError, Global};
+use std::io;
+
+/// How a deep pattern goes on at each level.
+#[derive(Clone, Copy)]
+enum Shape {
+    /// A product with `1 + t1` on the right.
+    Products,
+    /// A sum with `1.t1` on the left.
+    Sums,
+    /// A star.
+    Stars,
+}
+
+/// A pattern that goes on in the same way so many times, down to the last part.
+fn deep(alloc: Global, shape: Shape, times: u32, last: Pattern) -> Result<Pattern, AllocError> {
+    let mut p = last;
+    for _ in 0..times {
+        p = grown(alloc, shape, p)?;
+    }
+    Ok(p)
+}
+
+/// The pattern at one level more.
+fn grown(alloc: Global, shape: Shape, p: Pattern) -> Result<Pattern, AllocError> {
+    let one = Box::new(alloc, Pattern::One)?;
+    let tag = Box::new(alloc, Pattern::Tag(1))?;
+    let part = Box::new(alloc, p)?;
+    match shape {
+        Shape::Products => {
+            let side = Box::new(alloc, Pattern::Sum(one, tag))?;
+            Ok(Pattern::Prod(part, side))
+        }
+        Shape::Sums => {
+            let side = Box::new(alloc, Pattern::Prod(one, tag))?;
+            Ok(Pattern::Sum(side, part))
+        }
+        Shape::Stars => Ok(Pattern::Star(part)),
+    }
+}
+
+/// The degree, which is asked for only of a pattern whose size is known.
+fn degree_of(p: &Pattern) -> u32 {
+    if size(p) < u32::MAX {
+        degree(p)
+    } else {
+        u32::MAX
+    }
+}
+
+/// The pattern with its variables replaced, where each has a value.
+fn subst_all(
+    alloc: Global,
+    p: &Pattern,
+    values: &[Pattern],
+) -> Result<Option<Pattern>, AllocError> {
+    if !has_values(p, values.len()) {
+        return Ok(None);
+    }
+    let closed = subst(alloc, p, values)?;
+    Ok(Some(closed))
+}
+
+/// What each call says of a deep pattern.
+fn show(rt: &impl Print, alloc: Global, shape: Shape, times: u32) -> io::Result<()> {
+    let p = deep(alloc, shape, times, Pattern::Tag(0))?;
+    println!(rt;
+        "size {} levels {} degree {}",
+        size(&p),
+        levels(&p),
+        degree_of(&p)
+    )?;
+    println!(rt;
+        "nullable {} inhabited {} flat {}",
+        nullable(&p),
+        inhabited(&p),
+        is_flat(&p)
+    )?;
+    println!(rt; "covers {} {}", covers(&p, 1, false), covers(&p, 1, true))?;
+    let copy = p.copy(alloc)?;
+    println!(rt; "copy {}", copy.is_same(&p))?;
+    let rest = residual(alloc, &p, rest_tag(shape))?;
+    println!(rt; "residual size {} levels {}", size(&rest), levels(&rest))?;
+    println!(rt; "member {}", member(alloc, &p, &Bag::one(0))?)?;
+    show_subst(rt, alloc, shape, times)
+}
+
+/// Whether a value in the place of a variable far below gives what it should.
+fn show_subst(rt: &impl Print, alloc: Global, shape: Shape, times: u32) -> io::Result<()> {
+    let open = deep(alloc, shape, times, Pattern::Var(0))?;
+    let closed = deep(alloc, shape, times, Pattern::Tag(0))?;
+    let values = vec![in alloc; Pattern::Tag(0)]?;
+    let first = subst_all(alloc, &open, values.as_slice())?;
+    let second = subst_all(alloc, &closed, values.as_slice())?;
+    if let (Some(first), Some(second)) = (first, second) {
+        println!(rt; "subst {}", first.is_same(&second))?;
+    }
+    Ok(())
+}
+
+/// The tag by which the residual is taken: one that leaves a star nothing, since each star would
+/// else be copied whole.
+fn rest_tag(shape: Shape) -> u8 {
+    match shape {
+        Shape::Products | Shape::Sums => 0,
+        Shape::Stars => 1,
+    }
+}
+
+fn main(rt: HostRuntime) -> io::Result<()> {
+    show(&rt, rt.alloc(), Shape::Products, 16382)?;
+    show(&rt, rt.alloc(), Shape::Sums, 16382)?;
+    show(&rt, rt.alloc(), Shape::Stars, 16383)
+}
