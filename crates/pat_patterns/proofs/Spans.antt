@@ -104,28 +104,6 @@ span_begun limit words bs first w = (
 
 -- ---- lists of the words of a pattern
 
-pub lists_sum : (e f : Pat) (limit : Word) (left right words : List Bag) → ListsWords left e limit → ListsWords right f limit → Same (HasWord words) (EitherOf (HasWord left) (HasWord right)) → ListsWords words (Sum e f) limit
-lists_sum e f limit left right words l r both w = (
-  λ h. ⊎_elim (λ k. let p = (l w).0 k in (p.0, inl p.1)) (λ k. let p = (r w).0 k in (p.0, inr p.1)) ((both w).0 h),
-  λ h. (both w).1 (⊎_elim (λ k. inl ((l w).1 (h.0, k))) (λ k. inr ((r w).1 (h.0, k))) h.1),
-)
-
-pub lists_product : (e f : Pat) (limit : Word) (left right words : List Bag) → ListsWords left e limit → ListsWords right f limit → Same (HasWord words) (Within limit (SumOf (HasWord left) (HasWord right))) → ListsWords words (Prod e f) limit
-lists_product e f limit left right words l r both w = (
-  λ h. let p = (both w).0 h in let s = p.1 in (p.0, (s.0, s.1, ((l s.0).0 s.2).1, ((r s.1).0 s.3).1, s.4)),
-  λ h. let s = h.1 in
-      (both w).1 (
-        h.0,
-        (
-          s.0,
-          s.1,
-          (l s.0).1 (λ t. let k = h.0 t in let q = count_eq w (plus s.0 s.1) s.4 t in omega arith, s.2),
-          (r s.1).1 (λ t. let k = h.0 t in let q = count_eq w (plus s.0 s.1) s.4 t in omega arith, s.3),
-          s.4,
-        ),
-      ),
-)
-
 times_inside : (limit : Word) (e : Pat) (part : List Bag) → ListsWords part e limit → (n : ℕ) (w : Word) → LiesIn w limit → Times n (In e) w → Times n (HasWord part) w
 times_inside limit e part l zero w lies h = h
 times_inside limit e part l (suc n) w lies h = (
@@ -144,16 +122,6 @@ lists_star e limit part words l all w = (
 )
 
 -- ---- lists on a stack
-
-pub puts_sum : (e f : Pat) (limit : Word) (old d1 d2 new : List (List Bag)) → PutsWords old d1 e limit → PutsWords d1 d2 f limit → JoinsTwo EitherOf d2 new → PutsWords old new (Sum e f) limit
-puts_sum e f limit old d1 d2 new a b j =
-    let k = subst (λ d. JoinsTwo EitherOf d new) (b.1 ∙ ap (λ (d : List (List Bag)). b.0 ∷ d) a.1) j in
-    (k.0, k.1, lists_sum e f limit a.0 b.0 k.0 a.2 b.2 k.2)
-
-pub puts_product : (e f : Pat) (limit : Word) (old d1 d2 new : List (List Bag)) → PutsWords old d1 e limit → PutsWords d1 d2 f limit → JoinsTwo (λ L M. Within limit (SumOf L M)) d2 new → PutsWords old new (Prod e f) limit
-puts_product e f limit old d1 d2 new a b j =
-    let k = subst (λ d. JoinsTwo (λ L M. Within limit (SumOf L M)) d new) (b.1 ∙ ap (λ (d : List (List Bag)). b.0 ∷ d) a.1) j in
-    (k.0, k.1, lists_product e f limit a.0 b.0 k.0 a.2 b.2 k.2)
 
 pub puts_star : (e : Pat) (limit : Word) (old d1 new : List (List Bag)) → PutsWords old d1 e limit → JoinsOne (λ L. Within limit (FiniteSum L)) d1 new → PutsWords old new (Star e) limit
 puts_star e limit old d1 new a j =

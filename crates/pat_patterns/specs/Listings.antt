@@ -1,7 +1,7 @@
 -- Lists of bags, seen as sets of words.
 use Rattle.std.specs.Prelude.{◌≡◌, ℕ, zero, suc, List, [], ◌∷◌, ◌⊎◌, ◌↔◌}
 use Rattle.pat_words.specs.Words.{Word, no_word, plus, LiesIn}
-use Rattle.pat_words.specs.Patterns.{Pat, Language, Times, In}
+use Rattle.pat_words.specs.Patterns.{Pat, Zero, One, Tag, Sum, Prod, Star, Var, Language, Times, In}
 use Rattle.pat_bags.specs.declared.Bag.{Bag}
 use Rattle.pat_bags.specs.Views.{word_of}
 
@@ -58,3 +58,17 @@ JoinsOne make _ new = ⊥
 -- the words of either set
 abbrev pub EitherOf : Language → Language → Language
 EitherOf L M w = L w ⊎ M w
+
+-- how many parts the pattern has
+abbrev pub parts_of : Pat → ℕ
+parts_of (Sum e f) = 2
+parts_of (Prod e f) = 2
+parts_of (Star e) = 1
+parts_of _ = 0
+
+-- the lists of the pattern's parts give way to that of the pattern
+abbrev pub JoinsParts : Pat → Word → List (List Bag) → List (List Bag) → Type 0
+JoinsParts (Sum e f) limit old new = JoinsTwo EitherOf old new
+JoinsParts (Prod e f) limit old new = JoinsTwo (λ L M. Within limit (SumOf L M)) old new
+JoinsParts (Star e) limit old new = JoinsOne (λ L. Within limit (FiniteSum L)) old new
+JoinsParts e limit old new = PutsWords old new e limit

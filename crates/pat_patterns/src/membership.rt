@@ -4,7 +4,7 @@ ghost use Rattle.pat_words.specs.Words.{Word};
 ghost use Rattle.pat_words.specs.Patterns.{In, Pat};
 ghost use Rattle.pat_bags.specs.Views.{word_of};
 ghost use Rattle.pat_patterns.specs.Views.{pattern_view};
-ghost use Rattle.pat_patterns.specs.Listings.{ListsWords, PutsWords, JoinsTwo, JoinsOne, EitherOf, SumOf, Within, FiniteSum};
+ghost use Rattle.pat_patterns.specs.Listings.{ListsWords, PutsWords, JoinsTwo, JoinsOne, JoinsParts, parts_of, EitherOf, SumOf, Within, FiniteSum};
 
 use crate::pattern::Pattern;
 use crate::word_lists::{finite_sums, holds, push_all, sums};
@@ -33,27 +33,43 @@ fn words_onto(
     ensures { OnOk result (PutsWords done.old done.new (pattern_view p.now) (word_of limit.now)) }
 {
     match p {
-        Pattern::Zero | Pattern::Var(_) => done.push(Sequence::new(alloc)),
-        Pattern::One => push_empty_word(alloc, limit, done),
-        Pattern::Tag(tag) => push_tag_word(alloc, *tag, limit, done),
-        Pattern::Sum(left, right) => {
+        Pattern::Zero | Pattern::One | Pattern::Tag(_) | Pattern::Var(_) => join_parts(
+            alloc, p, limit, done,
+        ),
+        Pattern::Sum(left, right) | Pattern::Prod(left, right) => {
             words_onto(alloc, left, limit, done)?;
             words_onto(alloc, right, limit, done)?;
-            join_sum(done)
-        }
-        Pattern::Prod(left, right) => {
-            words_onto(alloc, left, limit, done)?;
-            words_onto(alloc, right, limit, done)?;
-            join_product(alloc, limit, done)
+            join_parts(alloc, p, limit, done)
         }
         Pattern::Star(part) => {
             words_onto(alloc, part, limit, done)?;
-            join_star(alloc, limit, done)
+            join_parts(alloc, p, limit, done)
         }
     }
 }
 
+/// The lists of the pattern's parts, which are on top, give way to that of the pattern. All that needs
+/// room for bags stands here, out of the recursion.
 #[inline(never)]
+fn join_parts(
+    alloc: Global,
+    p: &Pattern,
+    limit: &Bag,
+    done: &mut Stack<Sequence<Bag>>,
+) -> Result<(), AllocError>
+    requires { parts_of (pattern_view p.now) ≤ length done.old }
+    ensures { OnOk result (JoinsParts (pattern_view p.now) (word_of limit.now) done.old done.new) }
+{
+    match p {
+        Pattern::Zero | Pattern::Var(_) => done.push(Sequence::new(alloc)),
+        Pattern::One => push_empty_word(alloc, limit, done),
+        Pattern::Tag(tag) => push_tag_word(alloc, *tag, limit, done),
+        Pattern::Sum(..) => join_sum(done),
+        Pattern::Prod(..) => join_product(alloc, limit, done),
+        Pattern::Star(_) => join_star(alloc, limit, done),
+    }
+}
+
 fn push_empty_word(
     alloc: Global,
     limit: &Bag,
@@ -66,7 +82,6 @@ fn push_empty_word(
     done.push(words)
 }
 
-#[inline(never)]
 fn push_tag_word(
     alloc: Global,
     tag: u8,
@@ -102,7 +117,6 @@ fn take_words(done: &mut Stack<Sequence<Bag>>) -> Sequence<Bag>
     }
 }
 
-#[inline(never)]
 fn join_sum(done: &mut Stack<Sequence<Bag>>) -> Result<(), AllocError>
     requires { 2 ≤ length done.old }
     ensures { OnOk result (JoinsTwo EitherOf done.old done.new) }
@@ -113,7 +127,6 @@ fn join_sum(done: &mut Stack<Sequence<Bag>>) -> Result<(), AllocError>
     done.push(left)
 }
 
-#[inline(never)]
 fn join_product(
     alloc: Global,
     limit: &Bag,
@@ -128,7 +141,6 @@ fn join_product(
     done.push(words)
 }
 
-#[inline(never)]
 fn join_star(alloc: Global, limit: &Bag, done: &mut Stack<Sequence<Bag>>) -> Result<(), AllocError>
     requires { 1 ≤ length done.old }
     ensures { OnOk result (JoinsOne (λ L. Within (word_of limit.now) (FiniteSum L)) done.old done.new) }
