@@ -1,0 +1,5 @@
+pub mod Shape
+pub mod Fits
+pub mod Formed
+pub mod Typable
+pub mod Spelled

@@ -1,0 +1,5 @@
+use Rattle.pat_straight_laws.proofs.Typable.{plain_typable, plain_goes_on}
+use Rattle.pat_straight_laws.proofs.plain_laws.Goals as goal
+
+pub returns : goal.returns
+returns c = record { typable = plain_typable; goes_on = λ p ks c well plain safe ran h. plain_goes_on p well plain safe ks c ran h }
