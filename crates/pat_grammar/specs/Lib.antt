@@ -1,0 +1,5 @@
+pub mod Trees
+pub mod Items
+pub mod Grammar
+pub mod Machine
+pub mod Claims

@@ -1,0 +1,9 @@
+pub mod Runs
+pub mod CompleteExpr
+pub mod CompletePattern
+pub mod CompleteTerm
+pub mod CompleteDecl
+pub mod Built
+pub mod Sound
+pub mod Owed
+pub mod Exact

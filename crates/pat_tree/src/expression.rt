@@ -1,0 +1,33 @@
+// Expressions.
+use pat_sequences::Text;
+use pat_syntax::Span;
+
+/// An operator.
+#[derive(Clone, Copy, Debug, PartialEq, Eq)]
+pub enum Op {
+    Add,
+    Sub,
+    Mul,
+    Equal,
+    Less,
+}
+
+/// An expression. Its span leaves out the brackets round the whole of it.
+#[derive(Drop)]
+#[cycle(expression)]
+pub struct TreeExpr {
+    pub form: ExprForm,
+    pub span: Span,
+}
+
+/// What an expression is made of.
+#[derive(Drop)]
+#[cycle(expression)]
+pub enum ExprForm {
+    Var(Text),
+    Unit,
+    Bool(bool),
+    Int(i64),
+    Str(Text),
+    Op(Op, Box<TreeExpr>, Box<TreeExpr>),
+}
