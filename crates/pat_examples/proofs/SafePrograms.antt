@@ -1,5 +1,5 @@
 -- The programs are well formed and typable by the tests, and so safe by the law.
-use Rattle.std.proofs.Common.{◌≡◌, ℕ, List, [], ◌∷◌, Option, Some, None, refl, true}
+use Rattle.std.proofs.Common.{◌≡◌, ℕ, nat_eq, if◌then◌else◌, List, [], ◌∷◌, refl, true}
 use Rattle.pat_words.specs.Patterns.{Pat, One, Tag, Prod, Star}
 use Rattle.pat_model.specs.Values.{BaseUnit}
 use Rattle.pat_model.specs.Programs.{Sending, Receiving, is_free}
@@ -64,7 +64,7 @@ one_message_safe = typable_safe one_message (well_formed 2 one_message one_fits)
 -- ---- the future
 
 future_params : ℕ → ℕ → Pat
-future_params f k = Rattle.std.proofs.Common.if◌then◌else◌ (Rattle.std.proofs.Common.nat_eq f 0) (Prod (Tag 0) (Star (Tag 1))) (Star (Tag 1))
+future_params f k = if nat_eq f 0 then Prod (Tag 0) (Star (Tag 1)) else Star (Tag 1)
 
 future_lines : List (TypeOf × List (ℕ × MailboxType))
 future_lines =
@@ -141,7 +141,7 @@ pump_safe = typable_safe pump (well_formed 2 pump pump_fits) (typable 4 1 2 pump
 -- ---- delegation
 
 delegation_params : ℕ → ℕ → Pat
-delegation_params f k = Rattle.std.proofs.Common.if◌then◌else◌ (Rattle.std.proofs.Common.nat_eq f 0) (Star (Tag 0)) (Tag 0)
+delegation_params f k = if nat_eq f 0 then Star (Tag 0) else Tag 0
 
 delegation_lines : List (TypeOf × List (ℕ × MailboxType))
 delegation_lines =

@@ -10,7 +10,7 @@ use Rattle.pat_words.proofs.CoverLaws.{covers_to}
 use Rattle.pat_model.specs.Values.{BaseUnit, Kind, MailboxOf, Expr, VarExpr, Literal, OpExpr}
 use Rattle.pat_model.specs.Programs.{Program, Polarity, Sending, Receiving, Sort, TagDecl, Function, Clause, Core, Val, Let, Call, If, Print, New, Send, Spawn, Guard, Node, node_at, function_at, tag_at, is_among, clause_binders}
 use Rattle.pat_typing.specs.Types.{Usage, Second, Returnable, MailboxType, TypeOf, BaseType, NameType, kind_of_type, mailbox_type, UsageFits, PatternFits, Fits, TypeFits, MayDrop, TypeEnv, PassesTo, EnvPasses, PatternJoins, Joins, SplitsTo, EnvSplits, no_types, with_type, without, returnable}
-use Rattle.pat_typing.specs.Typings.{Typing, param_type, result_type, payload_sort, payload_type, with_option, args_need, mailbox_args, with_payloads, clause_env, HasMailboxPayload, ClauseTyped, is_received, GuardTyped, NamePasses, ValueTyped, without_name, name_type, NewTyped, CoreTyped, HasWord, TypeHasWord, NodeTyped, FunctionTyped, IsTyping, IsTypable}
+use Rattle.pat_typing.specs.Typings.{Typing, param_type, result_type, payload_sort, payload_type, with_option, args_need, mailbox_args, with_payloads, clause_env, HasMailboxPayload, ClauseTyped, is_received, NamePasses, ValueTyped, without_name, name_type, NewTyped, CoreTyped, HasWord, TypeHasWord, NodeTyped, FunctionTyped, IsTyping, IsTypable, sort_type}
 use Rattle.pat_steps.proofs.Lists.{clash}
 use Rattle.pat_examples.specs.Unsafe.{TypedBut}
 use Rattle.pat_examples.proofs.Tests.{all_upto, upto, all_of, all_true, all_from, at_each, all_differ, differ, below_true, asked}
@@ -644,7 +644,7 @@ module _ (depth tags : ℕ) where
           let k2 = and_parts t2 (t3 && t4) k1.1 in
           let k3 = and_parts t3 t4 k2.1 in
           let few = below_true (length g.params) (suc m) k1.0 in
-          let bp : Bounded m (param_type y f g) = λ x l. ap (option_and_then (Rattle.pat_typing.specs.Typings.sort_type (y.param_patterns f x))) (slice_get_past g.params x (omega arith)) in
+          let bp : Bounded m (param_type y f g) = λ x l. ap (option_and_then (sort_type (y.param_patterns f x))) (slice_get_past g.params x (omega arith)) in
           record {
             result = type_same (y.results g.body) (result_type y f g) k2.0;
             params = passes_env (param_type y f g) (y.envs g.body) bp (bounded g.body) k3.0;

@@ -5,7 +5,7 @@ use Rattle.std.specs.List.{list_any}
 use Rattle.std.proofs.lemmas.Bool.{or_cases, or_left, or_right, or_parts, and_parts, cases_Bool}
 use Rattle.pat_model.specs.Values.{Value}
 use Rattle.pat_model.specs.Programs.{Program, Interface, TagDecl, Sort, tag_at, is_among, is_receiving, delegates}
-use Rattle.pat_model.specs.Configs.{Thread, Message, Config, is_name, message_refers, has_pending, some_thread_refers, some_message_refers}
+use Rattle.pat_model.specs.Configs.{Message, Config, is_name, message_refers, has_pending, some_thread_refers, some_message_refers, thread_refers}
 use Rattle.pat_model.specs.WellFormed.{WellFormed}
 use Rattle.pat_model.specs.Steps.{Step}
 use Rattle.pat_model.specs.Runs.{run}
@@ -69,7 +69,7 @@ live_referred p ks c a safe off h live =
 -- ---- where all threads have ended
 
 no_thread_refers : (c : Config) (a : ℕ) → c.threads ≡ [] → some_thread_refers c a ≡ false
-no_thread_refers c a none = ap (λ ts. list_any (λ e. Rattle.pat_model.specs.Configs.thread_refers a e.1) ts) none
+no_thread_refers c a none = ap (λ ts. list_any (λ e. thread_refers a e.1) ts) none
 
 pub done_leaves_none : (p : Program) (ks : List Step) (c : Config) → IsSafe p → delegates p ≡ false → run p ks ≡ Some c → c.threads ≡ [] → c.live ≡ []
 done_leaves_none p ks c safe off h none = go c.live refl

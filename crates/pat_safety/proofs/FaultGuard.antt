@@ -8,7 +8,7 @@ use Rattle.pat_words.specs.Words.{Word, no_word, one, plus}
 use Rattle.pat_words.specs.Patterns.{Pat}
 use Rattle.pat_words.proofs.WordLaws.{plus_none}
 use Rattle.pat_model.specs.Values.{Value, Env}
-use Rattle.pat_model.specs.Programs.{Program, Polarity, Sending, Receiving, Sort, BaseSort, MailboxSort, TagDecl, Clause, Core, Guard, Let, core_at, tag_at, kind_of, is_among, parts}
+use Rattle.pat_model.specs.Programs.{Program, Polarity, Sending, Receiving, Sort, BaseSort, MailboxSort, TagDecl, Clause, Let, is_among, option_list}
 use Rattle.pat_model.specs.WellFormed.{WellFormed, IsPayload}
 use Rattle.pat_model.specs.Configs.{Control, Running, Returned, Frame, Thread, Message, Config, is_name, thread_refers, has_pending, other_refers, pending_in}
 use Rattle.pat_model.specs.Steps.{clause_for}
@@ -17,12 +17,12 @@ use Rattle.pat_typing.specs.Types.{MailboxType, TypeOf, BaseType, NameType, Type
 use Rattle.pat_typing.specs.Typings.{Typing, IsTyping, HasWord, TypeHasWord, payload_sort, payload_type, is_received}
 use Rattle.pat_typing.specs.Holdings.{Holding, held, as_holding, type_at, control_held, frame_held, thread_held, threads_held, payload_held, declared_types, message_held, wanted, holdings, SendsBy, Sends, Choice}
 use Rattle.pat_typing.specs.Typed.{IsTyped, ThreadFits, ControlFits, PartFits, FramesFit, MessageFits}
-use Rattle.pat_typed.proofs.Nodes.{NodeFacts, node_facts, part_core}
+use Rattle.pat_typed.proofs.Nodes.{node_facts, part_core, held_all}
 use Rattle.pat_typed.proofs.Refers.{AllNone, none-append, thread_none, threads_none}
 use Rattle.pat_typed.proofs.Named.{tag_payloads}
 use Rattle.pat_typed.proofs.Bound.{body_bound}
-use Rattle.pat_typed.proofs.FreeKeeps.{apart_any}
 use Rattle.pat_steps.proofs.Lists.{clash, distinct_parts, all_join, all_at}
+use Rattle.pat_typed.proofs.Threads.{apart_any}
 
 -- ---- a word of each sending holding
 
@@ -55,7 +55,7 @@ none_chosen (None ∷ hs) a = (no_word, no_word, refl, none_chosen hs a.1, sym (
 none_chosen (Some h ∷ hs) a = cc
 
 held_word : (g : TypeEnv) (b : ℕ) (env : Env) → ((x : ℕ) (a : MailboxType) → g x ≡ Some a → HasWord a.polarity a.pattern) → HoldingHasWord (held g b env)
-held_word g b env words = Rattle.pat_typed.proofs.Nodes.held_all g b HoldingHasWord tt (λ x. go x (g x) refl) env
+held_word g b env words = held_all g b HoldingHasWord tt (λ x. go x (g x) refl) env
   where
     go : (x : ℕ) (o : Holding) → g x ≡ o → HoldingHasWord o
     go x None e = tt
@@ -87,7 +87,7 @@ module _ (p : Program) (y : Typing) (interfaces : ℕ → ℕ) (wf : WellFormed 
 
   frames_words : (fs : List Frame) (b : ℕ) → FramesFit p y interfaces fs → AllHaveWords (map (frame_held y b) fs)
   frames_words [] b h = tt
-  frames_words (f ∷ fs) b h = (part_word f.body (Rattle.pat_model.specs.Programs.option_list f.var) f.env b h.1, frames_words fs b h.3)
+  frames_words (f ∷ fs) b h = (part_word f.body (option_list f.var) f.env b h.1, frames_words fs b h.3)
 
   threads_words : (ts : List (ℕ × Thread)) (b : ℕ) → AllByRecursion (λ e. ThreadFits p y interfaces e.1) ts → AllHaveWords (threads_held p y b ts)
   threads_words [] b a = tt

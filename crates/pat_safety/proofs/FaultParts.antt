@@ -3,7 +3,7 @@ use Rattle.std.proofs.Common.{◌≡◌, ℕ, true, false, nat_eq, List, [], ◌
 use Rattle.std.specs.Prelude.{slice_get}
 use Rattle.std.proofs.lemmas.Bool.{or_left, eq-eqb}
 use Rattle.pat_model.specs.Values.{Value, Const, Name, Kind, Plain, MailboxOf, Env, value_at, ValueHasKind, ValuesHaveKinds, ValueFits, ValuesFit}
-use Rattle.pat_model.specs.Programs.{Program, Core, Let, Node, Guard, TagDecl, core_at, node_at, function_at, tag_at, kind_of, is_free, is_among, option_list, parts, KindAt}
+use Rattle.pat_model.specs.Programs.{Program, Let, Node, function_at, tag_at, kind_of, is_free, is_among, option_list, KindAt, Function}
 use Rattle.pat_model.specs.WellFormed.{WellFormed}
 use Rattle.pat_model.specs.Configs.{Returned, Frame, Message}
 use Rattle.pat_model.specs.Steps.{thread_of}
@@ -15,7 +15,7 @@ use Rattle.pat_typing.specs.Typed.{ThreadFits, PartFits, FramesFit, MessageFits}
 use Rattle.pat_typed.proofs.Nodes.{node_facts}
 use Rattle.pat_typed.proofs.Named.{part_kind}
 use Rattle.pat_typed.proofs.Bound.{body_bound, body_among}
-use Rattle.pat_typed.proofs.ReturnKeeps.{name_kind}
+use Rattle.pat_typed.proofs.Frames.{name_kind}
 
 -- ---- values
 
@@ -48,7 +48,7 @@ pub one_kind : (p : Program) (n x : ℕ) (j k : Kind) → KindAt p n x j → Kin
 one_kind p n x j k (d, g, at, of, is) (d', g', at', of', is') =
     let node : d ≡ d' = let e = sym at ∙ at' in cc in
     let fun : g ≡ g' = let e = sym of ∙ ap (λ (w : Node). function_at p w.function) node ∙ of' in cc in
-    let e : Some j ≡ Some k = sym is ∙ ap (λ (w : Rattle.pat_model.specs.Programs.Function). slice_get w.vars x) fun ∙ is' in
+    let e : Some j ≡ Some k = sym is ∙ ap (λ (w : Function). slice_get w.vars x) fun ∙ is' in
     cc
 
 -- a returned value has the kind of the name of the frame on top

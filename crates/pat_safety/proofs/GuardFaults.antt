@@ -23,11 +23,12 @@ use Rattle.pat_typed.proofs.Nodes.{NodeFacts, node_facts}
 use Rattle.pat_typed.proofs.Refers.{AllNone, none-append, frames_none, messages_none, value_refers}
 use Rattle.pat_typed.proofs.Envs.{held_cases, HeldCases, by_variable, by_none}
 use Rattle.pat_typed.proofs.Narrow.{usage_back}
-use Rattle.pat_typed.proofs.ReceivePart.{found_clause}
-use Rattle.pat_typed.proofs.ValueKeeps.{env_fits}
+use Rattle.pat_typed.proofs.Received.{found_clause}
 use Rattle.pat_safety.proofs.FaultParts.{part_interface, message_declared}
 use Rattle.pat_safety.proofs.FaultGuard.{AllHaveWords, HoldingHasWord, some_choice, all_words, none_chosen, split_alone, pending_message, nothing_pending, found_by_number, found_by_tag}
 use Rattle.pat_steps.proofs.Lists.{clash, not_true, all_front, is_in_all, only_first}
+use Rattle.pat_typed.proofs.Named.{env_fits}
+use Rattle.pat_steps.proofs.Inversion.{after_free}
 
 vars_length : (vars : List Kind) (xs : List ℕ) (ks : List Kind) → VarsHaveKinds vars xs ks → length xs ≡ length ks
 vars_length vars [] [] h = refl
@@ -153,7 +154,7 @@ module _ (p : Program) (y : Typing) (c : Config) (wf : WellFormed p) (typed : Is
       let on : test ≡ true =
       and_from (is_among a c.live) (not (has_pending a c.messages) && is_reached_by_none_but c a t) live
       (and_from (not (has_pending a c.messages)) (is_reached_by_none_but c a t) (ap not (nothing_pending a c.messages empty)) reached) in
-      let made = Rattle.pat_steps.proofs.Acts.after_free p c t g.frames m g.env a in
+      let made = after_free p c t g.frames m g.env a in
       let is : step p c (record { thread = t; act = ActFree }) ≡ Some made =
       step_is ActFree
       ∙ ap (λ o. free_at p c t g.frames (redex_at o g.env)) g.term

@@ -1,14 +1,14 @@
 -- A thread of a typed configuration that isn't at a guard has a step, and so nothing has gone wrong in the configuration.
-use Rattle.std.proofs.Common.{◌≡◌, ℕ, ℤ, ◌+◌, Bool, true, false, ◌||◌, nat_eq, if◌then◌else◌, List, [], ◌∷◌, ◌++◌, map, Option, Some, refl, sym, ap, ap₂, ◌∙◌, subst}
-use Rattle.std.specs.Prelude.{is_some, slice_get, option_map, option_and_then}
+use Rattle.std.proofs.Common.{◌≡◌, ℕ, ℤ, ◌+◌, Bool, true, false, ◌||◌, nat_eq, if◌then◌else◌, List, [], ◌∷◌, ◌++◌, map, Option, Some, refl, sym, ap, ap₂, ◌∙◌, subst, int_eq}
+use Rattle.std.specs.Prelude.{is_some, slice_get, option_map, option_and_then, codes, int_lt, bytes_eq}
 use Rattle.std.specs.List.{list_any}
 use Rattle.std.specs.Int.{w64, int_wrapping_add, int_wrapping_sub, int_wrapping_mul}
 use Rattle.std.proofs.lemmas.Bool.{or_left, or_right, eq-eqb}
 use Rattle.pat_model.specs.Values.{BaseBool, BaseInt, BaseText, Value, Const, Name, Constant, UnitConst, BoolConst, IntConst, TextConst, Kind, Plain, MailboxOf, Op, Add, Sub, Mul, Equal, Less, Expr, VarExpr, Literal, OpExpr, Env, value_at, occurs, apply, apply_values, eval, eval_all, both_values, line_of, ValueFits}
-use Rattle.pat_model.specs.Programs.{Program, Core, Val, Let, Call, If, Print, New, Send, Spawn, Guard, core_at, function_at, is_free, core_uses, is_among}
+use Rattle.pat_model.specs.Programs.{Program, Core, Val, Let, Call, If, Print, New, Send, Spawn, Guard, core_at, is_free, core_uses, kind_of, option_list}
 use Rattle.pat_model.specs.WellFormed.{WellFormed, op_kind, expr_kind, HaveKinds, IsPrintable}
 use Rattle.pat_model.specs.Configs.{Control, Running, Returned, Frame, Thread, Config, thread_at, with_thread}
-use Rattle.pat_model.specs.Steps.{Act, ActLocal, ActNew, ActSend, ActSpawn, ActPrint, ActEnd, Redex, At, Done, redex, redex_at, Step, step, thread_step, thread_of, resume, local_at, enter, choose, new_at, send_at, send_to, spawn_at, print_at, print_line, end_at}
+use Rattle.pat_model.specs.Steps.{Act, ActLocal, ActNew, ActSend, ActSpawn, ActPrint, ActEnd, At, redex, redex_at, step, thread_step, thread_of, resume, local_at, enter, choose, new_at, send_at, send_to, spawn_at, print_at, print_line, end_at, without_thread, frame_of, returned_unit, at_node, numbered}
 use Rattle.pat_model.specs.Runs.{acts, can_step_thread}
 use Rattle.pat_model.specs.Faults.{GuardAt, WrongValue, in_control, in_frame, in_return, stuck, Fault, failing, unexpected, wrong, left}
 use Rattle.pat_steps.proofs.FreeVars.{free_unfolds}
@@ -16,13 +16,16 @@ use Rattle.pat_typing.specs.Typings.{Typing}
 use Rattle.pat_typing.specs.Typed.{IsTyped, ThreadFits, ControlFits, PartFits}
 use Rattle.pat_typed.proofs.Threads.{lookup_all}
 use Rattle.pat_typed.proofs.Nodes.{NodeFacts, node_facts}
-use Rattle.pat_typed.proofs.Named.{op_parts}
+use Rattle.pat_typed.proofs.Named.{op_parts, env_fits}
 use Rattle.pat_typed.proofs.Args.{eval_fits}
-use Rattle.pat_typed.proofs.ValueKeeps.{env_fits}
 use Rattle.pat_safety.proofs.Accounts.{not_left}
 use Rattle.pat_safety.proofs.FaultParts.{part_has, frame_has, returned_has}
 use Rattle.pat_safety.proofs.GuardFaults.{not_failing, not_unexpected}
 use Rattle.pat_steps.proofs.Lists.{clash, any_at}
+use Rattle.std.specs.Bool.{beq}
+use Rattle.pat_typing.specs.Types.{kind_of_type}
+use Rattle.std.specs.Fmt.{signed_decimal}
+use Rattle.pat_steps.proofs.Inversion.{after_spawn}
 
 -- ---- a well-kinded expression has a value
 
@@ -53,9 +56,9 @@ module _ (interfaces : ℕ → ℕ) where
   name_value (Const k) i h = absurd h
 
   printed_value : (v : Value) (k : Kind) → IsPrintable k → ValueFits interfaces v k → (line : List ℕ) × (line_of v ≡ Some line)
-  printed_value (Const (IntConst n)) k p h = (Rattle.std.specs.Fmt.signed_decimal n, refl)
-  printed_value (Const (BoolConst true)) k p h = (Rattle.std.specs.Prelude.codes "true", refl)
-  printed_value (Const (BoolConst false)) k p h = (Rattle.std.specs.Prelude.codes "false", refl)
+  printed_value (Const (IntConst n)) k p h = (signed_decimal n, refl)
+  printed_value (Const (BoolConst true)) k p h = (codes "true", refl)
+  printed_value (Const (BoolConst false)) k p h = (codes "false", refl)
   printed_value (Const (TextConst t)) k p h = (t, refl)
   printed_value (Const UnitConst) (Plain b) p h = absurd (subst (λ c. IsPrintable (Plain c)) (sym h) p)
   printed_value (Const UnitConst) (MailboxOf i) p h = absurd h
@@ -81,19 +84,19 @@ module _ (interfaces : ℕ → ℕ) where
   op_defined Equal (Some (Plain BaseInt)) (Some (Plain BaseInt)) k va vb h fa fb =
       let a = int_value va (fa (Plain BaseInt) refl) in
       let b = int_value vb (fb (Plain BaseInt) refl) in
-      op_on Equal (IntConst a.0) (IntConst b.0) (BoolConst (Rattle.std.specs.Ordering.int_eq a.0 b.0)) va vb a.1 b.1 refl
+      op_on Equal (IntConst a.0) (IntConst b.0) (BoolConst (int_eq a.0 b.0)) va vb a.1 b.1 refl
   op_defined Equal (Some (Plain BaseBool)) (Some (Plain BaseBool)) k va vb h fa fb =
       let a = bool_value va (fa (Plain BaseBool) refl) in
       let b = bool_value vb (fb (Plain BaseBool) refl) in
-      op_on Equal (BoolConst a.0) (BoolConst b.0) (BoolConst (Rattle.std.specs.Bool.beq a.0 b.0)) va vb a.1 b.1 refl
+      op_on Equal (BoolConst a.0) (BoolConst b.0) (BoolConst (beq a.0 b.0)) va vb a.1 b.1 refl
   op_defined Equal (Some (Plain BaseText)) (Some (Plain BaseText)) k va vb h fa fb =
       let a = text_value va (fa (Plain BaseText) refl) in
       let b = text_value vb (fb (Plain BaseText) refl) in
-      op_on Equal (TextConst a.0) (TextConst b.0) (BoolConst (Rattle.std.specs.Prelude.bytes_eq a.0 b.0)) va vb a.1 b.1 refl
+      op_on Equal (TextConst a.0) (TextConst b.0) (BoolConst (bytes_eq a.0 b.0)) va vb a.1 b.1 refl
   op_defined Less (Some (Plain BaseInt)) (Some (Plain BaseInt)) k va vb h fa fb =
       let a = int_value va (fa (Plain BaseInt) refl) in
       let b = int_value vb (fb (Plain BaseInt) refl) in
-      op_on Less (IntConst a.0) (IntConst b.0) (BoolConst (Rattle.std.specs.Prelude.int_lt a.0 b.0)) va vb a.1 b.1 refl
+      op_on Less (IntConst a.0) (IntConst b.0) (BoolConst (int_lt a.0 b.0)) va vb a.1 b.1 refl
   op_defined _ _ _ k va vb h fa fb = cc
 
   module _ (vars : List Kind) (env : Env) (fit : (x : ℕ) (v : Value) (k : Kind) → value_at env x ≡ Some v → slice_get vars x ≡ Some k → ValueFits interfaces v k) where
@@ -140,12 +143,12 @@ module _ (p : Program) (y : Typing) (c : Config) (t n : ℕ) (env : Env) (fs : L
   value_goes : (e : Expr) → core_at p n ≡ Some (Val e) → (gs : List Frame) → fs ≡ gs → can_step_thread p c t ≡ true
   value_goes e at [] frames =
       let there' = there ∙ ap (λ l. Some (thread_of (Running n env) l)) frames in
-      enabled p c t 5 ActEnd (Rattle.pat_model.specs.Steps.without_thread c t) refl
+      enabled p c t 5 ActEnd (without_thread c t) refl
       (step_of_thread p c t (thread_of (Running n env) []) ActEnd there' ∙ ap (λ r. end_at c t [] r) (redex_is (Val e) at))
   value_goes e at (f ∷ gs) frames =
       let there' = there ∙ ap (λ l. Some (thread_of (Running n env) l)) frames in
       let facts = node_facts p y n (Val e) wf typed.typing at in
-      let v = has_value typed.interfaces facts.fits.function.vars env (env_fits p y typed.interfaces n (Val e) env facts part) e (Rattle.pat_typing.specs.Types.kind_of_type (y.results n)) facts.kinds (λ x o. value_of (Val e) at x o) in
+      let v = has_value typed.interfaces facts.fits.function.vars env (env_fits p y typed.interfaces n (Val e) env facts part) e (kind_of_type (y.results n)) facts.kinds (λ x o. value_of (Val e) at x o) in
       enabled p c t 0 ActLocal (with_thread c t (resume p f gs v.0)) refl
       (step_of_thread p c t (thread_of (Running n env) (f ∷ gs)) ActLocal there'
       ∙ ap (λ r. option_map (with_thread c t) (local_at p r (f ∷ gs))) (redex_is (Val e) at)
@@ -154,12 +157,12 @@ module _ (p : Program) (y : Typing) (c : Config) (t n : ℕ) (env : Env) (fs : L
   running_goes : (core : Core) → core_at p n ≡ Some core → (GuardAt p c t → ⊥) → can_step_thread p c t ≡ true
   running_goes (Val e) at guard = value_goes e at fs refl
   running_goes (Let x m b) at guard =
-      enabled p c t 0 ActLocal (with_thread c t (thread_of (Rattle.pat_model.specs.Steps.at_node p m env) (Rattle.pat_model.specs.Steps.frame_of p x b env ∷ fs))) refl
+      enabled p c t 0 ActLocal (with_thread c t (thread_of (at_node p m env) (frame_of p x b env ∷ fs))) refl
       (step_of_thread p c t s ActLocal there ∙ ap (λ r. option_map (with_thread c t) (local_at p r fs)) (redex_is (Let x m b) at))
   running_goes (Call f args) at guard =
       let facts = node_facts p y n (Call f args) wf typed.typing at in
-      let vs = have_values typed.interfaces facts.fits.function.vars env (env_fits p y typed.interfaces n (Call f args) env facts part) args (map Rattle.pat_model.specs.Programs.kind_of facts.kinds.0.params) facts.kinds.2 (λ x o. value_of (Call f args) at x o) in
-      enabled p c t 0 ActLocal (with_thread c t (thread_of (Rattle.pat_model.specs.Steps.at_node p facts.kinds.0.body (Rattle.pat_model.specs.Steps.numbered 0 vs.0)) fs)) refl
+      let vs = have_values typed.interfaces facts.fits.function.vars env (env_fits p y typed.interfaces n (Call f args) env facts part) args (map kind_of facts.kinds.0.params) facts.kinds.2 (λ x o. value_of (Call f args) at x o) in
+      enabled p c t 0 ActLocal (with_thread c t (thread_of (at_node p facts.kinds.0.body (numbered 0 vs.0)) fs)) refl
       (step_of_thread p c t s ActLocal there
       ∙ ap (λ r. option_map (with_thread c t) (local_at p r fs)) (redex_is (Call f args) at)
       ∙ ap₂ (λ o w. option_map (with_thread c t) (enter p o w fs)) facts.kinds.1 vs.1)
@@ -168,7 +171,7 @@ module _ (p : Program) (y : Typing) (c : Config) (t n : ℕ) (env : Env) (fs : L
       let fit = env_fits p y typed.interfaces n (If e m b) env facts part in
       let v = has_value typed.interfaces facts.fits.function.vars env fit e (Plain BaseBool) facts.kinds.0 (λ x o. value_of (If e m b) at x (or_left (occurs x e) (is_free p x m || is_free p x b) o)) in
       let w = bool_value typed.interfaces v.0 (eval_fits typed.interfaces facts.fits.function.vars env fit e (Plain BaseBool) v.0 facts.kinds.0 v.1) in
-      enabled p c t 0 ActLocal (with_thread c t (thread_of (Rattle.pat_model.specs.Steps.at_node p (if w.0 then m else b) env) fs)) refl
+      enabled p c t 0 ActLocal (with_thread c t (thread_of (at_node p (if w.0 then m else b) env) fs)) refl
       (step_of_thread p c t s ActLocal there
       ∙ ap (λ r. option_map (with_thread c t) (local_at p r fs)) (redex_is (If e m b) at)
       ∙ ap (λ o. option_map (with_thread c t) (choose p o m b env fs)) (v.1 ∙ ap (λ u. Some u) w.1))
@@ -178,7 +181,7 @@ module _ (p : Program) (y : Typing) (c : Config) (t n : ℕ) (env : Env) (fs : L
       let k = facts.kinds.1.0 in
       let v = has_value typed.interfaces facts.fits.function.vars env fit e k facts.kinds.1.1 (λ x o. value_of (Print e) at x o) in
       let line = printed_value typed.interfaces v.0 k facts.kinds.1.2 (eval_fits typed.interfaces facts.fits.function.vars env fit e k v.0 facts.kinds.1.1 v.1) in
-      enabled p c t 4 ActPrint (record (with_thread c t (Rattle.pat_model.specs.Steps.returned_unit fs)) { printed = c.printed ++ line.0 ∷ [] }) refl
+      enabled p c t 4 ActPrint (record (with_thread c t (returned_unit fs)) { printed = c.printed ++ line.0 ∷ [] }) refl
       (step_of_thread p c t s ActPrint there
       ∙ ap (λ r. print_at c t fs r) (redex_is (Print e) at)
       ∙ ap (λ o. print_line c t fs (option_and_then line_of o)) v.1
@@ -191,13 +194,13 @@ module _ (p : Program) (y : Typing) (c : Config) (t n : ℕ) (env : Env) (fs : L
       let fit = env_fits p y typed.interfaces n (Send x m args) env facts part in
       let v = value_of (Send x m args) at x (or_left (nat_eq x x) (list_any (occurs x) args) (eq-eqb x x refl)) in
       let a = name_value typed.interfaces v.0 facts.kinds.1.0 (fit x v.0 (MailboxOf facts.kinds.1.0) v.1 facts.kinds.1.2) in
-      let vs = have_values typed.interfaces facts.fits.function.vars env fit args (map Rattle.pat_model.specs.Programs.kind_of facts.kinds.1.1.payloads) facts.kinds.1.4 (λ z o. value_of (Send x m args) at z (or_right (nat_eq z x) (list_any (occurs z) args) o)) in
-      enabled p c t 2 ActSend (record (with_thread c t (Rattle.pat_model.specs.Steps.returned_unit fs)) { messages = c.messages ++ record { number = c.next_message; mailbox = a.0; tag = m; values = vs.0 } ∷ []; next_message = c.next_message + 1 }) refl
+      let vs = have_values typed.interfaces facts.fits.function.vars env fit args (map kind_of facts.kinds.1.1.payloads) facts.kinds.1.4 (λ z o. value_of (Send x m args) at z (or_right (nat_eq z x) (list_any (occurs z) args) o)) in
+      enabled p c t 2 ActSend (record (with_thread c t (returned_unit fs)) { messages = c.messages ++ record { number = c.next_message; mailbox = a.0; tag = m; values = vs.0 } ∷ []; next_message = c.next_message + 1 }) refl
       (step_of_thread p c t s ActSend there
       ∙ ap (λ r. send_at c t fs r) (redex_is (Send x m args) at)
       ∙ ap₂ (λ o w. send_to c t fs m o w) (v.1 ∙ ap (λ u. Some u) a.1) vs.1)
   running_goes (Spawn m) at guard =
-      enabled p c t 3 ActSpawn (Rattle.pat_steps.proofs.Acts.after_spawn p c t fs m env) refl
+      enabled p c t 3 ActSpawn (after_spawn p c t fs m env) refl
       (step_of_thread p c t s ActSpawn there ∙ ap (λ r. spawn_at p c t fs r) (redex_is (Spawn m) at))
   running_goes (Guard x e free cs) at guard =
       absurd (guard (record { node = n; env = env; frames = fs; var = x; pattern = e; free = free; receives = cs; stands = there; term = at }))
@@ -206,7 +209,7 @@ pub thread_goes : (p : Program) (y : Typing) (c : Config) (t : ℕ) (k : Control
 thread_goes p y c t (Running n env) fs wf typed there fits guard =
     running_goes p y c t n env fs wf typed there fits.0 fits.0.there.0 fits.0.there.1 guard
 thread_goes p y c t (Returned v) [] wf typed there fits guard =
-    enabled p c t 5 ActEnd (Rattle.pat_model.specs.Steps.without_thread c t) refl (step_of_thread p c t (thread_of (Returned v) []) ActEnd there)
+    enabled p c t 5 ActEnd (without_thread c t) refl (step_of_thread p c t (thread_of (Returned v) []) ActEnd there)
 thread_goes p y c t (Returned v) (f ∷ fs) wf typed there fits guard =
     enabled p c t 0 ActLocal (with_thread c t (resume p f fs v)) refl (step_of_thread p c t (thread_of (Returned v) (f ∷ fs)) ActLocal there)
 
@@ -218,7 +221,7 @@ not_wrong p y c wf typed (in_control t n x env fs there free off) =
     off (part_has p typed.interfaces n [] env fits.control.0 x free refl)
 not_wrong p y c wf typed (in_frame t x s f there is_in free out off) =
     let fits = lookup_all (λ s. ThreadFits p y typed.interfaces s) c.threads t s typed.threads there in
-    off (part_has p typed.interfaces f.body (Rattle.pat_model.specs.Programs.option_list f.var) f.env (frame_has p y typed.interfaces s.frames f fits.frames is_in) x free out)
+    off (part_has p typed.interfaces f.body (option_list f.var) f.env (frame_has p y typed.interfaces s.frames f fits.frames is_in) x free out)
 not_wrong p y c wf typed (in_return t x v f fs k there named kind off) =
     let fits = lookup_all (λ s. ThreadFits p y typed.interfaces s) c.threads t (thread_of (Returned v) (f ∷ fs)) typed.threads there in
     off (returned_has p y typed.interfaces v f fs wf typed.typing fits x k named kind)

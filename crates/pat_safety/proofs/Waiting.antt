@@ -1,8 +1,8 @@
 -- Where no step of a typed configuration is enabled, each thread waits at a guard.
-use Rattle.std.proofs.Common.{◌≡◌, ℕ, Bool, true, false, List, Option, Some, None, refl, sym, ap, ◌∙◌}
+use Rattle.std.proofs.Common.{◌≡◌, ℕ, false, List, Option, Some, None, refl, sym, ap, ◌∙◌, subst}
 use Rattle.std.proofs.lemmas.Bool.{false_from_ne_true}
 use Rattle.pat_model.specs.Values.{Env}
-use Rattle.pat_model.specs.Programs.{Program, Core, Val, Let, Call, If, Print, New, Send, Spawn, Guard, core_at}
+use Rattle.pat_model.specs.Programs.{Program, Core, Val, Let, Call, If, Print, New, Send, Spawn, Guard, core_at, Clause}
 use Rattle.pat_model.specs.Configs.{Control, Running, Returned, Thread, Config, thread_at}
 use Rattle.pat_model.specs.WellFormed.{WellFormed}
 use Rattle.pat_model.specs.Steps.{Step, step, thread_of}
@@ -15,6 +15,7 @@ use Rattle.pat_steps.proofs.Enabled.{some_key, found_step}
 use Rattle.pat_typed.proofs.Threads.{lookup_all}
 use Rattle.pat_typed.proofs.Preserved.{run_typed}
 use Rattle.pat_safety.proofs.Progress.{thread_goes}
+use Rattle.pat_words.specs.Patterns.{Pat}
 
 -- a thread that doesn't stand at a guard has an enabled step
 others_go : (p : Program) (y : Typing) (c : Config) → WellFormed p → IsTyped p y c → can_step p c ≡ false → (t : ℕ) (s : Thread) → thread_at c t ≡ Some s → (GuardAt p c t → ⊥) → ⊥
@@ -23,7 +24,7 @@ others_go p y c wf typed off t s there guard =
     let goes = thread_goes p y c t s.control s.frames wf typed there fits.control guard in
     clash (some_key (can_step_thread p c) c.threads t s there goes) off
 
-no_other : (p : Program) (c : Config) (t : ℕ) (s : Thread) → thread_at c t ≡ Some s → ((n : ℕ) (env : Env) (x : ℕ) (e : Rattle.pat_words.specs.Patterns.Pat) (free : Option ℕ) (cs : List Rattle.pat_model.specs.Programs.Clause) → s.control ≡ Running n env → core_at p n ≡ Some (Guard x e free cs) → ⊥) → GuardAt p c t → ⊥
+no_other : (p : Program) (c : Config) (t : ℕ) (s : Thread) → thread_at c t ≡ Some s → ((n : ℕ) (env : Env) (x : ℕ) (e : Pat) (free : Option ℕ) (cs : List Clause) → s.control ≡ Running n env → core_at p n ≡ Some (Guard x e free cs) → ⊥) → GuardAt p c t → ⊥
 no_other p c t s there off g =
     let same : s ≡ thread_of (Running g.node g.env) g.frames = some_same (sym there ∙ g.stands) in
     off g.node g.env g.var g.pattern g.free g.receives (ap (λ (w : Thread). w.control) same) g.term
@@ -59,7 +60,7 @@ waits p y c wf typed off t s there =
 
     by_control : (k : Control) → s.control ≡ k → ControlFits p y typed.interfaces s.control s.frames → GuardAt p c t
     by_control (Running n env) is fits =
-        let part = Rattle.std.proofs.Common.subst (λ k. ControlFits p y typed.interfaces k s.frames) is fits in
+        let part = subst (λ k. ControlFits p y typed.interfaces k s.frames) is fits in
         by_core n env part.0.there.0 is part.0.there.1
     by_control (Returned v) is fits = absurd (others_go p y c wf typed off t s there (no_other p c t s there (λ m e x q f cs is' at'. cc)))
 

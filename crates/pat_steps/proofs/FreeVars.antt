@@ -1,12 +1,13 @@
 -- The free variables of a node are those of its term, by the free variables of its parts.
 use Rattle.std.proofs.Common.{◌≡◌, ℕ, zero, suc, ◌+◌, ◌<◌, ◌≤◌, Bool, true, false, ◌||◌, ◌&&◌, not, nat_eq, List, [], ◌∷◌, ◌++◌, length, Option, Some, None, refl, sym, ap, ap₂, ◌∙◌, subst, arith}
-use Rattle.std.specs.Prelude.{slice_get, option_map}
+use Rattle.std.specs.Prelude.{option_map, pred}
 use Rattle.std.specs.List.{list_any}
 use Rattle.std.proofs.lemmas.Bool.{or_right}
 use Rattle.std.proofs.lemmas.Option.{slice_get_past}
 use Rattle.pat_model.specs.Programs.{Program, Clause, Core, Val, Let, Call, If, Print, New, Send, Spawn, Guard, Node, node_at, core_at, parts, option_list, clause_bodies, is_among, clause_binders, clause_uses, core_uses, option_uses, is_free_within, is_free}
 use Rattle.pat_model.specs.WellFormed.{WellFormed}
 use Rattle.pat_steps.proofs.Lists.{among_head}
+use Rattle.pat_model.specs.Values.{occurs}
 
 -- two tests agree on the parts of a term
 abbrev pub AgreeOnParts : (ℕ → Bool) → (ℕ → Bool) → List ℕ → Type 0
@@ -30,7 +31,7 @@ pub core_agrees : (f g : ℕ → Bool) (x : ℕ) (core : Core) → AgreeOnParts 
 core_agrees f g x (Let y m n) a =
     ap₂ (λ b d. b || (d && not (is_among x (option_list y)))) (a m (among_head m (n ∷ []))) (a n (or_right (nat_eq n m) (is_among n (n ∷ [])) (among_head n [])))
 core_agrees f g x (If e m n) a =
-    ap₂ (λ b d. Rattle.pat_model.specs.Values.occurs x e || (b || d)) (a m (among_head m (n ∷ []))) (a n (or_right (nat_eq n m) (is_among n (n ∷ [])) (among_head n [])))
+    ap₂ (λ b d. occurs x e || (b || d)) (a m (among_head m (n ∷ []))) (a n (or_right (nat_eq n m) (is_among n (n ∷ [])) (among_head n [])))
 core_agrees f g x (Spawn m) a = a m (among_head m [])
 core_agrees f g x (Guard y e free cs) a =
     ap₂ (λ b d. nat_eq x y || (b || d)) (options_agree f g free (clause_bodies cs) a)
@@ -49,10 +50,10 @@ part_after p n core (Some d) w e h k a =
     let i = (w.nodes n d e).parts_after k (subst (λ c. is_among k (parts c) ≡ true) (sym same) a) in
     i.0
 
-deeper : (p : Program) (x : ℕ) → WellFormed p → (d n : ℕ) (o : Option Core) → core_at p n ≡ o → ((k : ℕ) → n < k → is_free_within d p x k ≡ is_free_within (Rattle.std.specs.Prelude.pred d) p x k) → option_uses (is_free_within d p x) x o ≡ option_uses (is_free_within (Rattle.std.specs.Prelude.pred d) p x) x o
+deeper : (p : Program) (x : ℕ) → WellFormed p → (d n : ℕ) (o : Option Core) → core_at p n ≡ o → ((k : ℕ) → n < k → is_free_within d p x k ≡ is_free_within (pred d) p x k) → option_uses (is_free_within d p x) x o ≡ option_uses (is_free_within (pred d) p x) x o
 deeper p x w d n None e ih = refl
 deeper p x w d n (Some core) e ih =
-    core_agrees (is_free_within d p x) (is_free_within (Rattle.std.specs.Prelude.pred d) p x) x core
+    core_agrees (is_free_within d p x) (is_free_within (pred d) p x) x core
     (λ k a. ih k (part_after p n core (node_at p n) w refl e k a))
 
 -- looking deeper than there are nodes finds no more

@@ -2,7 +2,6 @@ pub mod Lists
 pub mod FreeVars
 pub mod Scopes
 pub mod Inversion
-pub mod Acts
 pub mod Enabled
 pub mod Outcomes
 pub mod Replays

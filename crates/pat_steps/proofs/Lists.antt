@@ -2,7 +2,7 @@
 use Rattle.std.proofs.Common.{◌≡◌, ℕ, zero, suc, ◌+◌, ◌<◌, ◌≤◌, Bool, true, false, cond, ◌||◌, not, nat_eq, List, [], ◌∷◌, ◌++◌, map, filter, Some, refl, sym, ap, ◌∙◌, subst, arith, ◌⊎◌, inl, inr, ⊎_elim}
 use Rattle.std.specs.Prelude.{slice_get}
 use Rattle.std.specs.List.{AllByRecursion, IsDistinct, list_any}
-use Rattle.std.proofs.lemmas.Bool.{or_cases, or_left, or_right, or_parts, and_from, eq-eqb, eqb-true, eqb-false, ne_eqb, cases_Bool, false_from_ne_true, cond-true, cond-false}
+use Rattle.std.proofs.lemmas.Bool.{or_cases, or_left, or_right, or_parts, eq-eqb, eqb-true, eqb-false, ne_eqb, false_from_ne_true}
 use Rattle.pat_model.specs.Programs.{is_among}
 use Rattle.pat_model.specs.WellFormed.{count_if, count_among}
 use Rattle.pat_model.specs.Faults.{IsIn}
@@ -195,7 +195,7 @@ no_distinct = tt
 pub apart_uncounted : (x : ℕ) (xs : List ℕ) → is_among x xs ≡ false → AllByRecursion (λ k. nat_eq x k ≡ false) xs
 apart_uncounted x [] h = tt
 apart_uncounted x (z ∷ xs) h =
-    let q = Rattle.std.proofs.lemmas.Bool.or_parts (nat_eq x z) (is_among x xs) h in (q.0, apart_uncounted x xs q.1)
+    let q = or_parts (nat_eq x z) (is_among x xs) h in (q.0, apart_uncounted x xs q.1)
 
 -- numbers that are counted at most once are different
 pub counted_distinct : (xs : List ℕ) → ((x : ℕ) → is_among x xs ≡ true → count_among x xs ≤ 1) → IsDistinct nat_eq xs

@@ -1,13 +1,14 @@
 -- The outcome says how a run ends.
-use Rattle.std.proofs.Common.{◌≡◌, ℕ, Bool, true, false, not, ◌&&◌, nat_eq, if◌then◌else◌, List, [], ◌∷◌, length, Option, Some, None, refl, sym, ap, ◌∙◌, subst, ◌⊎◌, inl, inr, ⊎_elim}
+use Rattle.std.proofs.Common.{◌≡◌, ℕ, Bool, true, false, not, ◌&&◌, nat_eq, if◌then◌else◌, List, [], ◌∷◌, length, Option, Some, None, refl, sym, ap, ◌∙◌, subst, ◌⊎◌, inl, inr, ⊎_elim, option_and_then}
 use Rattle.std.proofs.lemmas.Bool.{and_from, and_parts, eq-eqb, eqb-true, cond-true, cond-false, false_from_ne_true}
 use Rattle.pat_model.specs.Programs.{Program}
 use Rattle.pat_model.specs.Configs.{Thread, Config}
-use Rattle.pat_model.specs.Steps.{Act, ActLocal, ActNew, ActSend, ActSpawn, ActPrint, ActEnd, ActFree, ActReceive, Step, step}
+use Rattle.pat_model.specs.Steps.{Act, ActLocal, ActNew, ActSend, ActSpawn, ActPrint, ActEnd, ActFree, ActReceive, Step, step, thread_step}
 use Rattle.pat_model.specs.Runs.{can_step, can_step_without_sending, has_threads, is_at_limit, Outcome, EndDone, EndWaiting, EndFull, EndBudget, outcome}
 use Rattle.pat_steps.specs.Laws.{IsEnabled, IsFull, Ends}
 use Rattle.pat_steps.proofs.Lists.{clash, not_true}
 use Rattle.pat_steps.proofs.Enabled.{step_found, found_step, other_found, found_other}
+use Rattle.std.specs.Map.{lookup}
 
 -- ---- the tests
 
@@ -57,7 +58,7 @@ threads_step p c h = go c.threads refl
       where
         none : (k : Step) × IsEnabled p c k → c.threads ≡ [] → ⊥
         none (k, (d, at)) e =
-            let gone : step p c k ≡ None = ap (λ ts. Rattle.std.specs.Prelude.option_and_then (λ s. Rattle.pat_model.specs.Steps.thread_step p c k.thread s k.act) (Rattle.std.specs.Map.lookup (nat_eq k.thread) ts)) e in
+            let gone : step p c k ≡ None = ap (λ ts. option_and_then (λ s. thread_step p c k.thread s k.act) (lookup (nat_eq k.thread) ts)) e in
             some_none (sym gone ∙ at)
           where
             some_none : {A : Type 0} {x : A} → None ≡ Some x → ⊥

@@ -4,11 +4,12 @@ use Rattle.std.specs.Prelude.{slice_get, option_map}
 use Rattle.std.specs.List.{AllByRecursion, IsDistinct, list_any, flat_map}
 use Rattle.std.proofs.lemmas.Bool.{or_cases, or_left, or_right, eq-eqb, eqb-true, and_from, cond-true, cases_Bool, false_from_ne_true}
 use Rattle.std.proofs.lemmas.Option.{slice_get_within}
-use Rattle.pat_model.specs.Values.{Kind, occurs}
-use Rattle.pat_model.specs.Programs.{Program, Function, Clause, Core, Val, Let, Call, If, Print, New, Send, Spawn, Guard, Node, node_at, core_at, function_at, parts, binders, option_list, clause_bodies, clause_binders, clause_uses, core_uses, is_among, is_free}
+use Rattle.pat_model.specs.Values.{Kind, occurs, MailboxOf}
+use Rattle.pat_model.specs.Programs.{Program, Function, Clause, Core, Val, Let, Call, If, Print, New, Send, Spawn, Guard, Node, node_at, core_at, function_at, parts, binders, option_list, clause_bodies, clause_binders, clause_uses, core_uses, is_among, is_free, kind_of}
 use Rattle.pat_model.specs.WellFormed.{WellFormed, CoreKinds, ClauseKinds, VarsHaveKinds, count_if, count_among, uses_as_body, uses_as_part, bindings_in, bindings_of}
 use Rattle.pat_steps.proofs.FreeVars.{free_unfolds}
 use Rattle.pat_steps.proofs.Lists.{clash, append_among, among_first, among_second, among_two, count_here, among_counted, count_append, counted_distinct}
+use Rattle.pat_words.specs.Patterns.{Pat}
 
 -- ---- where a node is used
 
@@ -72,8 +73,8 @@ clauses_below p vars i k x [] h a = cc
 clauses_below p vars i k x (r ∷ cs) h a =
     ⊎_elim
     (λ l. ⊎_elim
-    (λ v. vars_below vars x r.vars (map Rattle.pat_model.specs.Programs.kind_of h.0.decl.payloads) h.0.payloads v)
-    (λ f. let same : nat_eq x r.from ≡ true = ⊎_elim (λ w. w) (λ w. cc) (or_cases (nat_eq x r.from) false f) in slice_get_within vars x (Rattle.pat_model.specs.Values.MailboxOf i) (ap (slice_get vars) (eqb-true x r.from same) ∙ h.0.from))
+    (λ v. vars_below vars x r.vars (map kind_of h.0.decl.payloads) h.0.payloads v)
+    (λ f. let same : nat_eq x r.from ≡ true = ⊎_elim (λ w. w) (λ w. cc) (or_cases (nat_eq x r.from) false f) in slice_get_within vars x (MailboxOf i) (ap (slice_get vars) (eqb-true x r.from same) ∙ h.0.from))
     (append_among x r.vars (r.from ∷ []) l))
     (λ rest. clauses_below p vars i k x cs h.1 rest)
     (append_among x (clause_binders r) (flat_map clause_binders cs) a)
@@ -229,7 +230,7 @@ clauses_differ (r ∷ cs) h = (
       omega arith),
 )
 
-pub guard_apart : (p : Program) (wf : WellFormed p) (n : ℕ) (d : Node) (y : ℕ) (e : Rattle.pat_words.specs.Patterns.Pat) (f : Option ℕ) (cs : List Clause) → node_at p n ≡ Some d → d.core ≡ Guard y e f cs → AllByRecursion (λ r. IsDistinct nat_eq (clause_binders r)) cs
+pub guard_apart : (p : Program) (wf : WellFormed p) (n : ℕ) (d : Node) (y : ℕ) (e : Pat) (f : Option ℕ) (cs : List Clause) → node_at p n ≡ Some d → d.core ≡ Guard y e f cs → AllByRecursion (λ r. IsDistinct nat_eq (clause_binders r)) cs
 guard_apart p wf n d y e f cs at is =
     clauses_differ cs (λ x on.
     let here : is_among x (binders d.core) ≡ true = ap (λ c. is_among x (binders c)) is ∙ on in

@@ -1,7 +1,7 @@
 -- Laws of steps, runs and outcomes.
 use Rattle.std.specs.Prelude.{◌≡◌, ℕ, List, [], ◌∷◌, ◌++◌, length, Option, Some, None, option_and_then, IsTrue, ◌↔◌}
 use Rattle.std.specs.List.{AllByRecursion}
-use Rattle.pat_model.specs.Programs.{Program, core_at, core_uses, is_free}
+use Rattle.pat_model.specs.Programs.{Program, core_at, core_uses, is_free, Core}
 use Rattle.pat_model.specs.Configs.{Config}
 use Rattle.pat_model.specs.WellFormed.{WellFormed}
 use Rattle.pat_model.specs.Steps.{Act, ActSend, Step, step}
@@ -65,4 +65,4 @@ ReplaysJoin =
 -- a variable is free in a node of a well-formed program where it is free in its term
 abbrev pub FreeUnfolds : Type 0
 FreeUnfolds =
-    (p : Program) (x n : ℕ) (core : Rattle.pat_model.specs.Programs.Core) → WellFormed p → core_at p n ≡ Some core → is_free p x n ≡ core_uses (λ k. is_free p x k) x core
+    (p : Program) (x n : ℕ) (core : Core) → WellFormed p → core_at p n ≡ Some core → is_free p x n ≡ core_uses (λ k. is_free p x k) x core

@@ -1,8 +1,8 @@
 -- What fits under interfaces of mailboxes fits under others that agree on the mailboxes that are referred to.
 use Rattle.std.proofs.Common.{◌≡◌, ℕ, Bool, true, ◌||◌, nat_eq, List, [], ◌∷◌, Some, refl, sym, ap, ◌∙◌, map}
-use Rattle.std.proofs.lemmas.Bool.{or_left, or_right, eq-eqb}
+use Rattle.std.proofs.lemmas.Bool.{or_left, or_right, eq-eqb, eqb-true}
 use Rattle.std.specs.List.{AllByRecursion, list_any}
-use Rattle.pat_model.specs.Values.{Value, Const, Name, Kind, Plain, MailboxOf, Env, ValueFits, ValuesFit}
+use Rattle.pat_model.specs.Values.{Value, Const, Name, Kind, Plain, MailboxOf, Env, ValueFits, ValuesFit, value_at}
 use Rattle.pat_model.specs.Programs.{Program, tag_at, kind_of, option_list}
 use Rattle.pat_model.specs.Configs.{Control, Running, Returned, Frame, Thread, Message, is_name, env_refers, control_refers, thread_refers, message_refers}
 use Rattle.pat_typing.specs.Types.{kind_of_type}
@@ -32,10 +32,10 @@ module _ (f g : ℕ → ℕ) where
   values_agree (v ∷ vs) [] agree h = absurd h
 
   -- a value at a variable, by cases
-  value_in : (env : Env) (x : ℕ) (v : Value) → Rattle.pat_model.specs.Values.value_at env x ≡ Some v → AgreeOn (λ a. env_refers a env) → AgreeOn (λ a. is_name a v)
+  value_in : (env : Env) (x : ℕ) (v : Value) → value_at env x ≡ Some v → AgreeOn (λ a. env_refers a env) → AgreeOn (λ a. is_name a v)
   value_in env x (Const c) h agree a r = cc
   value_in env x (Name b) h agree a r =
-      agree a (value_refers env x a (h ∙ ap (λ n. Some (Name n)) (sym (Rattle.std.proofs.lemmas.Bool.eqb-true a b r))))
+      agree a (value_refers env x a (h ∙ ap (λ n. Some (Name n)) (sym (eqb-true a b r))))
 
   pub part_agrees : (p : Program) (n : ℕ) (but : List ℕ) (env : Env) → AgreeOn (λ a. env_refers a env) → PartFits p f n but env → PartFits p g n but env
   part_agrees p n but env agree h = record {

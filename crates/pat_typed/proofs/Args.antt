@@ -1,20 +1,22 @@
 -- The values of expressions: their kinds, and the mailboxes among them.
-use Rattle.std.proofs.Common.{◌≡◌, ℕ, suc, true, false, nat_eq, List, [], ◌∷◌, map, Option, Some, None, refl, sym, ap, ◌∙◌, subst, ⊎_elim}
+use Rattle.std.proofs.Common.{◌≡◌, ℕ, suc, true, false, nat_eq, List, [], ◌∷◌, map, Option, Some, None, refl, sym, ap, ◌∙◌, subst, ⊎_elim, arith, zero, ◌+◌, if◌then◌else◌, ◌||◌, ◌<◌, length, take}
 use Rattle.std.specs.Prelude.{is_some, slice_get, option_map}
 use Rattle.std.specs.List.{AllByRecursion, IsDistinct, list_any}
-use Rattle.std.proofs.lemmas.Bool.{or_cases, eqb-true, eqb-false, ne_eqb, cond-true, cond-false, false_from_ne_true}
-use Rattle.pat_model.specs.Values.{Base, BaseInt, BaseBool, BaseText, Value, Const, Name, Constant, BoolConst, IntConst, TextConst, Kind, Plain, MailboxOf, Op, Add, Sub, Mul, Equal, Less, Expr, VarExpr, Literal, OpExpr, Env, value_at, base_of, apply, apply_values, eval, eval_all, both_values, ValueFits, ValuesFit}
+use Rattle.std.proofs.lemmas.Bool.{or_cases, eqb-true, eqb-false, ne_eqb, cond-true, cond-false, false_from_ne_true, eq-eqb, or_left, or_right}
+use Rattle.pat_model.specs.Values.{Base, BaseInt, BaseBool, BaseText, Value, Const, Name, Constant, BoolConst, IntConst, TextConst, Kind, Plain, MailboxOf, Op, Add, Sub, Mul, Equal, Less, Expr, VarExpr, Literal, OpExpr, Env, value_at, base_of, apply, apply_values, eval, eval_all, both_values, ValueFits, ValuesFit, AscendsFrom}
 use Rattle.pat_model.specs.Programs.{Sort, kind_of}
 use Rattle.pat_model.specs.WellFormed.{op_kind, expr_kind, HaveKinds}
-use Rattle.pat_model.specs.Configs.{is_name}
-use Rattle.pat_typing.specs.Types.{MailboxType, TypeEnv}
+use Rattle.pat_model.specs.Configs.{is_name, env_refers}
+use Rattle.pat_typing.specs.Types.{MailboxType, TypeEnv, PassesTo}
 use Rattle.pat_typing.specs.Typings.{with_option, args_need, mailbox_args, if_mailbox}
-use Rattle.pat_typing.specs.Holdings.{payload_held}
+use Rattle.pat_typing.specs.Holdings.{payload_held, held}
 use Rattle.pat_typing.specs.Typed.{names}
-use Rattle.pat_typed.proofs.Refers.{is_name_same, name_is}
-use Rattle.pat_typed.proofs.Payloads.{option_here, option_there}
+use Rattle.pat_typed.proofs.Refers.{is_name_same, name_is, payload_none}
+use Rattle.pat_typed.proofs.Payloads.{option_here, option_there, names_head, names_tail}
 use Rattle.pat_typed.proofs.Named.{PlacesTyped}
 use Rattle.pat_steps.proofs.Lists.{distinct_parts}
+use Rattle.pat_model.specs.Steps.{numbered}
+use Rattle.pat_typed.proofs.Envs.{held_cases, HeldCases, by_variable, by_none}
 
 -- ---- the value of an expression has its kind
 
@@ -197,13 +199,13 @@ module _ (interfaces : ℕ → ℕ) (vars : List Kind) (env : Env) (fit : (x : �
   distinct_mailbox None x xs d = d
   distinct_mailbox (Some a) x xs d = (distinct_parts x xs d).1
 
-  distinct_tail : (types : TypeEnv) (k : ℕ) (e : Expr) (es : List Expr) → IsDistinct nat_eq (mailbox_args types k (e ∷ es)) → IsDistinct nat_eq (mailbox_args types (suc k) es)
-  distinct_tail types k (VarExpr x) es h = distinct_mailbox (types k) x (mailbox_args types (suc k) es) h
-  distinct_tail types k (Literal c) es h = h
-  distinct_tail types k (OpExpr op a b) es h = h
+  args_rest : (types : TypeEnv) (k : ℕ) (e : Expr) (es : List Expr) → IsDistinct nat_eq (mailbox_args types k (e ∷ es)) → IsDistinct nat_eq (mailbox_args types (suc k) es)
+  args_rest types k (VarExpr x) es h = distinct_mailbox (types k) x (mailbox_args types (suc k) es) h
+  args_rest types k (Literal c) es h = h
+  args_rest types k (OpExpr op a b) es h = h
 
-  distinct_head : (types : TypeEnv) (k x : ℕ) (es : List Expr) → is_some (types k) ≡ true → IsDistinct nat_eq (mailbox_args types k (VarExpr x ∷ es)) → AllByRecursion (λ z. nat_eq x z ≡ false) (mailbox_args types (suc k) es)
-  distinct_head types k x es some d = (distinct_parts x (mailbox_args types (suc k) es) (subst (IsDistinct nat_eq) (mailbox_first (types k) x (mailbox_args types (suc k) es) some) d)).0
+  args_apart : (types : TypeEnv) (k x : ℕ) (es : List Expr) → is_some (types k) ≡ true → IsDistinct nat_eq (mailbox_args types k (VarExpr x ∷ es)) → AllByRecursion (λ z. nat_eq x z ≡ false) (mailbox_args types (suc k) es)
+  args_apart types k x es some d = (distinct_parts x (mailbox_args types (suc k) es) (subst (IsDistinct nat_eq) (mailbox_first (types k) x (mailbox_args types (suc k) es) some) d)).0
 
   pub names_distinct : (types : TypeEnv) (k : ℕ) (es : List Expr) (ss : List Sort) (vs : List Value) → HaveKinds vars es (map kind_of ss) → PlacesTyped types k ss → eval_all env es ≡ Some vs → IsDistinct nat_eq (mailbox_args types k es) → IsDistinct nat_eq (names vs)
   unfolding IsDistinct
@@ -211,7 +213,7 @@ module _ (interfaces : ℕ → ℕ) (vars : List Kind) (env : Env) (fit : (x : �
   names_distinct types k (y ∷ es) [] vs h p e d = absurd h
   names_distinct types k (y ∷ es) (s ∷ ss) vs h p e d =
       let q = all_parts env y es vs e in
-      let rest = names_distinct types (suc k) es ss q.rest h.1 p.1 q.rest_is (distinct_tail types k y es d) in
+      let rest = names_distinct types (suc k) es ss q.rest h.1 p.1 q.rest_is (args_rest types k y es d) in
       subst (λ w. IsDistinct nat_eq (names w)) (sym q.all_is) (go q.first q.rest q.first_is q.rest_is rest)
     where
       go : (v : Value) (ws : List Value) → eval env y ≡ Some v → eval_all env es ≡ Some ws → IsDistinct nat_eq (names ws) → IsDistinct nat_eq (names (v ∷ ws))
@@ -220,5 +222,83 @@ module _ (interfaces : ℕ → ℕ) (vars : List Kind) (env : Env) (fit : (x : �
           let n = eval_name env y c f in
           let fits = eval_fits interfaces vars env fit y (kind_of s) (Name c) h.0 f in
           let some = typed_here c k types s (Name c) fits refl p.0 in
-          let off = distinct_head types k n.0 es some (subst (λ (u : Expr). IsDistinct nat_eq (mailbox_args types k (u ∷ es))) n.1 d) in
+          let off = args_apart types k n.0 es some (subst (λ (u : Expr). IsDistinct nat_eq (mailbox_args types k (u ∷ es))) n.1 d) in
           (names_apart c n.0 n.2 types (suc k) es ss ws h.1 p.1 g off, rest)
+
+-- ---- values under numbers
+
+pub numbered_ascends : (k : ℕ) (vs : List Value) → AscendsFrom k (numbered k vs)
+numbered_ascends k [] = tt
+numbered_ascends k (v ∷ vs) = (omega arith, numbered_ascends (suc k) vs)
+
+pub numbered_at : (k : ℕ) (vs : List Value) (j : ℕ) → value_at (numbered k vs) (k + j) ≡ slice_get vs j
+numbered_at k [] j = refl
+numbered_at k (v ∷ vs) zero = cond-true (nat_eq (k + 0) k) (Some v) (value_at (numbered (suc k) vs) (k + 0)) (eq-eqb (k + 0) k (omega arith))
+numbered_at k (v ∷ vs) (suc j) =
+    let same : suc k + j ≡ k + suc j = omega arith in
+    cond-false (nat_eq (k + suc j) k) (Some v) (value_at (numbered (suc k) vs) (k + suc j)) (ne_eqb (k + suc j) k (λ q. omega arith))
+    ∙ ap (value_at (numbered (suc k) vs)) (sym same)
+    ∙ numbered_at (suc k) vs j
+
+pub place_at : (vs : List Value) (z : ℕ) → value_at (numbered 0 vs) z ≡ slice_get vs z
+place_at vs z = let same : z ≡ 0 + z = omega arith in ap (value_at (numbered 0 vs)) same ∙ numbered_at 0 vs z
+
+-- what is held of values under numbers is held as of a message's
+pub numbered_held : (types : TypeEnv) (b k : ℕ) (vs : List Value) → held types b (numbered k vs) ≡ payload_held b types k vs
+numbered_held types b k [] = refl
+numbered_held types b k (v ∷ vs) = ap (λ h. if is_name b v then types k else h) (numbered_held types b (suc k) vs)
+
+pub numbered_refers : (b k : ℕ) (vs : List Value) → env_refers b (numbered k vs) ≡ list_any (is_name b) vs
+numbered_refers b k [] = refl
+numbered_refers b k (v ∷ vs) = ap (λ t. is_name b v || t) (numbered_refers b (suc k) vs)
+
+pub place_any : (b : ℕ) (vs : List Value) (z : ℕ) → slice_get vs z ≡ Some (Name b) → list_any (is_name b) vs ≡ true
+place_any b [] z h = cc
+place_any b (v ∷ vs) zero h = let same : v ≡ Name b = cc in or_left (is_name b v) (list_any (is_name b) vs) (ap (is_name b) same ∙ name_is b)
+place_any b (v ∷ vs) (suc z) h = or_right (is_name b v) (list_any (is_name b) vs) (place_any b vs z h)
+
+pub places_apart : (vs : List Value) → IsDistinct nat_eq (names vs) → (z w b : ℕ) → slice_get vs z ≡ Some (Name b) → slice_get vs w ≡ Some (Name b) → z ≡ w
+places_apart [] d z w b hz hw = cc
+places_apart (v ∷ vs) d zero zero b hz hw = refl
+places_apart (v ∷ vs) d zero (suc w) b hz hw =
+    let same : v ≡ Name b = cc in
+    let off = names_head b vs (subst (λ (u : Value). IsDistinct nat_eq (names (u ∷ vs))) same d) in
+    let bad : true ≡ false = sym (place_any b vs w hw) ∙ off in cc
+places_apart (v ∷ vs) d (suc z) zero b hz hw =
+    let same : v ≡ Name b = cc in
+    let off = names_head b vs (subst (λ (u : Value). IsDistinct nat_eq (names (u ∷ vs))) same d) in
+    let bad : true ≡ false = sym (place_any b vs z hz) ∙ off in cc
+places_apart (v ∷ vs) d (suc z) (suc w) b hz hw = ap (λ k. suc k) (places_apart vs (names_tail v vs d) z w b hz hw)
+
+-- a place of a signature has a value, of its kind
+pub fit_some : (interfaces : ℕ → ℕ) (vs : List Value) (ss : List Sort) (z : ℕ) → ValuesFit interfaces vs (map kind_of ss) → z < length ss → (v : Value) × (slice_get vs z ≡ Some v)
+fit_some f vs [] z h l = absurd (omega arith)
+fit_some f [] (s ∷ ss) z h l = absurd h
+fit_some f (v ∷ vs) (s ∷ ss) zero h l = (v, refl)
+fit_some f (v ∷ vs) (s ∷ ss) (suc z) h l = fit_some f vs ss z h.1 (omega arith)
+
+pub fit_kind : (interfaces : ℕ → ℕ) (vs : List Value) (ks : List Kind) (z : ℕ) (v : Value) → ValuesFit interfaces vs ks → slice_get vs z ≡ Some v → (k : Kind) × (slice_get ks z ≡ Some k) × ValueFits interfaces v k
+fit_kind f [] ks z v h at = cc
+fit_kind f (w ∷ vs) [] z v h at = absurd h
+fit_kind f (w ∷ vs) (k ∷ ks) zero v h at = let same : w ≡ v = cc in (k, refl, subst (λ u. ValueFits f u k) same h.0)
+fit_kind f (w ∷ vs) (k ∷ ks) (suc z) v h at = fit_kind f vs ks z v h.1 at
+
+pub take_at : (n : ℕ) (ks : List Kind) (z : ℕ) (k : Kind) → slice_get (take n ks) z ≡ Some k → slice_get ks z ≡ Some k
+take_at zero ks z k h = cc
+take_at (suc n) [] z k h = cc
+take_at (suc n) (x ∷ ks) zero k h = h
+take_at (suc n) (x ∷ ks) (suc z) k h = take_at n ks z k h
+
+-- ---- what is held of arguments
+
+-- what is held of a mailbox passes to what its place among the arguments has
+pub args_pass : (interfaces : ℕ → ℕ) (vars : List Kind) (env : Env) → ((x : ℕ) (v : Value) (k : Kind) → value_at env x ≡ Some v → slice_get vars x ≡ Some k → ValueFits interfaces v k) → AscendsFrom 0 env → ((x z a : ℕ) → value_at env x ≡ Some (Name a) → value_at env z ≡ Some (Name a) → x ≡ z) → (g types : TypeEnv) (es : List Expr) (ss : List Sort) (vs : List Value) → HaveKinds vars es (map kind_of ss) → PlacesTyped types 0 ss → eval_all env es ≡ Some vs → (b : ℕ) → ((x : ℕ) → value_at env x ≡ Some (Name b) → PassesTo (g x) (args_need types 0 es x)) → PassesTo (held g b env) (payload_held b types 0 vs)
+args_pass f vars env fit keys apart g types es ss vs kinds places values b passes = go (held_cases g b 0 env keys)
+  where
+    go : HeldCases g b env → PassesTo (held g b env) (payload_held b types 0 vs)
+    go (by_variable x at is) =
+        subst (λ w. PassesTo w (payload_held b types 0 vs)) (sym is)
+        (subst (λ w. PassesTo (g x) w) (args_held f vars env fit b x (λ z hz. apart z x b hz at) at types 0 es ss vs kinds places values) (passes x at))
+    go (by_none none is) =
+        let off : list_any (is_name b) vs ≡ false = false_from_ne_true (list_any (is_name b) vs) (λ on. let r = args_refer env b es vs values on in none r.0 r.1) in
+        subst (λ w. PassesTo w (payload_held b types 0 vs)) (sym is) (subst (λ w. PassesTo None w) (sym (payload_none b types 0 vs off)) tt)

@@ -156,3 +156,24 @@ passes_refine (Some a) None r p =
     (no_word, choice_one (Some a) no_word d.1, ap (λ (x : Word). plus r x) n))
 passes_refine (Some a) (Some b) r p =
     fits_refine a.interface b.interface a.usage b.usage a.polarity b.polarity a.pattern b.pattern r p.polarity p.pattern
+
+-- ---- a holding that may be dropped, and one of nothing
+
+-- a holding that may be dropped is dropped
+pub drop_refine : (h : Holding) (r : Word) → PassesTo h None → Refines (h ∷ []) r [] r
+drop_refine None r p = quiet refl refl (λ w c. (w, choice_one None w c, refl))
+drop_refine (Some a) r p =
+    let d = drops_quiet a.polarity a.pattern p in
+    quiet (ap (λ l. l ++ []) d.0) refl (λ w c. (no_word, choice_one (Some a) no_word d.1, ap (λ (x : Word). plus r x) c))
+
+-- the second of two holdings may be dropped
+pub drop_second : (h k : Holding) (ks : List Holding) (r : Word) → PassesTo k None → Balanced (h ∷ k ∷ ks) r → Balanced (h ∷ ks) r
+drop_second h k ks r p b =
+    refine_balance (k ∷ []) [] (h ∷ ks) r r (drop_refine k r p) (balance_front (h ∷ []) k ks r b)
+
+pub drop_first : (h : Holding) (ks : List Holding) (r : Word) → PassesTo h None → Balanced (h ∷ ks) r → Balanced ks r
+drop_first h ks r p b = refine_balance (h ∷ []) [] ks r r (drop_refine h r p) b
+
+-- a place that holds nothing is added
+pub nothing_more : (r : Word) → Refines [] r (None ∷ []) r
+nothing_more r = quiet refl refl (λ w c. (w, Rattle.pat_typed.proofs.Balance.choice_of_one None w c, refl))

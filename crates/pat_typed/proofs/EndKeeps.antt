@@ -1,8 +1,5 @@
 -- The end of a thread keeps a configuration typed.
-use Rattle.std.proofs.Common.{◌≡◌, ℕ, ◌<◌, Bool, true, false, cond, ◌||◌, nat_eq, if◌then◌else◌, List, [], ◌∷◌, ◌++◌, Some, None, refl, sym, ap, ◌∙◌, subst, map, append_assoc, ⊎_elim}
-use Rattle.std.specs.List.{AllByRecursion, IsDistinct, list_any}
-use Rattle.std.specs.Map.{lookup, remove_entry, keys_of}
-use Rattle.std.proofs.lemmas.Bool.{or_cases, or_left, or_right}
+use Rattle.std.proofs.Common.{◌≡◌, ℕ, ◌<◌, Bool, true, false, if◌then◌else◌, [], ◌∷◌, ◌++◌, Some, None, refl, sym, ap, ◌∙◌, subst, map, append_assoc}
 use Rattle.pat_model.specs.Values.{BaseUnit, Expr}
 use Rattle.pat_model.specs.Programs.{Program, Val}
 use Rattle.pat_model.specs.WellFormed.{WellFormed}
@@ -10,81 +7,12 @@ use Rattle.pat_model.specs.Configs.{Returned, Thread, Config, thread_at, is_name
 use Rattle.pat_model.specs.Steps.{ActEnd, step, redex, without_thread}
 use Rattle.pat_typing.specs.Types.{TypeOf, BaseType, NameType, TypeFits, TypeEnv, EnvPasses, PassesTo, no_types}
 use Rattle.pat_typing.specs.Typings.{Typing, ValueTyped}
-use Rattle.pat_typing.specs.Holdings.{Holding, held, control_held, thread_held, threads_held, message_held, wanted, holdings, Balanced}
+use Rattle.pat_typing.specs.Holdings.{control_held, thread_held, message_held, wanted, holdings, Balanced, as_holding, frame_held}
 use Rattle.pat_typing.specs.Typed.{IsTyped, ThreadFits, ControlFits, NumbersFit}
-use Rattle.pat_typed.proofs.Balance.{balance_front}
-use Rattle.pat_typed.proofs.ReceiveBalance.{drop_first}
-use Rattle.pat_typed.proofs.Threads.{lookup_all}
-use Rattle.pat_steps.proofs.Inversion.{step_of}
+use Rattle.pat_typed.proofs.Balance.{balance_front, drop_first}
+use Rattle.pat_typed.proofs.Threads.{lookup_all, remove_all, remove_any, remove_distinct, cut_thread}
+use Rattle.pat_steps.proofs.Inversion.{step_of, EndStep, end_value, end_return, end_step}
 use Rattle.pat_typed.proofs.Nodes.{node_facts, held_all}
-use Rattle.pat_steps.proofs.Acts.{EndStep, end_value, end_return, end_step}
-use Rattle.pat_steps.proofs.Lists.{distinct_parts, distinct_join}
-
--- ---- a thread is taken out
-
-pub remove_all : (P : ℕ × Thread → Type 0) (ts : List (ℕ × Thread)) (t : ℕ) → AllByRecursion P ts → AllByRecursion P (remove_entry (nat_eq t) ts)
-remove_all P [] t a = a
-remove_all P (e ∷ es) t a =
-    elim (nat_eq t e.0) as (λ v. AllByRecursion P (cond v es (e ∷ remove_entry (nat_eq t) es))) [
-      | true ↦ a.1
-      | false ↦ (a.0, remove_all P es t a.1)
-    ]
-
-pub remove_any : (f : Thread → Bool) (ts : List (ℕ × Thread)) (t : ℕ) → list_any (λ e. f e.1) (remove_entry (nat_eq t) ts) ≡ true → list_any (λ e. f e.1) ts ≡ true
-remove_any f [] t h = h
-remove_any f (e ∷ es) t h =
-    (elim (nat_eq t e.0) as (λ v. list_any (λ d. f d.1) (cond v es (e ∷ remove_entry (nat_eq t) es)) ≡ true → (f e.1 || list_any (λ d. f d.1) es) ≡ true) [
-      | true ↦ λ k. or_right (f e.1) (list_any (λ d. f d.1) es) k
-      | false ↦ λ k. ⊎_elim
-          (λ here. or_left (f e.1) (list_any (λ d. f d.1) es) here)
-          (λ rest. or_right (f e.1) (list_any (λ d. f d.1) es) (remove_any f es t rest))
-          (or_cases (f e.1) (list_any (λ d. f d.1) (remove_entry (nat_eq t) es)) k)
-    ]) h
-
-apart_remove : (n : ℕ) (ts : List (ℕ × Thread)) (t : ℕ) → AllByRecursion (λ k. nat_eq n k ≡ false) (keys_of ts) → AllByRecursion (λ k. nat_eq n k ≡ false) (keys_of (remove_entry (nat_eq t) ts))
-apart_remove n [] t a = a
-apart_remove n (e ∷ es) t a =
-    elim (nat_eq t e.0) as (λ v. AllByRecursion (λ k. nat_eq n k ≡ false) (keys_of (cond v es (e ∷ remove_entry (nat_eq t) es)))) [
-      | true ↦ a.1
-      | false ↦ (a.0, apart_remove n es t a.1)
-    ]
-
-pub remove_distinct : (ts : List (ℕ × Thread)) (t : ℕ) → IsDistinct nat_eq (keys_of ts) → IsDistinct nat_eq (keys_of (remove_entry (nat_eq t) ts))
-remove_distinct [] t d = d
-remove_distinct (e ∷ es) t d =
-    let q = distinct_parts e.0 (keys_of es) d in
-    elim (nat_eq t e.0) as (λ v. IsDistinct nat_eq (keys_of (cond v es (e ∷ remove_entry (nat_eq t) es)))) [
-      | true ↦ q.1
-      | false ↦ distinct_join e.0 (keys_of (remove_entry (nat_eq t) es)) (apart_remove e.0 es t q.0) (remove_distinct es t q.1)
-    ]
-
--- the holdings in a thread stand between those of others, which stay where it is taken out
-pub record Cut (p : Program) (y : Typing) (b : ℕ) (s : Thread) (now left : List Holding) : Type 0 where
-  pub before : List Holding
-  pub after : List Holding
-  pub now_is : now ≡ before ++ (thread_held p y b s ++ after)
-  pub left_is : left ≡ before ++ after
-
-pub cut_thread : (p : Program) (y : Typing) (b t : ℕ) (s : Thread) (ts : List (ℕ × Thread)) → lookup (nat_eq t) ts ≡ Some s → Cut p y b s (threads_held p y b ts) (threads_held p y b (remove_entry (nat_eq t) ts))
-cut_thread p y b t s [] h = cc
-cut_thread p y b t s (e ∷ es) h =
-    (elim (nat_eq t e.0) as (λ v. cond v (Some e.1) (lookup (nat_eq t) es) ≡ Some s → Cut p y b s (thread_held p y b e.1 ++ threads_held p y b es) (threads_held p y b (cond v es (e ∷ remove_entry (nat_eq t) es)))) [
-      | true ↦ λ k.
-          let same : e.1 ≡ s = cc in
-          record { before = []; after = threads_held p y b es; now_is = ap (λ x. thread_held p y b x ++ threads_held p y b es) same; left_is = refl }
-      | false ↦ λ k.
-          let rest = cut_thread p y b t s es k in
-          record {
-            before = thread_held p y b e.1 ++ rest.before;
-            after = rest.after;
-            now_is =
-                ap (λ l. thread_held p y b e.1 ++ l) rest.now_is
-                ∙ sym (append_assoc (thread_held p y b e.1) rest.before (thread_held p y b s ++ rest.after));
-            left_is =
-                ap (λ l. thread_held p y b e.1 ++ l) rest.left_is
-                ∙ sym (append_assoc (thread_held p y b e.1) rest.before rest.after);
-          }
-    ]) h
 
 -- ---- what the ended thread held may be dropped
 
@@ -92,7 +20,7 @@ value_unit : (t : TypeOf) (e : Expr) (g : TypeEnv) → TypeFits t (BaseType Base
 value_unit (BaseType b) e g fits h = h
 value_unit (NameType i q f) e g fits h = absurd fits
 
-nothing_held : (t : Bool) → PassesTo (if t then Rattle.pat_typing.specs.Holdings.as_holding (BaseType BaseUnit) else None) None
+nothing_held : (t : Bool) → PassesTo (if t then as_holding (BaseType BaseUnit) else None) None
 nothing_held true = tt
 nothing_held false = tt
 
@@ -139,7 +67,7 @@ removed_typed p y c t s typed there none drops = record {
         let ms = map (message_held p typed.interfaces a) c.messages in
         let cut = cut_thread p y a t s c.threads there in
         let h = control_held p y a s.control s.frames in
-        let held_is : thread_held p y a s ≡ h ∷ [] = ap (λ fs. h ∷ map (Rattle.pat_typing.specs.Holdings.frame_held y a) fs) none in
+        let held_is : thread_held p y a s ≡ h ∷ [] = ap (λ fs. h ∷ map (frame_held y a) fs) none in
         let flat : holdings p y typed.interfaces c a ≡ cut.before ++ (h ∷ (cut.after ++ ms)) =
         ap (λ l. l ++ ms) (cut.now_is ∙ ap (λ l. cut.before ++ (l ++ cut.after)) held_is) ∙ append_assoc cut.before (h ∷ cut.after) ms in
         let front = balance_front cut.before h (cut.after ++ ms) (pending c a) (subst (λ l. Balanced l (pending c a)) flat bal) in

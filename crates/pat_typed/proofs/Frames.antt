@@ -1,12 +1,17 @@
 -- The holdings of a control and of a frame, where a frame comes or goes.
-use Rattle.std.proofs.Common.{◌≡◌, List, [], ◌∷◌, ◌++◌, Some, None, refl, sym, subst, append_assoc}
+use Rattle.std.proofs.Common.{◌≡◌, List, [], ◌∷◌, ◌++◌, Some, None, refl, sym, subst, append_assoc, ℕ, true, false, ◌||◌, nat_eq, if◌then◌else◌, Option, ◌∙◌, arith, ⊎_elim, ap}
 use Rattle.pat_words.specs.Words.{Word}
-use Rattle.pat_words.specs.Patterns.{Pat, Included}
-use Rattle.pat_model.specs.Programs.{Polarity, Sending, Receiving}
-use Rattle.pat_typing.specs.Types.{Usage, Second, Returnable, TypeOf, BaseType, NameType, PatternFits, TypeFits, UsageFits, PassesTo}
-use Rattle.pat_typing.specs.Typings.{NamePasses}
-use Rattle.pat_typing.specs.Holdings.{Holding, as_holding, Balanced}
+use Rattle.pat_model.specs.Programs.{is_among, option_list, Program, Let}
+use Rattle.pat_typing.specs.Types.{TypeEnv}
+use Rattle.pat_typing.specs.Typings.{name_type}
+use Rattle.pat_typing.specs.Holdings.{Holding, Balanced}
 use Rattle.pat_typed.proofs.Balance.{Refines, refine_balance, balance_front, balance_back}
+use Rattle.pat_model.specs.Values.{Value, Env, value_at, AscendsFrom, Kind}
+use Rattle.pat_model.specs.Steps.{bind_name}
+use Rattle.pat_typed.proofs.Envs.{value_at-bind, ascends_bind}
+use Rattle.std.proofs.lemmas.Bool.{or_cases, eqb-true}
+use Rattle.std.specs.Prelude.{slice_get}
+use Rattle.pat_model.specs.WellFormed.{CoreKinds, HasKind}
 
 -- two holdings of a thread give way to one
 pub two_to_one : (before fs after ms : List Holding) (h k n : Holding) (r : Word) → ((ks : List Holding) → Balanced (h ∷ k ∷ ks) r → Balanced (n ∷ ks) r) → Balanced ((before ++ ((h ∷ k ∷ fs) ++ after)) ++ ms) r → Balanced ((before ++ ((n ∷ fs) ++ after)) ++ ms) r
@@ -29,27 +34,34 @@ one_to_two before fs after ms h k n r refines b =
     let five = balance_back before k (n ∷ rest) r four in
     subst (λ l. Balanced l r) (sym (append_assoc before ((k ∷ n ∷ fs) ++ after) ms)) five
 
--- ---- types that are the same
+-- ---- the name of a frame
 
-pub pattern_same : (q : Polarity) (e f : Pat) → e ≡ f → PatternFits q e f
-pattern_same Sending e f h = λ w i. subst (λ (x : Pat). Rattle.pat_words.specs.Patterns.In x w) (sym h) i
-pattern_same Receiving e f h = λ w i. subst (λ (x : Pat). Rattle.pat_words.specs.Patterns.In x w) h i
+-- the value that is bound, or the one that was there
+pub bind_name_at : (env : Env) (x : Option ℕ) (v : Value) (z : ℕ) → value_at (bind_name env x v) z ≡ (if is_among z (option_list x) then Some v else value_at env z)
+bind_name_at env None v z = refl
+bind_name_at env (Some x) v z =
+    value_at-bind env x v z
+    ∙ elim (nat_eq z x) as (λ t. (if t then Some v else value_at env z) ≡ (if t || false then Some v else value_at env z)) [ true ↦ refl | false ↦ refl ]
 
-usage_any : (u : Usage) → UsageFits Returnable u
-usage_any Second = tt
-usage_any Returnable = tt
+pub ascends_name : (env : Env) (x : Option ℕ) (v : Value) → AscendsFrom 0 env → AscendsFrom 0 (bind_name env x v)
+ascends_name env None v a = a
+ascends_name env (Some x) v a = ascends_bind 0 env x v (omega arith) a
 
--- what is returned passes to the name of a let
-pub name_passes : (t : TypeOf) (o : Holding) → NamePasses t o → PassesTo (as_holding t) o
-name_passes (BaseType b) o h = subst (λ x. PassesTo None x) (sym h) tt
-name_passes (NameType i q e) None h = h
-name_passes (NameType i q e) (Some a) h = record {
-  interface = sym h.0;
-  polarity = sym h.1;
-  usage = usage_any a.usage;
-  pattern = pattern_same a.polarity e a.pattern (sym h.2);
-}
+-- the only name
+pub only_name : (x : Option ℕ) (z w : ℕ) → is_among z (option_list x) ≡ true → is_among w (option_list x) ≡ true → z ≡ w
+only_name None z w h k = cc
+only_name (Some x) z w h k = eqb-true z x (one z h) ∙ sym (eqb-true w x (one w k))
+  where
+    one : (z : ℕ) → (nat_eq z x || false) ≡ true → nat_eq z x ≡ true
+    one z h = ⊎_elim (λ l. l) (λ r. cc) (or_cases (nat_eq z x) false h)
 
-pub type_same : (t : TypeOf) → TypeFits t t
-type_same (BaseType b) = refl
-type_same (NameType i q e) = record { interface = refl; polarity = refl; usage = tt; pattern = pattern_same q e e refl }
+-- a name has the type of its let's
+pub name_here : (x : Option ℕ) (z : ℕ) (g : TypeEnv) → is_among z (option_list x) ≡ true → name_type x g ≡ g z
+name_here None z g h = cc
+name_here (Some x) z g h = ap g (sym (eqb-true z x (⊎_elim (λ l. l) (λ r. cc) (or_cases (nat_eq z x) false h))))
+
+-- the kind of the name of a let is that of its bound part
+pub name_kind : (p : Program) (vars : List Kind) (k : Kind) (x : Option ℕ) (m b z : ℕ) → CoreKinds p vars k (Let x m b) → is_among z (option_list x) ≡ true → (j : Kind) × (slice_get vars z ≡ Some j) × HasKind p m j
+name_kind p vars k None m b z h a = cc
+name_kind p vars k (Some x) m b z h a =
+    (h.0, ap (slice_get vars) (eqb-true z x (⊎_elim (λ l. l) (λ r. cc) (or_cases (nat_eq z x) false a))) ∙ h.1, h.2)

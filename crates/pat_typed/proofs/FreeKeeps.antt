@@ -1,9 +1,8 @@
 -- A free keeps a configuration typed.
-use Rattle.std.proofs.Common.{◌≡◌, ℕ, ◌<◌, Bool, true, false, cond, ◌||◌, ◌&&◌, not, nat_eq, List, [], ◌∷◌, Some, None, refl, sym, ap, ◌∙◌, subst, ◌⊎◌, inl, inr, ⊎_elim}
+use Rattle.std.proofs.Common.{◌≡◌, ℕ, ◌<◌, Bool, true, false, cond, ◌||◌, not, nat_eq, List, [], ◌∷◌, Some, None, refl, sym, ap, ◌∙◌, subst, ⊎_elim}
 use Rattle.std.specs.Prelude.{is_some, filter}
 use Rattle.std.specs.List.{AllByRecursion, IsDistinct, list_any}
-use Rattle.std.specs.Map.{set_value, keys_of}
-use Rattle.std.proofs.lemmas.Bool.{or_cases, or_left, or_right, eq-eqb, eqb-true, eqb-false, ne_eqb, and_parts, and_from, cases_Bool, cond-true, cond-false, false_from_ne_true}
+use Rattle.std.proofs.lemmas.Bool.{or_cases, or_left, or_right, eq-eqb, eqb-true, eqb-false, ne_eqb, and_parts, cases_Bool, cond-true, cond-false, false_from_ne_true}
 use Rattle.pat_model.specs.Values.{Name, Env, value_at}
 use Rattle.pat_model.specs.Programs.{Program, Core, Guard, core_at, is_free, keep, is_among, parts, clause_bodies, clause_uses}
 use Rattle.pat_model.specs.WellFormed.{WellFormed}
@@ -14,54 +13,14 @@ use Rattle.pat_typing.specs.Types.{Returnable, TypeFits, PassesTo, without}
 use Rattle.pat_typing.specs.Typings.{Typing, GuardTyped}
 use Rattle.pat_typing.specs.Holdings.{Holding, held, control_held, wanted}
 use Rattle.pat_typing.specs.Typed.{IsTyped, ThreadFits, ControlFits, PartFits, NumbersFit, KeepsFrom, frames_refer}
-use Rattle.pat_typed.proofs.Threads.{lookup_all, lookup_any, set_all, keys_of-set}
-use Rattle.pat_steps.proofs.Inversion.{step_of}
+use Rattle.pat_typed.proofs.Threads.{lookup_all, lookup_any, set_all, keys_of-set, set_other, other_any}
+use Rattle.pat_steps.proofs.Inversion.{step_of, FreeStep, free_step, after_free}
 use Rattle.pat_typed.proofs.Nodes.{NodeFacts, node_facts, part_core}
 use Rattle.pat_typed.proofs.Envs.{held_cases, HeldCases, by_variable, by_none}
 use Rattle.pat_typed.proofs.Unused.{unused_drops}
 use Rattle.pat_typed.proofs.Narrow.{Narrowed, keep_narrows, narrow_refers, narrow_passes, part_named, refers_value, passes_returnable, usage_back}
-use Rattle.pat_typed.proofs.Moves.{move_balanced}
-use Rattle.pat_typed.proofs.IfKeeps.{goes_on}
-use Rattle.pat_steps.proofs.Acts.{FreeStep, free_step, after_free}
+use Rattle.pat_typed.proofs.Moves.{move_balanced, goes_on}
 use Rattle.pat_steps.proofs.Lists.{clash, not_true, distinct_parts, distinct_join, all_filter}
-
--- a test that passes at some thread once one is replaced passes there or at another one
-pub apart_any : (f : Thread → Bool) (ts : List (ℕ × Thread)) (t : ℕ) → AllByRecursion (λ k. nat_eq t k ≡ false) (keys_of ts) → list_any (λ e. f e.1) ts ≡ true → list_any (λ e. not (nat_eq e.0 t) && f e.1) ts ≡ true
-apart_any f [] t a h = h
-apart_any f (e ∷ es) t a h =
-    let off : nat_eq e.0 t ≡ false = ne_eqb e.0 t (λ q. eqb-false t e.0 a.0 (sym q)) in
-    ⊎_elim
-    (λ l. or_left (not (nat_eq e.0 t) && f e.1) (list_any (λ e. not (nat_eq e.0 t) && f e.1) es) (and_from (not (nat_eq e.0 t)) (f e.1) (ap not off) l))
-    (λ r. or_right (not (nat_eq e.0 t) && f e.1) (list_any (λ e. not (nat_eq e.0 t) && f e.1) es) (apart_any f es t a.1 r))
-    (or_cases (f e.1) (list_any (λ e. f e.1) es) h)
-
-pub set_other : (f : Thread → Bool) (ts : List (ℕ × Thread)) (t : ℕ) (s : Thread) → IsDistinct nat_eq (keys_of ts) → list_any (λ e. f e.1) (set_value (nat_eq t) ts s) ≡ true → (f s ≡ true) ⊎ (list_any (λ e. not (nat_eq e.0 t) && f e.1) ts ≡ true)
-set_other f [] t s d h = inr h
-set_other f (e ∷ es) t s d h =
-    let q = distinct_parts e.0 (keys_of es) d in
-    let first = not (nat_eq e.0 t) && f e.1 in
-    let others = list_any (λ e. not (nat_eq e.0 t) && f e.1) es in
-    (elim (nat_eq t e.0) as (λ v. nat_eq t e.0 ≡ v → list_any (λ d. f d.1) (cond v ((e.0, s) ∷ es) (e ∷ set_value (nat_eq t) es s)) ≡ true → (f s ≡ true) ⊎ ((first || others) ≡ true)) [
-      | true ↦ λ w k.
-          let same : t ≡ e.0 = eqb-true t e.0 w in
-          ⊎_elim (λ here. inl here)
-          (λ rest. inr (or_right first others (apart_any f es t (subst (λ x. AllByRecursion (λ k. nat_eq x k ≡ false) (keys_of es)) (sym same) q.0) rest)))
-          (or_cases (f s) (list_any (λ d. f d.1) es) k)
-      | false ↦ λ w k.
-          let off : nat_eq e.0 t ≡ false = ne_eqb e.0 t (λ x. eqb-false t e.0 w (sym x)) in
-          ⊎_elim
-          (λ here. inr (or_left first others (and_from (not (nat_eq e.0 t)) (f e.1) (ap not off) here)))
-          (λ rest. ⊎_elim (λ x. inl x) (λ x. inr (or_right first others x)) (set_other f es t s q.1 rest))
-          (or_cases (f e.1) (list_any (λ d. f d.1) (set_value (nat_eq t) es s)) k)
-    ]) refl h
-
-other_any : (f : Thread → Bool) (ts : List (ℕ × Thread)) (t : ℕ) → list_any (λ e. not (nat_eq e.0 t) && f e.1) ts ≡ true → list_any (λ e. f e.1) ts ≡ true
-other_any f [] t h = h
-other_any f (e ∷ es) t h =
-    ⊎_elim
-    (λ l. or_left (f e.1) (list_any (λ e. f e.1) es) (and_parts (not (nat_eq e.0 t)) (f e.1) l).1)
-    (λ r. or_right (f e.1) (list_any (λ e. f e.1) es) (other_any f es t r))
-    (or_cases (not (nat_eq e.0 t) && f e.1) (list_any (λ e. not (nat_eq e.0 t) && f e.1) es) h)
 
 -- ---- the live mailboxes without one
 

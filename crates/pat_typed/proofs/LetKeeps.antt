@@ -16,7 +16,6 @@ use Rattle.pat_typing.specs.Types.{Usage, Second, Returnable, MailboxType, mailb
 use Rattle.pat_typing.specs.Typings.{Typing, IsTyping, without_name}
 use Rattle.pat_typing.specs.Holdings.{Holding, held, type_at, control_held, frame_held, message_held, wanted, holdings, Balanced}
 use Rattle.pat_typing.specs.Typed.{IsTyped, ThreadFits, ControlFits, PartFits, KeepsFrom, frames_refer}
-use Rattle.pat_typed.proofs.ReceiveBalance.{passes_drop}
 use Rattle.pat_typed.proofs.SplitBalance.{split_refine}
 use Rattle.pat_typed.proofs.Threads.{lookup_all, split_thread}
 use Rattle.pat_steps.proofs.Inversion.{StandsAt}
@@ -26,10 +25,11 @@ use Rattle.pat_typed.proofs.Envs.{held_cases, HeldCases, by_variable, by_none}
 use Rattle.pat_typed.proofs.Named.{part_kind}
 use Rattle.pat_typed.proofs.Unused.{unused_drops}
 use Rattle.pat_typed.proofs.Narrow.{Narrowed, keep_narrows, filter_narrows, narrow_twice, narrow_refers, narrow_part, NarrowCases, stays, goes, absent, narrow_cases, part_named, refers_value, usage_back}
-use Rattle.pat_typed.proofs.IfKeeps.{goes_on}
 use Rattle.pat_typed.proofs.Bound.{body_bound, body_among}
-use Rattle.pat_typed.proofs.Frames.{one_to_two, type_same}
+use Rattle.pat_typed.proofs.Frames.{one_to_two}
 use Rattle.pat_steps.proofs.Lists.{clash}
+use Rattle.pat_typed.proofs.Passing.{passes_drop, type_same}
+use Rattle.pat_typed.proofs.Moves.{goes_on}
 
 -- ---- what is divided, where one of the parts may drop it
 

@@ -1,3 +1,4 @@
+pub mod Passing
 pub mod Balance
 pub mod SplitBalance
 pub mod Refers
@@ -9,13 +10,13 @@ pub mod Nodes
 pub mod Named
 pub mod Unused
 pub mod Narrow
+pub mod Replace
 pub mod Moves
 pub mod Frames
 pub mod Bound
-pub mod Args
 pub mod Payloads
+pub mod Args
 pub mod Agree
-pub mod Replace
 pub mod StartTyped
 pub mod PrintKeeps
 pub mod IfKeeps
@@ -23,13 +24,14 @@ pub mod EndKeeps
 pub mod SpawnKeeps
 pub mod FreeKeeps
 pub mod NewKeeps
-pub mod ReceivePart
+pub mod Received
+pub mod ReceiveHoldings
 pub mod ReceiveBalance
 pub mod ReceiveKeeps
-pub mod ReceiveTyped
 pub mod ReturnKeeps
 pub mod LetKeeps
 pub mod ValueKeeps
 pub mod CallKeeps
+pub mod LocalKeeps
 pub mod SendKeeps
 pub mod Preserved

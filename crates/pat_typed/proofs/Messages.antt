@@ -1,11 +1,11 @@
 -- A message is taken out of a list of messages.
-use Rattle.std.proofs.Common.{◌≡◌, ℕ, Bool, true, false, cond, ◌||◌, not, nat_eq, if◌then◌else◌, List, [], ◌∷◌, ◌++◌, Some, refl, sym, ap, ◌∙◌, subst, append_assoc, map}
+use Rattle.std.proofs.Common.{◌≡◌, ℕ, Bool, true, false, cond, ◌||◌, not, nat_eq, if◌then◌else◌, List, [], ◌∷◌, ◌++◌, Some, refl, sym, ap, ◌∙◌, subst, append_assoc, map, ◌<◌, ◌+◌, arith}
 use Rattle.std.specs.Prelude.{filter, find}
 use Rattle.std.specs.List.{AllByRecursion, IsDistinct, list_any}
-use Rattle.std.proofs.lemmas.Bool.{eqb-true, eqb-false, eq-eqb, ne_eqb, cond-true, cond-false, or_left, or_right}
-use Rattle.pat_words.specs.Words.{Word, one, plus}
+use Rattle.std.proofs.lemmas.Bool.{eqb-true, eqb-false, eq-eqb, ne_eqb, cond-true, cond-false, or_left, or_right, or_parts}
+use Rattle.pat_words.specs.Words.{Word, one, plus, no_word}
 use Rattle.pat_words.proofs.WordLaws.{plus_swap}
-use Rattle.pat_model.specs.Configs.{Message, pending_in}
+use Rattle.pat_model.specs.Configs.{Message, pending_in, has_pending}
 use Rattle.pat_typing.specs.Holdings.{Holding, Balanced, receives, receivers}
 use Rattle.pat_typed.proofs.Balance.{balance_front, balance_back}
 use Rattle.pat_steps.proofs.Lists.{distinct_parts, distinct_join, nil_parts}
@@ -142,3 +142,20 @@ none_filter h f (x ∷ xs) e =
       | true ↦ ap (λ l. l ++ receivers (map h (filter f xs))) p.0 ∙ none_filter h f xs p.1
       | false ↦ none_filter h f xs p.1
     ]
+
+-- ---- numbers of messages, and mailboxes without one
+
+pub numbers_below : (n : ℕ) (ms : List Message) → AllByRecursion (λ m. m.number < n) ms → AllByRecursion (λ x. x < n) (map (λ m. m.number) ms)
+numbers_below n [] a = tt
+numbers_below n (m ∷ ms) a = (a.0, numbers_below n ms a.1)
+
+pub below_more : (n : ℕ) (ms : List Message) → AllByRecursion (λ m. m.number < n) ms → AllByRecursion (λ m. m.number < n + 1) ms
+below_more n [] a = tt
+below_more n (m ∷ ms) a = (let h = a.0 in omega arith, below_more n ms a.1)
+
+-- nothing is pending in a mailbox that has no message
+pub pending_none : (a : ℕ) (ms : List Message) → has_pending a ms ≡ false → pending_in a ms ≡ no_word
+pending_none a [] h = refl
+pending_none a (m ∷ ms) h =
+    let q = or_parts (nat_eq m.mailbox a) (has_pending a ms) h in
+    cond-false (nat_eq m.mailbox a) (plus (one m.tag) (pending_in a ms)) (pending_in a ms) q.0 ∙ pending_none a ms q.1

@@ -2,19 +2,20 @@
 use Rattle.std.proofs.Common.{◌≡◌, ℕ, zero, suc, ◌+◌, ◌≤◌, true, false, ◌||◌, ◌&&◌, not, nat_eq, if◌then◌else◌, List, [], ◌∷◌, ◌++◌, length, map, Option, Some, None, refl, sym, ap, ◌∙◌, subst, arith, ⊎_elim}
 use Rattle.std.specs.Prelude.{is_some, slice_get, option_map, option_and_then}
 use Rattle.std.specs.List.{AllByRecursion, list_any}
-use Rattle.std.proofs.lemmas.Bool.{eqb-true, eq-eqb, cond-true, cond-false, cases_Bool, or_cases, and_parts, or_left, or_right}
+use Rattle.std.proofs.lemmas.Bool.{eqb-true, eq-eqb, cond-true, cond-false, or_cases, and_parts, or_left, or_right, eqb-false, false_from_ne_true, ne_eqb}
 use Rattle.std.proofs.lemmas.Option.{slice_get_past}
-use Rattle.pat_words.specs.Patterns.{Pat}
-use Rattle.pat_model.specs.Values.{Base, BaseBool, BaseInt, BaseText, Kind, Plain, MailboxOf, Op, Add, Sub, Mul, Equal, Less, Expr, VarExpr, Literal, OpExpr, occurs}
+use Rattle.pat_words.specs.Patterns.{Pat, residual, Tag}
+use Rattle.pat_model.specs.Values.{Base, BaseBool, BaseInt, BaseText, Kind, Plain, MailboxOf, Op, Add, Sub, Mul, Equal, Less, Expr, VarExpr, Literal, OpExpr, occurs, Value, Env, value_at, ValueFits}
 use Rattle.pat_model.specs.Programs.{Program, Sending, Receiving, Sort, BaseSort, MailboxSort, Function, TagDecl, Clause, Core, Val, Let, Call, If, Print, New, Send, Spawn, Guard, Node, node_at, core_at, function_at, parts, option_list, clause_bodies, clause_binders, is_among, is_free, clause_uses, core_uses, kind_of, tag_at, Interface, KindAt}
-use Rattle.pat_model.specs.WellFormed.{WellFormed, InterfaceFits, IsPayload, CoreKinds, op_kind, expr_kind, HaveKinds}
+use Rattle.pat_model.specs.WellFormed.{WellFormed, InterfaceFits, IsPayload, CoreKinds, op_kind, expr_kind, HaveKinds, IsPrintable}
 use Rattle.pat_steps.proofs.FreeVars.{free_unfolds, part_after}
-use Rattle.pat_typing.specs.Types.{MailboxType, TypeOf, BaseType, NameType, kind_of_type, TypeEnv, PassesTo, EnvPasses, EnvSplits, SplitsTo, with_type, without, no_types, returnable, mailbox_type, Second, Returnable}
+use Rattle.pat_typing.specs.Types.{MailboxType, TypeOf, BaseType, NameType, kind_of_type, TypeEnv, PassesTo, SplitsTo, with_type, without, no_types, returnable, mailbox_type, Second, Returnable}
 use Rattle.pat_typing.specs.Typings.{Typing, IsTyping, CoreTyped, GuardTyped, ClauseTyped, ValueTyped, with_option, with_payloads, args_need, clause_env, without_name, param_type, payload_type, payload_sort, sort_type}
 use Rattle.pat_typed.proofs.Nodes.{NodeFacts, node_facts, part_core}
 use Rattle.pat_typed.proofs.Payloads.{payloads_off}
 use Rattle.pat_typing.specs.Holdings.{Holding}
 use Rattle.pat_steps.proofs.Lists.{clash, not_true, any_first, any_last, all_at}
+use Rattle.pat_typing.specs.Typed.{PartFits}
 
 -- ---- expressions
 
@@ -94,8 +95,8 @@ pub value_named : (vars : List Kind) (z i : ℕ) → slice_get vars z ≡ Some (
 value_named vars z i at (BaseType b) e g k h o = absurd (base_occurs vars z i at e b k o)
 value_named vars z i at (NameType j q f) (VarExpr x) g k h o =
     let same : z ≡ x = eqb-true z x o in
-    passes_some (g z) (with_type x (Rattle.pat_typing.specs.Types.mailbox_type j q f Rattle.pat_typing.specs.Types.Returnable) (Rattle.pat_typing.specs.Types.no_types) z) (h z)
-    (ap is_some (cond-true (nat_eq x z) (Some (Rattle.pat_typing.specs.Types.mailbox_type j q f Rattle.pat_typing.specs.Types.Returnable)) None (eq-eqb x z (sym same))))
+    passes_some (g z) (with_type x (mailbox_type j q f Returnable) (no_types) z) (h z)
+    (ap is_some (cond-true (nat_eq x z) (Some (mailbox_type j q f Returnable)) None (eq-eqb x z (sym same))))
 value_named vars z i at (NameType j q f) (Literal c) g k h o = absurd h
 value_named vars z i at (NameType j q f) (OpExpr op a b) g k h o = absurd h
 
@@ -167,9 +168,9 @@ without_some x g z h =
 -- a variable that a clause doesn't bind is offered as it is without the guarded one
 clause_env_out : (g : TypeEnv) (x i : ℕ) (e : Pat) (decl : TagDecl) (r : Clause) (z : ℕ) → is_among z (clause_binders r) ≡ false → clause_env g x i e decl r z ≡ without x g z
 clause_env_out g x i e decl r z out =
-    let off_from : nat_eq z r.from ≡ false = Rattle.std.proofs.lemmas.Bool.false_from_ne_true (nat_eq z r.from) (λ q. clash (any_last (nat_eq z) r.vars (r.from ∷ []) (or_left (nat_eq z r.from) false q)) out) in
-    let off_vars : is_among z r.vars ≡ false = Rattle.std.proofs.lemmas.Bool.false_from_ne_true (is_among z r.vars) (λ q. clash (any_first (nat_eq z) r.vars (r.from ∷ []) q) out) in
-    cond-false (nat_eq r.from z) (Some (mailbox_type i Receiving (Rattle.pat_words.specs.Patterns.residual e r.tag) Returnable)) (with_payloads (payload_type decl) 0 r.vars (without x g) z) (Rattle.std.proofs.lemmas.Bool.ne_eqb r.from z (λ q. Rattle.std.proofs.lemmas.Bool.eqb-false z r.from off_from (sym q)))
+    let off_from : nat_eq z r.from ≡ false = false_from_ne_true (nat_eq z r.from) (λ q. clash (any_last (nat_eq z) r.vars (r.from ∷ []) (or_left (nat_eq z r.from) false q)) out) in
+    let off_vars : is_among z r.vars ≡ false = false_from_ne_true (is_among z r.vars) (λ q. clash (any_first (nat_eq z) r.vars (r.from ∷ []) q) out) in
+    cond-false (nat_eq r.from z) (Some (mailbox_type i Receiving (residual e r.tag) Returnable)) (with_payloads (payload_type decl) 0 r.vars (without x g) z) (ne_eqb r.from z (λ q. eqb-false z r.from off_from (sym q)))
     ∙ payloads_off (payload_type decl) 0 r.vars (without x g) z off_vars
 
 clauses_named : (p : Program) (y : Typing) (g : TypeEnv) (t : TypeOf) (z x i : ℕ) (e : Pat) (cs : List Clause) → AllByRecursion (ClauseTyped p y g t x i e) cs → list_any (clause_uses (is_free p z) z) cs ≡ true → ((k : ℕ) → is_among k (clause_bodies cs) ≡ true → is_free p z k ≡ true → is_some (y.envs k z) ≡ true) → is_some (g z) ≡ true
@@ -226,7 +227,7 @@ core_named : (p : Program) (y : Typing) (z n i : ℕ) (core : Core) → WellForm
 core_named p y z n i (Val e) w facts at kinds h o ih = value_named facts.fits.function.vars z i at (y.results n) e (y.envs n) kinds h o
 core_named p y z n i (Print e) w facts at kinds h o ih =
     let q = mailbox_occurs facts.fits.function.vars z i at e kinds.1.0 kinds.1.1 o in
-    absurd (subst Rattle.pat_model.specs.WellFormed.IsPrintable q.1 kinds.1.2)
+    absurd (subst IsPrintable q.1 kinds.1.2)
 core_named p y z n i (New j) w facts at kinds h o ih = cc
 core_named p y z n i (Call f args) w facts at kinds h o ih =
     let e : Some kinds.0 ≡ Some h.0 = sym kinds.1 ∙ h.1 in
@@ -237,7 +238,7 @@ core_named p y z n i (Call f args) w facts at kinds h o ih =
 core_named p y z n i (Send x m args) w facts at kinds h o ih =
     let vars = facts.fits.function.vars in
     let k = kinds.1 in
-    let need = mailbox_type h.0 Sending (Rattle.pat_words.specs.Patterns.Tag m) Second in
+    let need = mailbox_type h.0 Sending (Tag m) Second in
     let all = args_need (payload_type h.1) 0 args in
     let at_x : PassesTo (y.envs n x) (Some need) =
     subst (λ o. PassesTo (y.envs n x) o) (cond-true (nat_eq x x) (Some need) (all x) (eq-eqb x x refl)) (h.4 x) in
@@ -274,7 +275,7 @@ core_named p y z n i (Let x m b) w facts at kinds h o ih =
     named_body : (x : Option ℕ) → is_among z (option_list x) ≡ false → is_some (y.envs b z) ≡ true → is_some (without_name x (y.envs b) z) ≡ true
     named_body None out s = s
     named_body (Some x) out s =
-        let off : nat_eq x z ≡ false = Rattle.std.proofs.lemmas.Bool.ne_eqb x z (λ q. clash (or_left (nat_eq z x) false (eq-eqb z x (sym q))) out) in
+        let off : nat_eq x z ≡ false = ne_eqb x z (λ q. clash (or_left (nat_eq z x) false (eq-eqb z x (sym q))) out) in
         ap is_some (cond-false (nat_eq x z) None (y.envs b z) off) ∙ s
 core_named p y z n i (Guard x e free cs) w facts at kinds h o ih = guard_named p y (y.envs n) (y.results n) z x e free cs h o ih
 
@@ -300,3 +301,13 @@ named_from p y z i w t (suc d) n long core at kind o =
 
 pub free_named : (p : Program) (y : Typing) → WellFormed p → IsTyping p y → (z i n : ℕ) (core : Core) → core_at p n ≡ Some core → KindAt p n z (MailboxOf i) → is_free p z n ≡ true → is_some (y.envs n z) ≡ true
 free_named p y w t z i n core at kind o = named_from p y z i w t (length p.nodes) n (omega arith) core at kind o
+
+-- ---- the value of a variable
+
+-- a variable's value is of the variable's kind
+pub env_fits : (p : Program) (y : Typing) (interfaces : ℕ → ℕ) (n : ℕ) (core : Core) (env : Env) (facts : NodeFacts p y n core) → PartFits p interfaces n [] env → (x : ℕ) (v : Value) (k : Kind) → value_at env x ≡ Some v → slice_get facts.fits.function.vars x ≡ Some k → ValueFits interfaces v k
+env_fits p y f n core env facts part x v k at is =
+    let h = part.kinds x v at in
+    let e : Some h.0 ≡ Some k = sym (kind_same p y n x h.0 core facts h.1) ∙ is in
+    let same : h.0 ≡ k = cc in
+    subst (λ w. ValueFits f v w) same h.2

@@ -12,10 +12,10 @@ use Rattle.pat_typing.specs.Typings.{Typing, IsTyping}
 use Rattle.pat_typing.specs.Holdings.{Holding, held}
 use Rattle.pat_typing.specs.Typed.{PartFits, KeepsFrom}
 use Rattle.pat_typed.proofs.Refers.{is_name_same, value_refers}
-use Rattle.pat_typed.proofs.Envs.{value_at-keep, kept, held_cases, HeldCases, by_variable, by_none, ascends_filter, value_at-filter}
+use Rattle.pat_typed.proofs.Envs.{value_at-keep, kept, held_cases, HeldCases, by_variable, by_none, ascends_filter, value_at-filter, value_above}
 use Rattle.pat_typed.proofs.Named.{free_named}
-use Rattle.pat_typed.proofs.ReceiveBalance.{passes_drop}
 use Rattle.pat_steps.proofs.Lists.{not_true}
+use Rattle.pat_typed.proofs.Passing.{passes_drop}
 
 -- the second environment has just those values of the first whose variable passes the test
 pub record Narrowed (test : ℕ → Bool) (env env' : Env) : Type 0 where
@@ -59,7 +59,7 @@ refers_value b n (e ∷ env) a h =
     (λ here. (e.0, cond-true (nat_eq e.0 e.0) (Some e.1) (lookup (nat_eq e.0) env) (eq-eqb e.0 e.0 refl) ∙ ap (λ v. Some v) (is_name_same b e.1 here)))
     (λ rest.
     let q = refers_value b (suc e.0) env a.1 rest in
-    let above = Rattle.pat_typed.proofs.Envs.value_above (suc e.0) env q.0 (Name b) a.1 q.1 in
+    let above = value_above (suc e.0) env q.0 (Name b) a.1 q.1 in
     let apart : nat_eq q.0 e.0 ≡ false = ne_eqb q.0 e.0 (λ w. omega arith) in
     (q.0, cond-false (nat_eq q.0 e.0) (Some e.1) (lookup (nat_eq q.0) env) apart ∙ q.1))
     (or_cases (is_name b e.1) (env_refers b env) h)

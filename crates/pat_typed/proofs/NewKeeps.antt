@@ -2,13 +2,13 @@
 use Rattle.std.proofs.Common.{◌≡◌, ℕ, ◌+◌, ◌<◌, true, false, ◌||◌, nat_eq, if◌then◌else◌, List, [], ◌∷◌, ◌++◌, Some, None, refl, sym, ap, ◌∙◌, subst, arith, map, append_assoc, ⊎_elim}
 use Rattle.std.proofs.lemmas.Bool.{or_cases, or_left, or_right, or_parts, eqb-true, eq-eqb, ne_eqb, false_from_ne_true, cond-true, cond-false}
 use Rattle.std.specs.List.{IsDistinct, list_any}
-use Rattle.pat_words.specs.Words.{Word, no_word, one, plus}
+use Rattle.pat_words.specs.Words.{Word, no_word, plus}
 use Rattle.pat_words.specs.Patterns.{Pat, In}
 use Rattle.pat_words.proofs.WordLaws.{none_plus}
 use Rattle.pat_model.specs.Values.{Name, Kind, MailboxOf, Env, ValueFits}
 use Rattle.pat_model.specs.Programs.{Program, Sending, Receiving, New, is_among}
 use Rattle.pat_model.specs.WellFormed.{WellFormed}
-use Rattle.pat_model.specs.Configs.{Running, Returned, Frame, Thread, Message, Config, thread_at, with_thread, is_name, env_refers, control_refers, thread_refers, message_refers, has_pending, pending, pending_in}
+use Rattle.pat_model.specs.Configs.{Running, Returned, Frame, Thread, Message, Config, thread_at, with_thread, is_name, env_refers, control_refers, thread_refers, message_refers, has_pending, pending}
 use Rattle.pat_model.specs.Steps.{ActNew, step, redex, thread_of}
 use Rattle.pat_typing.specs.Types.{Returnable, TypeOf, BaseType, NameType, kind_of_type, mailbox_type, TypeFits, no_types, EnvPasses, PassesTo}
 use Rattle.pat_typing.specs.Typings.{Typing, NewTyped}
@@ -21,17 +21,11 @@ use Rattle.pat_typed.proofs.Nodes.{node_facts, held_all, fits_kind}
 use Rattle.pat_typed.proofs.Refers.{AllNone, none-append, none_receivers, none_choice, threads_none, frames_none, messages_none}
 use Rattle.pat_typed.proofs.Agree.{AgreeOn, touches, threads_agree, messages_agree, messages_held, frames_agree}
 use Rattle.pat_steps.proofs.Lists.{clash, among_below, below_weaken, distinct_snoc, any-append, any_first, any_last, all_snoc}
+use Rattle.pat_typed.proofs.Messages.{pending_none}
 
 none_parts : (hs ks : List Holding) → AllNone (hs ++ ks) → AllNone hs × AllNone ks
 none_parts [] ks a = (tt, a)
 none_parts (h ∷ hs) ks a = let r = none_parts hs ks a.1 in ((a.0, r.0), r.1)
-
--- nothing is pending in a mailbox that has no message
-pub pending_none : (a : ℕ) (ms : List Message) → has_pending a ms ≡ false → pending_in a ms ≡ no_word
-pending_none a [] h = refl
-pending_none a (m ∷ ms) h =
-    let q = or_parts (nat_eq m.mailbox a) (has_pending a ms) h in
-    cond-false (nat_eq m.mailbox a) (plus (one m.tag) (pending_in a ms)) (pending_in a ms) q.0 ∙ pending_none a ms q.1
 
 -- the type wanted of a new mailbox receives, and its pattern has the empty word
 record NewWanted (t : TypeOf) : Type 0 where

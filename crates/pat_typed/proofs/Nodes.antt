@@ -1,7 +1,7 @@
 -- What a typing says of the node at which a thread stands.
 use Rattle.std.proofs.Common.{◌≡◌, ℕ, true, false, if◌then◌else◌, [], ◌∷◌, Option, Some, None, refl, sym, ap, subst}
 use Rattle.std.specs.Prelude.{option_map}
-use Rattle.pat_model.specs.Values.{Value, Const, Name, Kind, Env, BaseUnit, Plain}
+use Rattle.pat_model.specs.Values.{Env, Plain, MailboxOf}
 use Rattle.pat_model.specs.Programs.{Program, Core, Node, node_at, core_at, parts, binders, is_among}
 use Rattle.pat_model.specs.WellFormed.{WellFormed, NodeFits, CoreKinds}
 use Rattle.pat_model.specs.Configs.{is_name}
@@ -42,7 +42,7 @@ node_facts p y n core w i h = facts_of p y n core (node_at p n) w i refl h
 -- a type that fits another has its kind
 pub fits_kind : (s t : TypeOf) → TypeFits s t → kind_of_type s ≡ kind_of_type t
 fits_kind (BaseType b) (BaseType c) h = ap (λ x. Plain x) h
-fits_kind (NameType i q e) (NameType j r f) h = ap (λ x. Rattle.pat_model.specs.Values.MailboxOf x) h.interface
+fits_kind (NameType i q e) (NameType j r f) h = ap (λ x. MailboxOf x) h.interface
 fits_kind (BaseType b) (NameType j r f) h = absurd h
 fits_kind (NameType i q e) (BaseType c) h = absurd h
 

@@ -12,7 +12,7 @@ use Rattle.pat_typing.specs.Holdings.{payload_held}
 use Rattle.pat_typing.specs.Typed.{names}
 use Rattle.pat_typed.proofs.Refers.{is_name_same, name_is}
 use Rattle.pat_typed.proofs.Envs.{value_at-bind}
-use Rattle.pat_steps.proofs.Lists.{ne_turn}
+use Rattle.pat_steps.proofs.Lists.{ne_turn, distinct_parts}
 
 -- a place whose value is a mailbox has a type
 abbrev pub HaveTypes : TypeEnv → ℕ → List Value → Type 0
@@ -26,14 +26,14 @@ apart_from b [] a = refl
 apart_from b (Const c ∷ vs) a = apart_from b vs a
 apart_from b (Name x ∷ vs) a = ap (λ t. t || list_any (is_name b) vs) a.0 ∙ apart_from b vs a.1
 
-pub distinct_tail : (v : Value) (vs : List Value) → IsDistinct nat_eq (names (v ∷ vs)) → IsDistinct nat_eq (names vs)
+pub names_tail : (v : Value) (vs : List Value) → IsDistinct nat_eq (names (v ∷ vs)) → IsDistinct nat_eq (names vs)
 unfolding IsDistinct
-distinct_tail (Const c) vs d = d
-distinct_tail (Name a) vs d = d.1
+names_tail (Const c) vs d = d
+names_tail (Name a) vs d = d.1
 
-pub distinct_head : (b : ℕ) (vs : List Value) → IsDistinct nat_eq (names (Name b ∷ vs)) → list_any (is_name b) vs ≡ false
+pub names_head : (b : ℕ) (vs : List Value) → IsDistinct nat_eq (names (Name b ∷ vs)) → list_any (is_name b) vs ≡ false
 unfolding IsDistinct
-distinct_head b vs d = apart_from b vs d.0
+names_head b vs d = apart_from b vs d.0
 
 types_tail : (types : TypeEnv) (k : ℕ) (v : Value) (vs : List Value) → HaveTypes types k (v ∷ vs) → HaveTypes types (suc k) vs
 types_tail types k (Const c) vs h = h
@@ -83,7 +83,7 @@ payload_on g types env b k x xs v vs z off d (of_payload among found is) =
     other : (v : Value) → IsDistinct nat_eq (names (v ∷ vs)) → is_name b v ≡ false
     other v d =
         ⊎_elim
-        (λ same. absurd (true_false (sym found ∙ distinct_head b vs (subst (λ (w : Value). IsDistinct nat_eq (names (w ∷ vs))) (is_name_same b v same) d))))
+        (λ same. absurd (true_false (sym found ∙ names_head b vs (subst (λ (w : Value). IsDistinct nat_eq (names (w ∷ vs))) (is_name_same b v same) d))))
         (λ apart. apart)
         (cases_Bool (is_name b v))
 
@@ -103,7 +103,7 @@ payload_cases g types env b k (x ∷ xs) (v ∷ vs) z len h d at =
           ∙ sym (cond-true (is_name b v) (types k) (payload_held b types (suc k) vs) named))
       | false ↦ λ q at'.
           payload_on g types env b k x xs v vs z q d
-          (payload_cases g types env b (suc k) xs vs z (omega arith) (types_tail types k v vs h) (distinct_tail v vs d) at')
+          (payload_cases g types env b (suc k) xs vs z (omega arith) (types_tail types k v vs h) (names_tail v vs d) at')
     ]) refl (sym (value_at-bind (bind_all env xs vs) x v z) ∙ at)
 
 -- a mailbox among the payloads is under a name, with the type that is declared for it
@@ -121,14 +121,6 @@ among_apart x z (y ∷ ys) a h =
     (λ q. let same : z ≡ y = eqb-true z y q in subst (λ w. nat_eq w x ≡ false) (sym same) (ne_turn x y a.0))
     (λ q. among_apart x z ys a.1 q)
     (or_cases (nat_eq z y) (is_among z ys) h)
-
-distinct_first : (x : ℕ) (xs : List ℕ) → IsDistinct nat_eq (x ∷ xs) → AllByRecursion (λ y. nat_eq x y ≡ false) xs
-unfolding IsDistinct
-distinct_first x xs d = d.0
-
-distinct_others : (x : ℕ) (xs : List ℕ) → IsDistinct nat_eq (x ∷ xs) → IsDistinct nat_eq xs
-unfolding IsDistinct
-distinct_others x xs d = d.1
 
 pub payload_place : (g types : TypeEnv) (env : Env) (b k : ℕ) (xs : List ℕ) (vs : List Value) → length xs ≡ length vs → IsDistinct nat_eq xs → HaveTypes types k vs → list_any (is_name b) vs ≡ true → PayloadPlace g types env b k xs vs
 payload_place g types env b k xs [] len d h found = cc
@@ -148,8 +140,8 @@ payload_place g types env b k (x ∷ xs) (v ∷ vs) len d h found =
           }
       | false ↦ λ q.
           let rest_found : list_any (is_name b) vs ≡ true = sym (ap (λ t. t || list_any (is_name b) vs) q) ∙ found in
-          let rest = payload_place g types env b (suc k) xs vs (omega arith) (distinct_others x xs d) (types_tail types k v vs h) rest_found in
-          let apart = among_apart x rest.var xs (distinct_first x xs d) rest.among in
+          let rest = payload_place g types env b (suc k) xs vs (omega arith) (distinct_parts x xs d).1 (types_tail types k v vs h) rest_found in
+          let apart = among_apart x rest.var xs (distinct_parts x xs d).0 rest.among in
           let held_is : payload_held b types k (v ∷ vs) ≡ payload_held b types (suc k) vs = cond-false (is_name b v) (types k) (payload_held b types (suc k) vs) q in
           record {
             var = rest.var;

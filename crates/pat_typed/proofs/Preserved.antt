@@ -13,12 +13,12 @@ use Rattle.pat_typing.specs.Typed.{IsTyped}
 use Rattle.pat_typed.proofs.StartTyped.{start_typed}
 use Rattle.pat_typed.proofs.PrintKeeps.{print_keeps}
 use Rattle.pat_typed.proofs.NewKeeps.{new_keeps}
-use Rattle.pat_typed.proofs.ReceiveTyped.{receive_keeps}
-use Rattle.pat_typed.proofs.CallKeeps.{local_keeps}
+use Rattle.pat_typed.proofs.ReceiveKeeps.{receive_keeps}
 use Rattle.pat_typed.proofs.SendKeeps.{send_keeps}
 use Rattle.pat_typed.proofs.SpawnKeeps.{spawn_keeps}
 use Rattle.pat_typed.proofs.EndKeeps.{end_keeps}
 use Rattle.pat_typed.proofs.FreeKeeps.{free_keeps}
+use Rattle.pat_typed.proofs.LocalKeeps.{local_keeps}
 
 act_keeps : (p : Program) (y : Typing) (c d : Config) (t : ℕ) (a : Act) → WellFormed p → IsTyped p y c → step p c (record { thread = t; act = a }) ≡ Some d → IsTyped p y d
 act_keeps p y c d t ActLocal w typed h = local_keeps p y c d t w typed h

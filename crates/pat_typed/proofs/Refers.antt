@@ -1,16 +1,16 @@
 -- Who refers to a mailbox, and what is held of it where nobody does.
-use Rattle.std.proofs.Common.{◌≡◌, ℕ, ◌+◌, ◌<◌, Bool, true, false, cond, ◌||◌, nat_eq, if◌then◌else◌, List, [], ◌∷◌, ◌++◌, Option, Some, None, refl, sym, ap, ◌∙◌, subst, arith, map, IsTrue, IsFalse, ◌⊎◌, inl, inr, ⊎_elim}
+use Rattle.std.proofs.Common.{◌≡◌, ℕ, true, false, cond, ◌||◌, nat_eq, if◌then◌else◌, List, [], ◌∷◌, ◌++◌, Some, None, refl, sym, ap, ◌∙◌, map, suc}
 use Rattle.std.proofs.lemmas.Bool.{or_left, or_right, or_parts, eqb-true, eq-eqb}
 use Rattle.std.specs.List.{AllByRecursion, list_any}
 use Rattle.std.specs.Map.{lookup}
 use Rattle.pat_words.specs.Words.{Word, no_word, plus}
 use Rattle.pat_words.proofs.WordLaws.{plus_none}
 use Rattle.pat_model.specs.Values.{Value, Const, Name, Env, value_at}
-use Rattle.pat_model.specs.Programs.{Program, is_among}
+use Rattle.pat_model.specs.Programs.{Program, tag_at}
 use Rattle.pat_model.specs.Configs.{Control, Running, Returned, Frame, Thread, Message, is_name, env_refers, control_refers, thread_refers, message_refers}
 use Rattle.pat_typing.specs.Types.{TypeEnv}
 use Rattle.pat_typing.specs.Typings.{Typing}
-use Rattle.pat_typing.specs.Holdings.{Holding, receivers, Choice, held, control_held, frame_held, thread_held, threads_held, payload_held, message_held}
+use Rattle.pat_typing.specs.Holdings.{Holding, receivers, Choice, held, control_held, frame_held, thread_held, threads_held, payload_held, message_held, as_holding, wanted, declared_types}
 
 pub is_name_same : (a : ℕ) (v : Value) → is_name a v ≡ true → v ≡ Name a
 is_name_same a (Const c) h = cc
@@ -58,7 +58,7 @@ held_none g b (e ∷ env) h =
 pub control_none : (p : Program) (y : Typing) (b : ℕ) (k : Control) (fs : List Frame) → control_refers b k ≡ false → control_held p y b k fs ≡ None
 control_none p y b (Running n env) fs h = held_none (y.envs n) b env h
 control_none p y b (Returned v) fs h =
-    ap (λ t. if t then Rattle.pat_typing.specs.Holdings.as_holding (Rattle.pat_typing.specs.Holdings.wanted p y fs) else None) h
+    ap (λ t. if t then as_holding (wanted p y fs) else None) h
 
 pub frames_none : (y : Typing) (b : ℕ) (fs : List Frame) → list_any (λ f. env_refers b f.env) fs ≡ false → AllNone (map (frame_held y b) fs)
 frames_none y b [] h = tt
@@ -81,12 +81,10 @@ pub payload_none : (b : ℕ) (types : TypeEnv) (k : ℕ) (vs : List Value) → l
 payload_none b types k [] h = refl
 payload_none b types k (v ∷ vs) h =
     let p = or_parts (is_name b v) (list_any (is_name b) vs) h in
-    ap (λ t. if t then types k else payload_held b types (Rattle.std.proofs.Common.suc k) vs) p.0 ∙ payload_none b types (Rattle.std.proofs.Common.suc k) vs p.1
+    ap (λ t. if t then types k else payload_held b types (suc k) vs) p.0 ∙ payload_none b types (suc k) vs p.1
 
 pub messages_none : (p : Program) (interfaces : ℕ → ℕ) (b : ℕ) (ms : List Message) → list_any (message_refers b) ms ≡ false → AllNone (map (message_held p interfaces b) ms)
 messages_none p interfaces b [] h = tt
 messages_none p interfaces b (m ∷ ms) h =
     let q = or_parts (message_refers b m) (list_any (message_refers b) ms) h in
-    (payload_none b (Rattle.pat_typing.specs.Holdings.declared_types (Rattle.pat_model.specs.Programs.tag_at p (interfaces m.mailbox) m.tag)) 0 m.values q.0, messages_none p interfaces b ms q.1)
-
--- ---- a list of numbers and one number more
+    (payload_none b (declared_types (tag_at p (interfaces m.mailbox) m.tag)) 0 m.values q.0, messages_none p interfaces b ms q.1)

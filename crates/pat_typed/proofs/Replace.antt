@@ -1,9 +1,9 @@
 -- A step that replaces one thread, and changes nothing else but what is printed, keeps a configuration typed.
 use Rattle.std.proofs.Common.{◌≡◌, ℕ, true, nat_eq, ◌<◌, List, Some, refl, sym, ◌∙◌, subst, ⊎_elim}
 use Rattle.std.specs.List.{IsDistinct, list_any}
-use Rattle.pat_model.specs.Values.{Const, Kind, Plain, BaseUnit, UnitConst, Env}
+use Rattle.pat_model.specs.Values.{Const, Kind, Plain, BaseUnit, UnitConst, Env, ValueFits}
 use Rattle.pat_model.specs.Programs.{Program}
-use Rattle.pat_model.specs.Configs.{Control, Running, Returned, Frame, Thread, Message, Config, thread_at, with_thread, thread_refers, control_refers, pending}
+use Rattle.pat_model.specs.Configs.{Running, Thread, Config, thread_at, with_thread, thread_refers, control_refers, pending, env_refers}
 use Rattle.pat_model.specs.Steps.{returned_unit}
 use Rattle.pat_typing.specs.Types.{kind_of_type}
 use Rattle.pat_typing.specs.Typings.{Typing}
@@ -11,6 +11,7 @@ use Rattle.pat_typing.specs.Holdings.{wanted, holdings, Balanced}
 use Rattle.pat_typing.specs.Typed.{IsTyped, ThreadFits, ControlFits}
 use Rattle.pat_typed.proofs.Threads.{set_all, keys_of-set, lookup_any, set_any}
 use Rattle.pat_typed.proofs.Nodes.{fits_kind}
+use Rattle.std.proofs.lemmas.Bool.{or_right}
 
 -- the thread's new state refers to no more, and what the holdings become is balanced
 pub replace_keeps : (p : Program) (y : Typing) (c : Config) (t : ℕ) (s r : Thread) (typed : IsTyped p y c) → thread_at c t ≡ Some s → ThreadFits p y typed.interfaces r → ((a : ℕ) → thread_refers a r ≡ true → thread_refers a s ≡ true) → ((a : ℕ) → Balanced (holdings p y typed.interfaces c a) (pending c a) → Balanced (holdings p y typed.interfaces (with_thread c t r) a) (pending c a)) → IsTyped p y (with_thread c t r)
@@ -64,7 +65,7 @@ unit_fits p y interfaces s n env fits at unit =
     let control : ControlFits p y interfaces (Running n env) s.frames = subst (λ k. ControlFits p y interfaces k s.frames) at fits.control in
     let k : Plain BaseUnit ≡ kind_of_type (wanted p y s.frames) = sym unit ∙ fits_kind (y.results n) (wanted p y s.frames) control.1 in
     record {
-      control = subst (λ (x : Kind). Rattle.pat_model.specs.Values.ValueFits interfaces (Const UnitConst) x) k refl;
+      control = subst (λ (x : Kind). ValueFits interfaces (Const UnitConst) x) k refl;
       frames = fits.frames;
       control_keeps = λ b a h u. cc;
       frames_keep = fits.frames_keep;
@@ -72,4 +73,4 @@ unit_fits p y interfaces s n env fits at unit =
 
 -- and then it refers to no more than before
 pub unit_refers : (s : Thread) (a : ℕ) → thread_refers a (returned_unit s.frames) ≡ true → thread_refers a s ≡ true
-unit_refers s a h = Rattle.std.proofs.lemmas.Bool.or_right (control_refers a s.control) (list_any (λ f. Rattle.pat_model.specs.Configs.env_refers a f.env) s.frames) h
+unit_refers s a h = or_right (control_refers a s.control) (list_any (λ f. env_refers a f.env) s.frames) h

@@ -1,60 +1,29 @@
 -- A returned value goes to the frame on top, and a configuration stays typed.
-use Rattle.std.proofs.Common.{◌≡◌, ℕ, true, false, ◌||◌, nat_eq, if◌then◌else◌, List, [], ◌∷◌, ◌++◌, Option, Some, None, refl, sym, ap, ◌∙◌, subst, map, arith, ⊎_elim}
-use Rattle.std.specs.Prelude.{slice_get}
-use Rattle.std.proofs.lemmas.Bool.{or_cases, or_left, or_right, or_parts, eq-eqb, eqb-true, cases_Bool, cond-true, cond-false, false_from_ne_true}
+use Rattle.std.proofs.Common.{◌≡◌, ℕ, true, false, nat_eq, if◌then◌else◌, List, [], ◌∷◌, ◌++◌, Option, Some, None, refl, sym, ap, ◌∙◌, subst, map, ⊎_elim}
+use Rattle.std.proofs.lemmas.Bool.{or_cases, or_left, or_right, or_parts, eq-eqb, cases_Bool, cond-true, cond-false, false_from_ne_true}
 use Rattle.pat_words.specs.Words.{Word}
 use Rattle.pat_model.specs.Values.{Value, Name, Kind, Env, AscendsFrom, value_at, ValueFits}
 use Rattle.pat_model.specs.Programs.{Program, Core, Let, core_at, is_free, keep, is_among, option_list, KindAt}
-use Rattle.pat_model.specs.WellFormed.{WellFormed, CoreKinds, HasKind}
+use Rattle.pat_model.specs.WellFormed.{WellFormed, HasKind}
 use Rattle.pat_model.specs.Configs.{Returned, Frame, Thread, Config, thread_at, with_thread, is_name, env_refers, thread_refers, pending}
 use Rattle.pat_model.specs.Steps.{thread_of, resume, bind_name}
-use Rattle.pat_typing.specs.Types.{Returnable, TypeOf, BaseType, NameType, kind_of_type, mailbox_type, TypeEnv, PassesTo}
+use Rattle.pat_typing.specs.Types.{Returnable, TypeOf, BaseType, NameType, kind_of_type, mailbox_type, PassesTo}
 use Rattle.pat_typing.specs.Typings.{Typing, IsTyping, NamePasses, name_type}
 use Rattle.pat_typing.specs.Holdings.{Holding, held, as_holding, type_at, control_held, frame_held, message_held, wanted, holdings, Balanced}
 use Rattle.pat_typing.specs.Typed.{IsTyped, ThreadFits, PartFits, IsFrameOfLet, KeepsFrom, frames_refer}
-use Rattle.pat_typed.proofs.Balance.{refine_balance, passes_refine}
-use Rattle.pat_typed.proofs.ReceiveBalance.{drop_first, drop_second, passes_drop}
+use Rattle.pat_typed.proofs.Balance.{refine_balance, passes_refine, drop_second, drop_first}
 use Rattle.pat_typed.proofs.Threads.{lookup_all, split_thread}
 use Rattle.pat_typed.proofs.Replace.{replace_keeps}
 use Rattle.pat_typed.proofs.Nodes.{NodeFacts, node_facts, part_core}
 use Rattle.pat_typed.proofs.Refers.{is_name_same, name_is, held_none, value_refers}
-use Rattle.pat_typed.proofs.Envs.{value_at-bind, value_at-keep, kept, held_cases, HeldCases, by_variable, by_none, ascends_bind, ascends_filter}
+use Rattle.pat_typed.proofs.Envs.{value_at-keep, kept, held_cases, HeldCases, by_variable, by_none, ascends_filter}
 use Rattle.pat_typed.proofs.Named.{part_kind}
 use Rattle.pat_typed.proofs.Unused.{unused_drops}
 use Rattle.pat_typed.proofs.Narrow.{refers_value}
 use Rattle.pat_typed.proofs.Bound.{body_bound, body_among}
-use Rattle.pat_typed.proofs.Frames.{two_to_one, name_passes}
+use Rattle.pat_typed.proofs.Frames.{two_to_one, bind_name_at, ascends_name, only_name, name_here, name_kind}
 use Rattle.pat_steps.proofs.Lists.{clash}
-
--- the value that is bound, or the one that was there
-bind_name_at : (env : Env) (x : Option ℕ) (v : Value) (z : ℕ) → value_at (bind_name env x v) z ≡ (if is_among z (option_list x) then Some v else value_at env z)
-bind_name_at env None v z = refl
-bind_name_at env (Some x) v z =
-    value_at-bind env x v z
-    ∙ elim (nat_eq z x) as (λ t. (if t then Some v else value_at env z) ≡ (if t || false then Some v else value_at env z)) [ true ↦ refl | false ↦ refl ]
-
-ascends_name : (env : Env) (x : Option ℕ) (v : Value) → AscendsFrom 0 env → AscendsFrom 0 (bind_name env x v)
-ascends_name env None v a = a
-ascends_name env (Some x) v a = ascends_bind 0 env x v (omega arith) a
-
--- the only name
-only_name : (x : Option ℕ) (z w : ℕ) → is_among z (option_list x) ≡ true → is_among w (option_list x) ≡ true → z ≡ w
-only_name None z w h k = cc
-only_name (Some x) z w h k = eqb-true z x (one z h) ∙ sym (eqb-true w x (one w k))
-  where
-    one : (z : ℕ) → (nat_eq z x || false) ≡ true → nat_eq z x ≡ true
-    one z h = ⊎_elim (λ l. l) (λ r. cc) (or_cases (nat_eq z x) false h)
-
--- a name has the type of its let's
-name_here : (x : Option ℕ) (z : ℕ) (g : TypeEnv) → is_among z (option_list x) ≡ true → name_type x g ≡ g z
-name_here None z g h = cc
-name_here (Some x) z g h = ap g (sym (eqb-true z x (⊎_elim (λ l. l) (λ r. cc) (or_cases (nat_eq z x) false h))))
-
--- the kind of the name of a let is that of its bound part
-pub name_kind : (p : Program) (vars : List Kind) (k : Kind) (x : Option ℕ) (m b z : ℕ) → CoreKinds p vars k (Let x m b) → is_among z (option_list x) ≡ true → (j : Kind) × (slice_get vars z ≡ Some j) × HasKind p m j
-name_kind p vars k None m b z h a = cc
-name_kind p vars k (Some x) m b z h a =
-    (h.0, ap (slice_get vars) (eqb-true z x (⊎_elim (λ l. l) (λ r. cc) (or_cases (nat_eq z x) false a))) ∙ h.1, h.2)
+use Rattle.pat_typed.proofs.Passing.{passes_drop, name_passes}
 
 -- what a thread returns, as it is wanted
 module _ (p : Program) (y : Typing) (interfaces : ℕ → ℕ) (v : Value) (f : Frame) (fs : List Frame) (wf : WellFormed p) (typing : IsTyping p y) (fits : ThreadFits p y interfaces (thread_of (Returned v) (f ∷ fs))) where

@@ -15,32 +15,18 @@ use Rattle.pat_typing.specs.Types.{Usage, Second, MailboxType, mailbox_type, Typ
 use Rattle.pat_typing.specs.Typings.{Typing, payload_type, args_need, mailbox_args}
 use Rattle.pat_typing.specs.Holdings.{Holding, held, control_held, frame_held, payload_held, declared_types, message_held, holdings, Balanced}
 use Rattle.pat_typing.specs.Typed.{IsTyped, ThreadFits, ControlFits, PartFits, MessageFits, NumbersFit, names}
-use Rattle.pat_typed.proofs.Balance.{Refines, quiet, refine_balance, passes_refine, balance_front, balance_back, choice_one, choice_of_one}
+use Rattle.pat_typed.proofs.Balance.{Refines, quiet, refine_balance, passes_refine, balance_front, balance_back, choice_one, choice_of_one, nothing_more}
 use Rattle.pat_typed.proofs.Threads.{lookup_all, lookup_any, set_all, set_any, keys_of-set, split_thread}
-use Rattle.pat_steps.proofs.Inversion.{step_of}
+use Rattle.pat_steps.proofs.Inversion.{step_of, SendStep, send_step}
 use Rattle.pat_typed.proofs.Nodes.{NodeFacts, node_facts}
 use Rattle.pat_typed.proofs.Refers.{value_refers, payload_none}
-use Rattle.pat_typed.proofs.Messages.{pending_own, pending_other}
+use Rattle.pat_typed.proofs.Messages.{pending_own, pending_other, numbers_below, below_more}
 use Rattle.pat_typed.proofs.Envs.{held_cases, HeldCases, by_variable, by_none}
-use Rattle.pat_typed.proofs.Named.{payloads_typed, tag_payloads, target_same}
-use Rattle.pat_typed.proofs.Payloads.{distinct_head}
+use Rattle.pat_typed.proofs.Named.{payloads_typed, tag_payloads, target_same, env_fits}
+use Rattle.pat_typed.proofs.Payloads.{names_head}
 use Rattle.pat_typed.proofs.Replace.{unit_fits, unit_refers}
-use Rattle.pat_typed.proofs.Args.{all_fit, args_refer, names_apart, names_distinct}
-use Rattle.pat_typed.proofs.ValueKeeps.{env_fits}
-use Rattle.pat_typed.proofs.CallKeeps.{args_pass}
-use Rattle.pat_typed.proofs.SpawnKeeps.{nothing_more}
-use Rattle.pat_steps.proofs.Acts.{SendStep, send_step}
+use Rattle.pat_typed.proofs.Args.{all_fit, args_refer, names_apart, names_distinct, args_pass}
 use Rattle.pat_steps.proofs.Lists.{distinct_parts, distinct_join, distinct_snoc, any-append, all_snoc, nil_right, map_snoc}
-
--- ---- lists
-
-numbers_below : (n : ℕ) (ms : List Message) → AllByRecursion (λ m. m.number < n) ms → AllByRecursion (λ x. x < n) (map (λ m. m.number) ms)
-numbers_below n [] a = tt
-numbers_below n (m ∷ ms) a = (a.0, numbers_below n ms a.1)
-
-below_more : (n : ℕ) (ms : List Message) → AllByRecursion (λ m. m.number < n) ms → AllByRecursion (λ m. m.number < n + 1) ms
-below_more n [] a = tt
-below_more n (m ∷ ms) a = (let h = a.0 in omega arith, below_more n ms a.1)
 
 -- ---- balance
 
@@ -212,7 +198,7 @@ module _ (p : Program) (y : Typing) (c : Config) (t : ℕ) (s : Thread) (d : Con
   sent_is b = ap (λ o. payload_held b (declared_types o) 0 q.values) declared
 
   own_unsent : sent a ≡ None
-  own_unsent = payload_none a types 0 q.values (distinct_head a q.values message_distinct)
+  own_unsent = payload_none a types 0 q.values (names_head a q.values message_distinct)
 
   own_held : HeldCases (y.envs n) a q.env → held (y.envs n) a q.env ≡ y.envs n q.var
   own_held (by_variable z at is) = is ∙ ap (y.envs n) (part.different z q.var a at q.target)

@@ -5,25 +5,24 @@ use Rattle.std.specs.Map.{set_value, keys_of}
 use Rattle.std.proofs.lemmas.Bool.{or_cases, or_left, eq-eqb}
 use Rattle.pat_words.specs.Words.{Word}
 use Rattle.pat_model.specs.Values.{BaseUnit, Env}
-use Rattle.pat_model.specs.Programs.{Program, Spawn, is_free, keep, is_among}
+use Rattle.pat_model.specs.Programs.{Program, Spawn, is_free, keep, is_among, core_at, parts}
 use Rattle.pat_model.specs.WellFormed.{WellFormed}
-use Rattle.pat_model.specs.Configs.{Control, Running, Returned, Frame, Thread, Message, Config, thread_at, with_thread, env_refers, control_refers, thread_refers, message_refers, has_pending, pending}
+use Rattle.pat_model.specs.Configs.{Running, Thread, Config, thread_at, env_refers, control_refers, thread_refers, pending, is_name}
 use Rattle.pat_model.specs.Steps.{ActSpawn, step, redex, thread_of, at_node, returned_unit}
 use Rattle.pat_steps.proofs.FreeVars.{free_unfolds}
 use Rattle.pat_typing.specs.Types.{BaseType, TypeFits, PassesTo, returnable}
 use Rattle.pat_typing.specs.Typings.{Typing}
-use Rattle.pat_typing.specs.Holdings.{Holding, held, control_held, frame_held, thread_held, threads_held, message_held, holdings, Balanced}
+use Rattle.pat_typing.specs.Holdings.{Holding, held, control_held, frame_held, message_held, holdings, Balanced}
 use Rattle.pat_typing.specs.Typed.{IsTyped, ThreadFits, ControlFits, PartFits, NumbersFit}
-use Rattle.pat_typed.proofs.Balance.{Refines, quiet, active, refine_balance, balance_front, balance_back, passes_refine}
-use Rattle.pat_typed.proofs.Threads.{lookup_all, lookup_any, set_all, set_any, keys_of-set, split_thread}
-use Rattle.pat_steps.proofs.Inversion.{step_of}
-use Rattle.pat_typed.proofs.Nodes.{node_facts, part_core}
-use Rattle.pat_typed.proofs.Replace.{unit_fits}
+use Rattle.pat_typed.proofs.Balance.{Refines, quiet, active, refine_balance, balance_front, balance_back, passes_refine, nothing_more}
+use Rattle.pat_typed.proofs.Threads.{lookup_all, lookup_any, set_all, set_any, keys_of-set, split_thread, threads_append, key_append, keys_below, threads_weaken}
+use Rattle.pat_steps.proofs.Inversion.{step_of, spawn_step, after_spawn}
+use Rattle.pat_typed.proofs.Nodes.{node_facts, part_core, NodeFacts}
+use Rattle.pat_typed.proofs.Replace.{unit_fits, unit_refers}
 use Rattle.pat_typed.proofs.Unused.{unused_drops}
 use Rattle.pat_typed.proofs.Narrow.{keep_narrows, narrow_refers, narrow_passes}
-use Rattle.pat_typed.proofs.IfKeeps.{goes_on}
-use Rattle.pat_steps.proofs.Acts.{spawn_step, after_spawn}
 use Rattle.pat_steps.proofs.Lists.{distinct_snoc, any-append, all_snoc}
+use Rattle.pat_typed.proofs.Moves.{goes_on}
 
 -- the usage doesn't matter to what is held
 usage_free : (h k : Holding) (r s : Word) → Refines (returnable h ∷ []) r (k ∷ []) s → Refines (h ∷ []) r (k ∷ []) s
@@ -32,29 +31,8 @@ usage_free None k r s (active e f a b g) = active e f a b g
 usage_free (Some m) k r s (quiet a b f) = quiet a b f
 usage_free (Some m) k r s (active e f a b g) = active e f a b g
 
-threads_append : (p : Program) (y : Typing) (b : ℕ) (ts us : List (ℕ × Thread)) → threads_held p y b (ts ++ us) ≡ threads_held p y b ts ++ threads_held p y b us
-threads_append p y b [] us = refl
-threads_append p y b (e ∷ es) us =
-    ap (λ l. thread_held p y b e.1 ++ l) (threads_append p y b es us) ∙ sym (append_assoc (thread_held p y b e.1) (threads_held p y b es) (threads_held p y b us))
-
--- a place that holds nothing is added
-pub nothing_more : (r : Word) → Refines [] r (None ∷ []) r
-nothing_more r = quiet refl refl (λ w c. (w, Rattle.pat_typed.proofs.Balance.choice_of_one None w c, refl))
-
-key_append : (ts : List (ℕ × Thread)) (n : ℕ) (s : Thread) → keys_of (ts ++ (n, s) ∷ []) ≡ keys_of ts ++ n ∷ []
-key_append [] n s = refl
-key_append (e ∷ es) n s = ap (λ l. e.0 ∷ l) (key_append es n s)
-
-keys_below : (n : ℕ) (ts : List (ℕ × Thread)) → AllByRecursion (λ e. e.0 < n) ts → AllByRecursion (λ x. x < n) (keys_of ts)
-keys_below n [] a = tt
-keys_below n (e ∷ es) a = (a.0, keys_below n es a.1)
-
-threads_weaken : (n : ℕ) (ts : List (ℕ × Thread)) → AllByRecursion (λ e. e.0 < n) ts → AllByRecursion (λ e. e.0 < n + 1) ts
-threads_weaken n [] a = tt
-threads_weaken n (e ∷ es) a = (let h = a.0 in omega arith, threads_weaken n es a.1)
-
 -- a spawned thread stands with part of what a thread had, which returns nothing
-module _ (p : Program) (y : Typing) (c : Config) (t : ℕ) (s : Thread) (n m : ℕ) (env : Env) (wf : WellFormed p) (typed : IsTyped p y c) (there : thread_at c t ≡ Some s) (at : s.control ≡ Running n env) (term : Rattle.pat_model.specs.Programs.core_at p n ≡ Some (Spawn m)) where
+module _ (p : Program) (y : Typing) (c : Config) (t : ℕ) (s : Thread) (n m : ℕ) (env : Env) (wf : WellFormed p) (typed : IsTyped p y c) (there : thread_at c t ≡ Some s) (at : s.control ≡ Running n env) (term : core_at p n ≡ Some (Spawn m)) where
   abbrev made : Thread
   made = thread_of (at_node p m env) []
 
@@ -67,7 +45,7 @@ module _ (p : Program) (y : Typing) (c : Config) (t : ℕ) (s : Thread) (n m : �
   abbrev set : List (ℕ × Thread)
   set = set_value (nat_eq t) c.threads unit
 
-  facts : Rattle.pat_typed.proofs.Nodes.NodeFacts p y n (Spawn m)
+  facts : NodeFacts p y n (Spawn m)
   facts = node_facts p y n (Spawn m) wf typed.typing term
 
   old_fits : ThreadFits p y typed.interfaces s
@@ -76,7 +54,7 @@ module _ (p : Program) (y : Typing) (c : Config) (t : ℕ) (s : Thread) (n m : �
   control_fits : ControlFits p y typed.interfaces (Running n env) s.frames
   control_fits = subst (λ k. ControlFits p y typed.interfaces k s.frames) at old_fits.control
 
-  part : Rattle.pat_model.specs.Programs.is_among m (Rattle.pat_model.specs.Programs.parts (Spawn m)) ≡ true
+  part : is_among m (parts (Spawn m)) ≡ true
   part = or_left (nat_eq m m) false (eq-eqb m m refl)
 
   made_part : PartFits p typed.interfaces m [] (keep p m env)
@@ -103,7 +81,7 @@ module _ (p : Program) (y : Typing) (c : Config) (t : ℕ) (s : Thread) (n m : �
   threads_refer a h =
       ⊎_elim
       (λ l. ⊎_elim
-      (λ u. lookup_any (thread_refers a) c.threads t s there (Rattle.pat_typed.proofs.Replace.unit_refers s a u))
+      (λ u. lookup_any (thread_refers a) c.threads t s there (unit_refers s a u))
       (λ o. o)
       (set_any (thread_refers a) c.threads t unit l))
       (λ r. lookup_any (thread_refers a) c.threads t s there (made_refers a (⊎_elim (λ x. x) (λ x. cc) (or_cases (thread_refers a made) false r))))
@@ -133,7 +111,7 @@ module _ (p : Program) (y : Typing) (c : Config) (t : ℕ) (s : Thread) (n m : �
   held_returnable : (b : ℕ) (env : Env) → held (λ x. returnable (y.envs n x)) b env ≡ returnable (held (y.envs n) b env)
   held_returnable b [] = refl
   held_returnable b (e ∷ env) =
-      elim (Rattle.pat_model.specs.Configs.is_name b e.1) as (λ v. (if v then returnable (y.envs n e.0) else held (λ x. returnable (y.envs n x)) b env) ≡ returnable (if v then y.envs n e.0 else held (y.envs n) b env)) [
+      elim (is_name b e.1) as (λ v. (if v then returnable (y.envs n e.0) else held (λ x. returnable (y.envs n x)) b env) ≡ returnable (if v then y.envs n e.0 else held (y.envs n) b env)) [
         | true ↦ refl
         | false ↦ held_returnable b env
       ]

@@ -1,9 +1,8 @@
 -- The start of a typed program is a typed configuration.
 use Rattle.std.proofs.Common.{◌≡◌, ℕ, nat_eq, [], length, Some, refl, sym, ap, ◌∙◌, subst, arith}
-use Rattle.std.specs.List.{AllByRecursion, IsDistinct, list_any}
-use Rattle.std.specs.Map.{keys_of}
+use Rattle.std.specs.List.{IsDistinct}
 use Rattle.pat_model.specs.Values.{BaseUnit}
-use Rattle.pat_model.specs.Programs.{Program, Function, BaseSort, function_at, is_among, is_free}
+use Rattle.pat_model.specs.Programs.{Program, Function, BaseSort, function_at, Node}
 use Rattle.pat_model.specs.WellFormed.{WellFormed, FunctionFits}
 use Rattle.pat_model.specs.Configs.{Running, start, start_of}
 use Rattle.pat_model.specs.Steps.{thread_of}
@@ -11,6 +10,7 @@ use Rattle.pat_typing.specs.Types.{BaseType, TypeFits}
 use Rattle.pat_typing.specs.Typings.{Typing, IsTyping, FunctionTyped, result_of}
 use Rattle.pat_typing.specs.Typed.{IsTyped, ThreadFits, PartFits}
 use Rattle.pat_steps.proofs.Lists.{one_distinct}
+use Rattle.std.specs.Prelude.{option_map}
 
 none_distinct : IsDistinct nat_eq []
 unfolding IsDistinct
@@ -19,7 +19,7 @@ none_distinct = tt
 -- main's body has no free variable
 main_part : (p : Program) (g : Function) (f : ℕ) → FunctionFits p f g → g.params ≡ [] → (interfaces : ℕ → ℕ) → PartFits p interfaces g.body [] []
 main_part p g f fits none interfaces = record {
-  there = (fits.body.0.core, ap (λ o. Rattle.std.specs.Prelude.option_map (λ (d : Rattle.pat_model.specs.Programs.Node). d.core) o) fits.body.1);
+  there = (fits.body.0.core, ap (λ o. option_map (λ (d : Node). d.core) o) fits.body.1);
   keys = tt;
   values = λ x free out.
       let below = fits.in_scope x free in

@@ -1,14 +1,15 @@
 -- A thread of a configuration is replaced by another.
-use Rattle.std.proofs.Common.{◌≡◌, ℕ, Bool, true, false, cond, ◌||◌, nat_eq, List, [], ◌∷◌, ◌++◌, Some, refl, sym, ap, ◌∙◌, subst, append_assoc, ◌⊎◌, inl, inr, ⊎_elim}
-use Rattle.std.proofs.lemmas.Bool.{or_cases, or_left, or_right}
-use Rattle.std.specs.List.{AllByRecursion, list_any}
-use Rattle.std.specs.Map.{lookup, set_value, keys_of}
+use Rattle.std.proofs.Common.{◌≡◌, ℕ, Bool, true, false, cond, ◌||◌, nat_eq, List, [], ◌∷◌, ◌++◌, Some, refl, sym, ap, ◌∙◌, subst, append_assoc, ◌⊎◌, inl, inr, ⊎_elim, ◌+◌, ◌<◌, arith, ◌&&◌, not}
+use Rattle.std.proofs.lemmas.Bool.{or_cases, or_left, or_right, eqb-false, ne_eqb, and_from, eqb-true, and_parts}
+use Rattle.std.specs.List.{AllByRecursion, list_any, IsDistinct}
+use Rattle.std.specs.Map.{lookup, set_value, keys_of, remove_entry}
 use Rattle.pat_words.specs.Words.{Word}
 use Rattle.pat_model.specs.Programs.{Program}
 use Rattle.pat_model.specs.Configs.{Thread}
 use Rattle.pat_typing.specs.Typings.{Typing}
 use Rattle.pat_typing.specs.Holdings.{Holding, thread_held, threads_held, Balanced}
 use Rattle.pat_typed.proofs.Balance.{Refines, refine_balance, balance_front, balance_back}
+use Rattle.pat_steps.proofs.Lists.{distinct_parts, distinct_join}
 
 -- what holds of each thread holds of the one with this number
 pub lookup_all : (P : Thread → Type 0) (ts : List (ℕ × Thread)) (t : ℕ) (s : Thread) → AllByRecursion (λ e. P e.1) ts → lookup (nat_eq t) ts ≡ Some s → P s
@@ -99,3 +100,128 @@ replace_one before fs after ms h k r s ref b =
     let old = balance_front before h rest r (subst (λ l. Balanced l r) (at h) b) in
     let new = refine_balance (h ∷ []) (k ∷ []) (before ++ rest) r s ref old in
     subst (λ l. Balanced l s) (sym (at k)) (balance_back before k rest s new)
+
+-- ---- a thread is taken out
+
+pub remove_all : (P : ℕ × Thread → Type 0) (ts : List (ℕ × Thread)) (t : ℕ) → AllByRecursion P ts → AllByRecursion P (remove_entry (nat_eq t) ts)
+remove_all P [] t a = a
+remove_all P (e ∷ es) t a =
+    elim (nat_eq t e.0) as (λ v. AllByRecursion P (cond v es (e ∷ remove_entry (nat_eq t) es))) [
+      | true ↦ a.1
+      | false ↦ (a.0, remove_all P es t a.1)
+    ]
+
+pub remove_any : (f : Thread → Bool) (ts : List (ℕ × Thread)) (t : ℕ) → list_any (λ e. f e.1) (remove_entry (nat_eq t) ts) ≡ true → list_any (λ e. f e.1) ts ≡ true
+remove_any f [] t h = h
+remove_any f (e ∷ es) t h =
+    (elim (nat_eq t e.0) as (λ v. list_any (λ d. f d.1) (cond v es (e ∷ remove_entry (nat_eq t) es)) ≡ true → (f e.1 || list_any (λ d. f d.1) es) ≡ true) [
+      | true ↦ λ k. or_right (f e.1) (list_any (λ d. f d.1) es) k
+      | false ↦ λ k. ⊎_elim
+          (λ here. or_left (f e.1) (list_any (λ d. f d.1) es) here)
+          (λ rest. or_right (f e.1) (list_any (λ d. f d.1) es) (remove_any f es t rest))
+          (or_cases (f e.1) (list_any (λ d. f d.1) (remove_entry (nat_eq t) es)) k)
+    ]) h
+
+pub apart_remove : (n : ℕ) (ts : List (ℕ × Thread)) (t : ℕ) → AllByRecursion (λ k. nat_eq n k ≡ false) (keys_of ts) → AllByRecursion (λ k. nat_eq n k ≡ false) (keys_of (remove_entry (nat_eq t) ts))
+apart_remove n [] t a = a
+apart_remove n (e ∷ es) t a =
+    elim (nat_eq t e.0) as (λ v. AllByRecursion (λ k. nat_eq n k ≡ false) (keys_of (cond v es (e ∷ remove_entry (nat_eq t) es)))) [
+      | true ↦ a.1
+      | false ↦ (a.0, apart_remove n es t a.1)
+    ]
+
+pub remove_distinct : (ts : List (ℕ × Thread)) (t : ℕ) → IsDistinct nat_eq (keys_of ts) → IsDistinct nat_eq (keys_of (remove_entry (nat_eq t) ts))
+remove_distinct [] t d = d
+remove_distinct (e ∷ es) t d =
+    let q = distinct_parts e.0 (keys_of es) d in
+    elim (nat_eq t e.0) as (λ v. IsDistinct nat_eq (keys_of (cond v es (e ∷ remove_entry (nat_eq t) es)))) [
+      | true ↦ q.1
+      | false ↦ distinct_join e.0 (keys_of (remove_entry (nat_eq t) es)) (apart_remove e.0 es t q.0) (remove_distinct es t q.1)
+    ]
+
+-- the holdings in a thread stand between those of others, which stay where it is taken out
+pub record Cut (p : Program) (y : Typing) (b : ℕ) (s : Thread) (now left : List Holding) : Type 0 where
+  pub before : List Holding
+  pub after : List Holding
+  pub now_is : now ≡ before ++ (thread_held p y b s ++ after)
+  pub left_is : left ≡ before ++ after
+
+pub cut_thread : (p : Program) (y : Typing) (b t : ℕ) (s : Thread) (ts : List (ℕ × Thread)) → lookup (nat_eq t) ts ≡ Some s → Cut p y b s (threads_held p y b ts) (threads_held p y b (remove_entry (nat_eq t) ts))
+cut_thread p y b t s [] h = cc
+cut_thread p y b t s (e ∷ es) h =
+    (elim (nat_eq t e.0) as (λ v. cond v (Some e.1) (lookup (nat_eq t) es) ≡ Some s → Cut p y b s (thread_held p y b e.1 ++ threads_held p y b es) (threads_held p y b (cond v es (e ∷ remove_entry (nat_eq t) es)))) [
+      | true ↦ λ k.
+          let same : e.1 ≡ s = cc in
+          record { before = []; after = threads_held p y b es; now_is = ap (λ x. thread_held p y b x ++ threads_held p y b es) same; left_is = refl }
+      | false ↦ λ k.
+          let rest = cut_thread p y b t s es k in
+          record {
+            before = thread_held p y b e.1 ++ rest.before;
+            after = rest.after;
+            now_is =
+                ap (λ l. thread_held p y b e.1 ++ l) rest.now_is
+                ∙ sym (append_assoc (thread_held p y b e.1) rest.before (thread_held p y b s ++ rest.after));
+            left_is =
+                ap (λ l. thread_held p y b e.1 ++ l) rest.left_is
+                ∙ sym (append_assoc (thread_held p y b e.1) rest.before rest.after);
+          }
+    ]) h
+
+-- ---- a thread at the end
+
+pub threads_append : (p : Program) (y : Typing) (b : ℕ) (ts us : List (ℕ × Thread)) → threads_held p y b (ts ++ us) ≡ threads_held p y b ts ++ threads_held p y b us
+threads_append p y b [] us = refl
+threads_append p y b (e ∷ es) us =
+    ap (λ l. thread_held p y b e.1 ++ l) (threads_append p y b es us) ∙ sym (append_assoc (thread_held p y b e.1) (threads_held p y b es) (threads_held p y b us))
+
+pub key_append : (ts : List (ℕ × Thread)) (n : ℕ) (s : Thread) → keys_of (ts ++ (n, s) ∷ []) ≡ keys_of ts ++ n ∷ []
+key_append [] n s = refl
+key_append (e ∷ es) n s = ap (λ l. e.0 ∷ l) (key_append es n s)
+
+pub keys_below : (n : ℕ) (ts : List (ℕ × Thread)) → AllByRecursion (λ e. e.0 < n) ts → AllByRecursion (λ x. x < n) (keys_of ts)
+keys_below n [] a = tt
+keys_below n (e ∷ es) a = (a.0, keys_below n es a.1)
+
+pub threads_weaken : (n : ℕ) (ts : List (ℕ × Thread)) → AllByRecursion (λ e. e.0 < n) ts → AllByRecursion (λ e. e.0 < n + 1) ts
+threads_weaken n [] a = tt
+threads_weaken n (e ∷ es) a = (let h = a.0 in omega arith, threads_weaken n es a.1)
+
+-- ---- the other threads
+
+-- a test that passes at some thread once one is replaced passes there or at another one
+pub apart_any : (f : Thread → Bool) (ts : List (ℕ × Thread)) (t : ℕ) → AllByRecursion (λ k. nat_eq t k ≡ false) (keys_of ts) → list_any (λ e. f e.1) ts ≡ true → list_any (λ e. not (nat_eq e.0 t) && f e.1) ts ≡ true
+apart_any f [] t a h = h
+apart_any f (e ∷ es) t a h =
+    let off : nat_eq e.0 t ≡ false = ne_eqb e.0 t (λ q. eqb-false t e.0 a.0 (sym q)) in
+    ⊎_elim
+    (λ l. or_left (not (nat_eq e.0 t) && f e.1) (list_any (λ e. not (nat_eq e.0 t) && f e.1) es) (and_from (not (nat_eq e.0 t)) (f e.1) (ap not off) l))
+    (λ r. or_right (not (nat_eq e.0 t) && f e.1) (list_any (λ e. not (nat_eq e.0 t) && f e.1) es) (apart_any f es t a.1 r))
+    (or_cases (f e.1) (list_any (λ e. f e.1) es) h)
+
+pub set_other : (f : Thread → Bool) (ts : List (ℕ × Thread)) (t : ℕ) (s : Thread) → IsDistinct nat_eq (keys_of ts) → list_any (λ e. f e.1) (set_value (nat_eq t) ts s) ≡ true → (f s ≡ true) ⊎ (list_any (λ e. not (nat_eq e.0 t) && f e.1) ts ≡ true)
+set_other f [] t s d h = inr h
+set_other f (e ∷ es) t s d h =
+    let q = distinct_parts e.0 (keys_of es) d in
+    let first = not (nat_eq e.0 t) && f e.1 in
+    let others = list_any (λ e. not (nat_eq e.0 t) && f e.1) es in
+    (elim (nat_eq t e.0) as (λ v. nat_eq t e.0 ≡ v → list_any (λ d. f d.1) (cond v ((e.0, s) ∷ es) (e ∷ set_value (nat_eq t) es s)) ≡ true → (f s ≡ true) ⊎ ((first || others) ≡ true)) [
+      | true ↦ λ w k.
+          let same : t ≡ e.0 = eqb-true t e.0 w in
+          ⊎_elim (λ here. inl here)
+          (λ rest. inr (or_right first others (apart_any f es t (subst (λ x. AllByRecursion (λ k. nat_eq x k ≡ false) (keys_of es)) (sym same) q.0) rest)))
+          (or_cases (f s) (list_any (λ d. f d.1) es) k)
+      | false ↦ λ w k.
+          let off : nat_eq e.0 t ≡ false = ne_eqb e.0 t (λ x. eqb-false t e.0 w (sym x)) in
+          ⊎_elim
+          (λ here. inr (or_left first others (and_from (not (nat_eq e.0 t)) (f e.1) (ap not off) here)))
+          (λ rest. ⊎_elim (λ x. inl x) (λ x. inr (or_right first others x)) (set_other f es t s q.1 rest))
+          (or_cases (f e.1) (list_any (λ d. f d.1) (set_value (nat_eq t) es s)) k)
+    ]) refl h
+
+pub other_any : (f : Thread → Bool) (ts : List (ℕ × Thread)) (t : ℕ) → list_any (λ e. not (nat_eq e.0 t) && f e.1) ts ≡ true → list_any (λ e. f e.1) ts ≡ true
+other_any f [] t h = h
+other_any f (e ∷ es) t h =
+    ⊎_elim
+    (λ l. or_left (f e.1) (list_any (λ e. f e.1) es) (and_parts (not (nat_eq e.0 t)) (f e.1) l).1)
+    (λ r. or_right (f e.1) (list_any (λ e. f e.1) es) (other_any f es t r))
+    (or_cases (not (nat_eq e.0 t) && f e.1) (list_any (λ e. not (nat_eq e.0 t) && f e.1) es) h)

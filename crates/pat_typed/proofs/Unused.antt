@@ -1,11 +1,11 @@
 -- A variable that isn't free in a node may be dropped there.
 use Rattle.std.proofs.Common.{◌≡◌, ℕ, zero, suc, ◌+◌, ◌≤◌, true, false, ◌||◌, ◌&&◌, not, nat_eq, if◌then◌else◌, List, [], ◌∷◌, ◌++◌, length, Option, Some, None, refl, sym, ap, ◌∙◌, subst, arith, ⊎_elim}
-use Rattle.std.specs.Prelude.{is_some, flat_map}
-use Rattle.std.specs.List.{AllByRecursion, list_any}
+use Rattle.std.specs.Prelude.{is_some, flat_map, option_map}
+use Rattle.std.specs.List.{list_any}
 use Rattle.std.proofs.lemmas.Bool.{eq-eqb, cond-false, or_parts, or_left, or_right, and_cases, false_from_ne_true}
 use Rattle.std.proofs.lemmas.Option.{slice_get_past}
 use Rattle.pat_words.specs.Words.{no_word}
-use Rattle.pat_words.specs.Patterns.{Pat, Prod, In}
+use Rattle.pat_words.specs.Patterns.{Pat, Tag, residual}
 use Rattle.pat_words.proofs.WordLaws.{plus_none}
 use Rattle.pat_model.specs.Values.{Expr, VarExpr, Literal, OpExpr, occurs}
 use Rattle.pat_model.specs.Programs.{Program, Polarity, Sending, Receiving, TagDecl, Clause, Core, Val, Let, Call, If, Print, New, Send, Spawn, Guard, Node, node_at, core_at, parts, binders, option_list, clause_bodies, clause_binders, is_among, is_free, clause_uses, core_uses}
@@ -13,11 +13,11 @@ use Rattle.pat_model.specs.WellFormed.{WellFormed}
 use Rattle.pat_steps.proofs.FreeVars.{free_unfolds, part_after}
 use Rattle.pat_typing.specs.Types.{Returnable, Second, MailboxType, mailbox_type, TypeOf, BaseType, NameType, TypeEnv, PassesTo, DropsAs, Fits, SplitsTo, EnvSplits, PatternJoins, without, returnable}
 use Rattle.pat_typing.specs.Typings.{Typing, IsTyping, CoreTyped, ValueTyped, GuardTyped, clause_env, with_payloads, with_option, args_need, without_name, payload_type, param_type}
-use Rattle.pat_typed.proofs.Nodes.{NodeFacts, node_facts}
+use Rattle.pat_typed.proofs.Nodes.{NodeFacts, node_facts, part_core}
 use Rattle.pat_typed.proofs.Payloads.{payloads_off}
-use Rattle.pat_typed.proofs.ReceiveBalance.{passes_drop}
 use Rattle.pat_typing.specs.Holdings.{Holding}
 use Rattle.pat_steps.proofs.Lists.{clash, ne_turn, any_first, any_last}
+use Rattle.pat_typed.proofs.Passing.{passes_drop}
 
 -- ---- each kind of condition
 
@@ -71,7 +71,7 @@ clause_env_off : (g : TypeEnv) (x i : ℕ) (e : Pat) (decl : TagDecl) (r : Claus
 clause_env_off g x i e decl r z out apart =
     let off_from : nat_eq z r.from ≡ false = false_from_ne_true (nat_eq z r.from) (λ q. clash (any_last (nat_eq z) r.vars (r.from ∷ []) (or_left (nat_eq z r.from) false q)) out) in
     let off_vars : is_among z r.vars ≡ false = false_from_ne_true (is_among z r.vars) (λ q. clash (any_first (nat_eq z) r.vars (r.from ∷ []) q) out) in
-    cond-false (nat_eq r.from z) (Some (mailbox_type i Receiving (Rattle.pat_words.specs.Patterns.residual e r.tag) Returnable)) (with_payloads (payload_type decl) 0 r.vars (without x g) z) (ne_turn z r.from off_from)
+    cond-false (nat_eq r.from z) (Some (mailbox_type i Receiving (residual e r.tag) Returnable)) (with_payloads (payload_type decl) 0 r.vars (without x g) z) (ne_turn z r.from off_from)
     ∙ payloads_off (payload_type decl) 0 r.vars (without x g) z off_vars
     ∙ cond-false (nat_eq x z) None (g z) apart
 
@@ -129,7 +129,7 @@ core_drops p y z n (Call f args) h unbound off ih =
 core_drops p y z n (Send x m args) h unbound off ih =
     let q = or_parts (nat_eq z x) (list_any (occurs z) args) off in
     subst (λ o. PassesTo (y.envs n z) o)
-    (cond-false (nat_eq x z) (Some (mailbox_type h.0 Sending (Rattle.pat_words.specs.Patterns.Tag m) Second)) (args_need (payload_type h.1) 0 args z) (ne_turn z x q.0) ∙ args_off (payload_type h.1) 0 args z q.1)
+    (cond-false (nat_eq x z) (Some (mailbox_type h.0 Sending (Tag m) Second)) (args_need (payload_type h.1) 0 args z) (ne_turn z x q.0) ∙ args_off (payload_type h.1) 0 args z q.1)
     (h.4 z)
 core_drops p y z n (If e m b) h unbound off ih =
     let q = or_parts (occurs z e) (is_free p z m || is_free p z b) off in
@@ -158,7 +158,7 @@ some_unbound p y z n core facts h = go (y.envs n z) refl h
 drops_from : (p : Program) (y : Typing) (z : ℕ) → WellFormed p → IsTyping p y → (d n : ℕ) → length p.nodes ≤ d + n → (core : Core) → core_at p n ≡ Some core → is_free p z n ≡ false → PassesTo (y.envs n z) None
 drops_from p y z w i zero n long core at off =
     let past : node_at p n ≡ None = slice_get_past p.nodes n (omega arith) in
-    let none : core_at p n ≡ None = ap (λ o. Rattle.std.specs.Prelude.option_map (λ (d : Node). d.core) o) past in
+    let none : core_at p n ≡ None = ap (λ o. option_map (λ (d : Node). d.core) o) past in
     absurd (nowhere (sym none ∙ at))
   where
     nowhere : None ≡ Some core → ⊥
@@ -168,7 +168,7 @@ drops_from p y z w i (suc d) n long core at off =
     core_drops p y z n core facts.term (some_unbound p y z n core facts) (sym (free_unfolds p z n core w at) ∙ off)
     (λ k a off_k.
     let after = part_after p n core (node_at p n) w refl at k a in
-    let part = Rattle.pat_typed.proofs.Nodes.part_core p n core w at k a in
+    let part = part_core p n core w at k a in
     drops_from p y z w i d k (omega arith) part.0 part.1 off_k)
 
 pub unused_drops : (p : Program) (y : Typing) → WellFormed p → IsTyping p y → (z n : ℕ) (core : Core) → core_at p n ≡ Some core → is_free p z n ≡ false → PassesTo (y.envs n z) None

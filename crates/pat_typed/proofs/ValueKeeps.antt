@@ -1,81 +1,34 @@
 -- A term that is an expression may give way to its value; and a value goes to the frame on top.
 use Rattle.std.proofs.Common.{◌≡◌, ℕ, Bool, true, false, cond, nat_eq, if◌then◌else◌, List, [], ◌∷◌, Some, None, refl, sym, ap, ◌∙◌, subst, ⊎_elim}
-use Rattle.std.specs.Prelude.{slice_get}
 use Rattle.std.specs.Map.{lookup, set_value}
-use Rattle.std.proofs.lemmas.Bool.{eq-eqb, eqb-true, eqb-false, ne_eqb, cases_Bool, cond-true, cond-false}
-use Rattle.pat_words.specs.Patterns.{Pat}
-use Rattle.pat_model.specs.Values.{Value, Name, Kind, Expr, VarExpr, Literal, OpExpr, Env, value_at, eval, ValueFits}
-use Rattle.pat_model.specs.Programs.{Program, Polarity, Sending, Receiving, Core, Val}
+use Rattle.std.proofs.lemmas.Bool.{eq-eqb, ne_eqb, cases_Bool, cond-true, cond-false, false_from_ne_true}
+use Rattle.pat_model.specs.Values.{Value, Name, Expr, VarExpr, Literal, OpExpr, Env, value_at, eval, ValueFits}
+use Rattle.pat_model.specs.Programs.{Program, Val}
 use Rattle.pat_model.specs.WellFormed.{WellFormed}
 use Rattle.pat_model.specs.Configs.{Running, Returned, Frame, Thread, Config, thread_at, with_thread, is_name, control_refers}
 use Rattle.pat_model.specs.Steps.{thread_of, resume}
-use Rattle.pat_typing.specs.Types.{Usage, Second, Returnable, MailboxType, TypeOf, BaseType, NameType, kind_of_type, mailbox_type, UsageFits, PatternFits, Fits, TypeFits, TypeEnv, PassesTo}
+use Rattle.pat_typing.specs.Types.{Returnable, TypeOf, BaseType, NameType, kind_of_type, mailbox_type, TypeEnv, PassesTo}
 use Rattle.pat_typing.specs.Typings.{Typing, ValueTyped}
 use Rattle.pat_typing.specs.Holdings.{Holding, held, as_holding, control_held, wanted}
-use Rattle.pat_typing.specs.Typed.{IsTyped, ThreadFits, ControlFits, PartFits}
+use Rattle.pat_typing.specs.Typed.{IsTyped, ThreadFits, ControlFits}
 use Rattle.pat_typed.proofs.Threads.{lookup_all}
 use Rattle.pat_steps.proofs.Inversion.{StandsAt}
 use Rattle.pat_typed.proofs.Nodes.{NodeFacts, node_facts, fits_kind}
 use Rattle.pat_typed.proofs.Refers.{is_name_same, name_is, value_refers}
 use Rattle.pat_typed.proofs.Envs.{held_cases, HeldCases, by_variable, by_none}
-use Rattle.pat_typed.proofs.Named.{kind_same}
-use Rattle.pat_typed.proofs.ReceiveBalance.{passes_drop}
+use Rattle.pat_typed.proofs.Named.{env_fits}
 use Rattle.pat_typed.proofs.Moves.{Move, move_keeps}
 use Rattle.pat_typed.proofs.Args.{eval_fits, eval_name}
 use Rattle.pat_typed.proofs.ReturnKeeps.{return_keeps}
-
--- ---- what passes twice passes
-
-usage_twice : (a b c : Usage) → UsageFits a b → UsageFits b c → UsageFits a c
-usage_twice Second Second c u v = v
-usage_twice Second Returnable c u v = absurd u
-usage_twice Returnable b Second u v = tt
-usage_twice Returnable b Returnable u v = tt
-
-pattern_twice : (q r : Polarity) (e f g : Pat) → q ≡ r → PatternFits q e f → PatternFits r f g → PatternFits r e g
-pattern_twice Sending Sending e f g same h k = λ w i. h w (k w i)
-pattern_twice Receiving Receiving e f g same h k = λ w i. k w (h w i)
-pattern_twice Sending Receiving e f g same h k = cc
-pattern_twice Receiving Sending e f g same h k = cc
-
-pub fits_twice : (a b c : MailboxType) → Fits a b → Fits b c → Fits a c
-fits_twice a b c h k = record {
-  interface = h.interface ∙ k.interface;
-  polarity = h.polarity ∙ k.polarity;
-  usage = usage_twice a.usage b.usage c.usage h.usage k.usage;
-  pattern = pattern_twice b.polarity c.polarity a.pattern b.pattern c.pattern k.polarity h.pattern k.pattern;
-}
-
-pub passes_twice : (a b c : Holding) → PassesTo a b → PassesTo b c → PassesTo a c
-passes_twice None None c h k = k
-passes_twice None (Some b) c h k = absurd h
-passes_twice (Some a) None None h k = h
-passes_twice (Some a) None (Some c) h k = absurd k
-passes_twice (Some a) (Some b) None h k = passes_drop (Some a) (Some b) h k
-passes_twice (Some a) (Some b) (Some c) h k = fits_twice a b c h k
-
--- a type that fits another passes to it
-type_passes : (s t : TypeOf) → TypeFits s t → PassesTo (as_holding s) (as_holding t)
-type_passes (BaseType b) (BaseType c) h = tt
-type_passes (NameType i q e) (NameType j r f) h = h
-type_passes (BaseType b) (NameType j r f) h = absurd h
-type_passes (NameType i q e) (BaseType c) h = absurd h
+use Rattle.pat_typed.proofs.Passing.{passes_twice, type_passes}
 
 -- ---- a value in place of its expression
-
--- a variable's value is of the variable's kind
-pub env_fits : (p : Program) (y : Typing) (interfaces : ℕ → ℕ) (n : ℕ) (core : Core) (env : Env) (facts : NodeFacts p y n core) → PartFits p interfaces n [] env → (x : ℕ) (v : Value) (k : Kind) → value_at env x ≡ Some v → slice_get facts.fits.function.vars x ≡ Some k → ValueFits interfaces v k
-env_fits p y f n core env facts part x v k at is =
-    let h = part.kinds x v at in
-    let e : Some h.0 ≡ Some k = sym (kind_same p y n x h.0 core facts h.1) ∙ is in
-    let same : h.0 ≡ k = cc in
-    subst (λ w. ValueFits f v w) same h.2
 
 -- what is held of a mailbox passes to the type of the expression
 value_held : (t : TypeOf) (e : Expr) (g : TypeEnv) (env : Env) (v : Value) (b : ℕ) → ValueTyped t e g → eval env e ≡ Some v → ((x z : ℕ) → value_at env x ≡ Some (Name b) → value_at env z ≡ Some (Name b) → x ≡ z) → HeldCases g b env → PassesTo (held g b env) (if is_name b v then as_holding t else None)
 value_held t e g env v b h at apart (by_none none is) =
     let off : is_name b v ≡ false =
-    Rattle.std.proofs.lemmas.Bool.false_from_ne_true (is_name b v) (λ on. let n = eval_name env e b (at ∙ ap (λ u. Some u) (is_name_same b v on)) in none n.0 n.2) in
+    false_from_ne_true (is_name b v) (λ on. let n = eval_name env e b (at ∙ ap (λ u. Some u) (is_name_same b v on)) in none n.0 n.2) in
     subst (λ w. PassesTo w (if is_name b v then as_holding t else None)) (sym is)
     (subst (λ w. PassesTo None w) (sym (cond-false (is_name b v) (as_holding t) None off)) tt)
 value_held (BaseType c) e g env v b h at apart (by_variable z zat is) =

@@ -1,21 +1,20 @@
 -- The part of a thread that goes on after a receive fits its node.
 use Rattle.std.proofs.Common.{◌≡◌, ℕ, suc, Bool, true, false, cond, ◌||◌, nat_eq, if◌then◌else◌, List, [], ◌∷◌, ◌++◌, length, map, Option, Some, None, refl, sym, ap, ◌∙◌, subst, arith}
 use Rattle.std.specs.Prelude.{is_some, slice_get, option_and_then}
-use Rattle.std.specs.List.{AllByRecursion, IsDistinct, list_any}
-use Rattle.std.specs.Map.{lookup}
+use Rattle.std.specs.List.{AllByRecursion, IsDistinct, list_any, flat_map}
 use Rattle.std.proofs.lemmas.Bool.{eqb-true, eq-eqb, cond-true, cond-false, or_parts, or_left, or_right}
 use Rattle.pat_model.specs.Values.{Value, Const, Name, Kind, Plain, MailboxOf, Env, value_at, bind, bind_all, ValueFits, ValuesFit}
-use Rattle.pat_model.specs.Programs.{Program, Sort, BaseSort, MailboxSort, Function, TagDecl, Clause, Node, kind_of, is_among, clause_binders, is_free, keep}
+use Rattle.pat_model.specs.Programs.{Sort, BaseSort, MailboxSort, TagDecl, Clause, kind_of, is_among, clause_binders, clause_bodies}
 use Rattle.pat_model.specs.WellFormed.{VarsHaveKinds}
 use Rattle.pat_model.specs.Configs.{is_name}
 use Rattle.pat_model.specs.Steps.{clause_for}
-use Rattle.pat_typing.specs.Types.{Usage, Second, Returnable, MailboxType, TypeEnv, PassesTo, UsageFits}
+use Rattle.pat_typing.specs.Types.{Second, MailboxType, TypeEnv, mailbox_type}
 use Rattle.pat_typing.specs.Typings.{payload_type, payload_sort}
 use Rattle.pat_typing.specs.Holdings.{payload_held}
 use Rattle.pat_typing.specs.Typed.{names}
 use Rattle.pat_typed.proofs.Refers.{name_is}
 use Rattle.pat_typed.proofs.Envs.{value_at-bind}
-use Rattle.pat_typed.proofs.Payloads.{HaveTypes, distinct_head, distinct_tail}
+use Rattle.pat_typed.proofs.Payloads.{HaveTypes, names_head, names_tail}
 use Rattle.pat_typed.proofs.Named.{PlacesTyped}
 use Rattle.pat_steps.proofs.Lists.{any_first, any_last}
 
@@ -33,14 +32,14 @@ found_clause P m (c ∷ cs) r a h =
     ]) refl h
 
 -- what it binds is bound by the guard
-pub found_binders : (m : ℕ) (cs : List Clause) (r : Clause) (z : ℕ) → clause_for m cs ≡ Some r → is_among z (clause_binders r) ≡ true → is_among z (Rattle.std.specs.List.flat_map clause_binders cs) ≡ true
+pub found_binders : (m : ℕ) (cs : List Clause) (r : Clause) (z : ℕ) → clause_for m cs ≡ Some r → is_among z (clause_binders r) ≡ true → is_among z (flat_map clause_binders cs) ≡ true
 found_binders m [] r z h a = cc
 found_binders m (c ∷ cs) r z h a =
-    (elim (nat_eq m c.tag) as (λ t. cond t (Some c) (clause_for m cs) ≡ Some r → is_among z (clause_binders c ++ Rattle.std.specs.List.flat_map clause_binders cs) ≡ true) [
+    (elim (nat_eq m c.tag) as (λ t. cond t (Some c) (clause_for m cs) ≡ Some r → is_among z (clause_binders c ++ flat_map clause_binders cs) ≡ true) [
       | true ↦ λ k.
           let same : c ≡ r = cc in
-          any_first (nat_eq z) (clause_binders c) (Rattle.std.specs.List.flat_map clause_binders cs) (subst (λ (x : Clause). is_among z (clause_binders x) ≡ true) (sym same) a)
-      | false ↦ λ k. any_last (nat_eq z) (clause_binders c) (Rattle.std.specs.List.flat_map clause_binders cs) (found_binders m cs r z k a)
+          any_first (nat_eq z) (clause_binders c) (flat_map clause_binders cs) (subst (λ (x : Clause). is_among z (clause_binders x) ≡ true) (sym same) a)
+      | false ↦ λ k. any_last (nat_eq z) (clause_binders c) (flat_map clause_binders cs) (found_binders m cs r z k a)
     ]) h
 
 -- where it is found, a test of it passes for some clause
@@ -52,12 +51,12 @@ found_any f m (c ∷ cs) r h a =
       | false ↦ λ k. or_right (f c) (list_any f cs) (found_any f m cs r k a)
     ]) h
 
-pub found_body : (m : ℕ) (cs : List Clause) (r : Clause) → clause_for m cs ≡ Some r → is_among r.body (Rattle.pat_model.specs.Programs.clause_bodies cs) ≡ true
+pub found_body : (m : ℕ) (cs : List Clause) (r : Clause) → clause_for m cs ≡ Some r → is_among r.body (clause_bodies cs) ≡ true
 found_body m [] r h = cc
 found_body m (c ∷ cs) r h =
-    (elim (nat_eq m c.tag) as (λ t. cond t (Some c) (clause_for m cs) ≡ Some r → (nat_eq r.body c.body || is_among r.body (Rattle.pat_model.specs.Programs.clause_bodies cs)) ≡ true) [
-      | true ↦ λ k. let same : c ≡ r = cc in or_left (nat_eq r.body c.body) (is_among r.body (Rattle.pat_model.specs.Programs.clause_bodies cs)) (eq-eqb r.body c.body (ap (λ (x : Clause). x.body) (sym same)))
-      | false ↦ λ k. or_right (nat_eq r.body c.body) (is_among r.body (Rattle.pat_model.specs.Programs.clause_bodies cs)) (found_body m cs r k)
+    (elim (nat_eq m c.tag) as (λ t. cond t (Some c) (clause_for m cs) ≡ Some r → (nat_eq r.body c.body || is_among r.body (clause_bodies cs)) ≡ true) [
+      | true ↦ λ k. let same : c ≡ r = cc in or_left (nat_eq r.body c.body) (is_among r.body (clause_bodies cs)) (eq-eqb r.body c.body (ap (λ (x : Clause). x.body) (sym same)))
+      | false ↦ λ k. or_right (nat_eq r.body c.body) (is_among r.body (clause_bodies cs)) (found_body m cs r k)
     ]) h
 
 -- ---- payloads
@@ -79,7 +78,7 @@ payload_second None a h = cc
 payload_second (Some (BaseSort b)) a h = cc
 payload_second (Some (MailboxSort i q None)) a h = cc
 payload_second (Some (MailboxSort i q (Some e))) a h =
-    let same : Rattle.pat_typing.specs.Types.mailbox_type i q e Second ≡ a = cc in ap (λ (t : MailboxType). t.usage) (sym same)
+    let same : mailbox_type i q e Second ≡ a = cc in ap (λ (t : MailboxType). t.usage) (sym same)
 
 pub held_second : (decl : TagDecl) (b k : ℕ) (vs : List Value) (a : MailboxType) → payload_held b (payload_type decl) k vs ≡ Some a → a.usage ≡ Second
 held_second decl b k [] a h = cc
@@ -142,7 +141,7 @@ bound_different env (x ∷ xs) (v ∷ vs) z w b len d hz hw az aw =
     (elim (nat_eq z x) as (λ t. nat_eq z x ≡ t → (t || is_among z xs) ≡ true → (if t then Some v else value_at (bind_all env xs vs) z) ≡ Some (Name b) → z ≡ w) [
       | true ↦ λ q k e.
           let same : v ≡ Name b = cc in
-          let out = distinct_head b vs (subst (λ (u : Value). IsDistinct nat_eq (names (u ∷ vs))) same d) in
+          let out = names_head b vs (subst (λ (u : Value). IsDistinct nat_eq (names (u ∷ vs))) same d) in
           (elim (nat_eq w x) as (λ t. nat_eq w x ≡ t → (t || is_among w xs) ≡ true → (if t then Some v else value_at (bind_all env xs vs) w) ≡ Some (Name b) → z ≡ w) [
             | true ↦ λ r k' e'. eqb-true z x q ∙ sym (eqb-true w x r)
             | false ↦ λ r k' e'. absurd (bound_absent env xs vs w b (omega arith) k' out e')
@@ -151,8 +150,8 @@ bound_different env (x ∷ xs) (v ∷ vs) z w b len d hz hw az aw =
           (elim (nat_eq w x) as (λ t. nat_eq w x ≡ t → (t || is_among w xs) ≡ true → (if t then Some v else value_at (bind_all env xs vs) w) ≡ Some (Name b) → z ≡ w) [
             | true ↦ λ r k' e'.
                 let same : v ≡ Name b = cc in
-                let out = distinct_head b vs (subst (λ (u : Value). IsDistinct nat_eq (names (u ∷ vs))) same d) in
+                let out = names_head b vs (subst (λ (u : Value). IsDistinct nat_eq (names (u ∷ vs))) same d) in
                 absurd (bound_absent env xs vs z b (omega arith) k out e)
-            | false ↦ λ r k' e'. bound_different env xs vs z w b (omega arith) (distinct_tail v vs d) k k' e e'
+            | false ↦ λ r k' e'. bound_different env xs vs z w b (omega arith) (names_tail v vs d) k k' e e'
           ]) refl hw (sym (value_at-bind (bind_all env xs vs) x v w) ∙ aw)
     ]) refl hz (sym (value_at-bind (bind_all env xs vs) x v z) ∙ az)
