@@ -6,7 +6,7 @@ use Rattle.pat_model.specs.Programs.{Sending, Receiving, is_free}
 use Rattle.pat_model.specs.Faults.{IsSafe}
 use Rattle.pat_typing.specs.Types.{Second, Returnable, MailboxType, TypeOf, BaseType, NameType, mailbox_type}
 use Rattle.pat_safety.proofs.Safe.{typable_safe}
-use Rattle.pat_examples.specs.Safe.{one_message, future, pump, delegation, swap}
+use Rattle.pat_examples.specs.Safe.{one_message, future, pump, delegation, swap, crossed}
 use Rattle.pat_examples.proofs.FitTests.{program_fits, well_formed}
 use Rattle.pat_examples.proofs.TypeTests.{lines_type, typable}
 
@@ -200,3 +200,37 @@ swap_typed = refl
 
 pub swap_safe : IsSafe swap
 swap_safe = typable_safe swap (well_formed 2 swap swap_fits) (typable 3 1 2 swap swap_lines no_params no_results swap_typed)
+
+-- ---- the crossed waits
+
+crossed_params : ℕ → ℕ → Pat
+crossed_params f k = Tag 0
+
+crossed_lines : List (TypeOf × List (ℕ × MailboxType))
+crossed_lines =
+    line (may_return 0 0 (Tag 0) ∷ may_send 1 0 (Tag 0) ∷ [])
+    ∷ line (may_send 1 0 (Tag 0) ∷ may_return 2 0 One ∷ [])
+    ∷ line (may_return 2 0 One ∷ [])
+    ∷ line []
+    ∷ line (may_send 1 0 (Tag 0) ∷ [])
+    ∷ line []
+    ∷ fresh 0
+    ∷ line (may_return 0 0 One ∷ [])
+    ∷ fresh 0
+    ∷ line (may_return 0 0 One ∷ may_return 1 0 One ∷ [])
+    ∷ line (may_receive 0 0 (Tag 0) ∷ may_send 1 0 (Tag 0) ∷ [])
+    ∷ line (may_return 0 0 (Tag 0) ∷ may_send 1 0 (Tag 0) ∷ [])
+    ∷ line (may_send 0 0 (Tag 0) ∷ may_receive 1 0 (Tag 0) ∷ [])
+    ∷ line (may_send 0 0 (Tag 0) ∷ may_return 1 0 (Tag 0) ∷ [])
+    ∷ []
+
+crossed_fits : program_fits 3 crossed ≡ true
+unfolding is_free
+crossed_fits = refl
+
+crossed_typed : lines_type 3 1 3 crossed crossed_lines crossed_params no_results ≡ true
+unfolding crossed_lines crossed_params
+crossed_typed = refl
+
+pub crossed_safe : IsSafe crossed
+crossed_safe = typable_safe crossed (well_formed 3 crossed crossed_fits) (typable 3 1 3 crossed crossed_lines crossed_params no_results crossed_typed)

@@ -1,11 +1,11 @@
 -- Programs that are typable, and so safe.
-use Rattle.std.specs.Prelude.{◌≡◌, ℕ, List, [], ◌∷◌, Some, None, codes, pos}
+use Rattle.std.specs.Prelude.{◌≡◌, ℕ, List, [], ◌∷◌, Some, None, codes, map, pos}
 use Rattle.pat_words.specs.Patterns.{One, Tag, Prod, Star}
 use Rattle.pat_model.specs.Values.{MailboxOf, IntConst, VarExpr, Literal, BaseInt}
 use Rattle.pat_model.specs.Programs.{BaseSort, Program, Let, Call, Print, New, Send, Spawn, Guard}
 use Rattle.pat_model.specs.Configs.{Config}
 use Rattle.pat_model.specs.Steps.{ActNew, ActSend, ActSpawn, ActPrint, ActEnd, ActFree, ActReceive}
-use Rattle.pat_model.specs.Runs.{Entry, replay, outcome, step_count, EndDone}
+use Rattle.pat_model.specs.Runs.{Entry, replay, outcome, step_count, Outcome}
 use Rattle.pat_examples.specs.Build.{unit_node, mailbox_node, nothing, clause, tag, function, receiving, receiving_as, sending_as, int, entry}
 
 -- interface I { m() }
@@ -190,11 +190,54 @@ abbrev pub swap_history : List Entry
 swap_history =
     entry 0 1 (Some ActNew) ∷ entry 0 2 (Some ActNew) ∷ entry 0 2 (Some ActSend) ∷ entry 0 1 (Some ActSend) ∷ entry 0 0 (Some ActEnd) ∷ []
 
--- the history ends with all threads done, so many steps, these lines and these live mailboxes
-pub record EndsDone (p : Program) (es : List Entry) (steps : ℕ) (printed : List (List ℕ)) (live : List ℕ) : Type 0 where
+-- two threads that wait for one another:
+-- interface I { m() }
+-- def wait(a: I?, b: I!m): Unit { guard a : m { receive m() from c -> free(c); b ! m() } }
+-- def main(): Unit { let a = new[I] in let b = new[I] in spawn { wait(a, b) }; spawn { wait(b, a) } }
+abbrev pub crossed : Program
+crossed = record {
+  interfaces = record { name = codes "I"; tags = tag (codes "m") [] ∷ [] } ∷ [];
+  functions =
+      function (codes "wait") (receiving 0 ∷ sending_as 0 (Tag 0) ∷ []) (MailboxOf 0 ∷ MailboxOf 0 ∷ MailboxOf 0 ∷ []) 0
+      ∷ function (codes "main") [] (MailboxOf 0 ∷ MailboxOf 0 ∷ []) 5
+      ∷ [];
+  main = 1;
+  nodes =
+      unit_node 0 (Guard 0 (Tag 0) None (clause 0 [] 2 1 ∷ []))
+      ∷ unit_node 0 (Let None 2 4)
+      ∷ unit_node 0 (Guard 2 One (Some 3) [])
+      ∷ unit_node 0 nothing
+      ∷ unit_node 0 (Send 1 0 [])
+      ∷ unit_node 1 (Let (Some 0) 6 7)
+      ∷ mailbox_node 1 0 (New 0)
+      ∷ unit_node 1 (Let (Some 1) 8 9)
+      ∷ mailbox_node 1 0 (New 0)
+      ∷ unit_node 1 (Let None 10 12)
+      ∷ unit_node 1 (Spawn 11)
+      ∷ unit_node 1 (Call 0 (VarExpr 0 ∷ VarExpr 1 ∷ []))
+      ∷ unit_node 1 (Spawn 13)
+      ∷ unit_node 1 (Call 0 (VarExpr 1 ∷ VarExpr 0 ∷ []))
+      ∷ [];
+}
+
+-- a history of it
+abbrev pub crossed_history : List Entry
+crossed_history =
+    entry 0 1 (Some ActNew)
+    ∷ entry 0 2 (Some ActNew)
+    ∷ entry 0 2 (Some ActSpawn)
+    ∷ entry 1 1 None
+    ∷ entry 0 1 (Some ActSpawn)
+    ∷ entry 2 1 None
+    ∷ entry 0 0 (Some ActEnd)
+    ∷ []
+
+-- the history ends so, with so many steps, these lines, these live mailboxes and these threads
+pub record EndsAs (p : Program) (es : List Entry) (steps : ℕ) (end : Outcome) (printed : List (List ℕ)) (live threads : List ℕ) : Type 0 where
   pub count : step_count es ≡ steps
   pub last : Config
   pub leads : replay p es ≡ Some last
-  pub done : outcome p last (step_count es) 100 None ≡ Some EndDone
+  pub ends : outcome p last (step_count es) 100 None ≡ Some end
   pub lines : last.printed ≡ printed
   pub left : last.live ≡ live
+  pub remain : map (λ e. e.0) last.threads ≡ threads

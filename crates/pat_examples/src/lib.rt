@@ -4,8 +4,9 @@
 ghost use Rattle.std.specs.Prelude.{List, [], ◌∷◌, pos};
 ghost use Rattle.std.specs.Fmt.{signed_decimal};
 ghost use Rattle.pat_model.specs.WellFormed.{WellFormed};
+ghost use Rattle.pat_model.specs.Runs.{EndDone, EndWaiting};
 ghost use Rattle.pat_model.specs.Faults.{IsSafe};
-ghost use Rattle.pat_examples.specs.Safe.{one_message, future, future_history, pump, delegation, swap, swap_history, EndsDone};
+ghost use Rattle.pat_examples.specs.Safe.{one_message, future, future_history, pump, delegation, swap, swap_history, crossed, crossed_history, EndsAs};
 ghost use Rattle.pat_examples.specs.Unsafe.{leak, alias, beside, ReachesFault, OnlyAlias, OnlyBeside};
 
 /// Programs with messages, spawning, calls, recursion, payloads and delegation are safe.
@@ -15,12 +16,14 @@ pub fn safe_programs()
     ensures pump { IsSafe pump }
     ensures delegation { IsSafe delegation }
     ensures swap { IsSafe swap }
+    ensures crossed { IsSafe crossed }
 {}
 
-/// Histories of two of them, to the end: what they print, and which mailboxes are left.
+/// Histories of three of them, to the end: what they print, which mailboxes are left, and which threads wait.
 pub fn runs()
-    ensures future { EndsDone future future_history 34 (signed_decimal (pos 5) ∷ []) [] }
-    ensures swap { EndsDone swap swap_history 11 [] (0 ∷ 1 ∷ []) }
+    ensures future { EndsAs future future_history 34 EndDone (signed_decimal (pos 5) ∷ []) [] [] }
+    ensures swap { EndsAs swap swap_history 11 EndDone [] (0 ∷ 1 ∷ []) [] }
+    ensures crossed { EndsAs crossed crossed_history 13 EndWaiting [] (0 ∷ 1 ∷ []) (1 ∷ 2 ∷ []) }
 {}
 
 /// Well-formed programs that reach a fault. Two of them are typed but for one rule: that a target and its payloads are
