@@ -14,6 +14,7 @@ use Rattle.pat_examples.proofs.KindTests.{kind_eq, kind_same, kinds_eq, kinds_sa
 
 -- ---- what is free occurs
 
+-- the variables of an expression are below m
 abbrev expr_below : ℕ → Expr → Bool
 expr_below m (VarExpr x) = nat_lt x m
 expr_below m (Literal c) = true
@@ -82,6 +83,7 @@ free_below p m x n below h = within_below p m x below (length p.nodes) n h
 
 -- ---- signatures and interfaces
 
+-- a payload's type
 abbrev payload_fits : Program → Sort → Bool
 payload_fits p (BaseSort b) = true
 payload_fits p (MailboxSort i q None) = false
@@ -97,6 +99,7 @@ is_payload p (MailboxSort i Sending (Some e)) h =
     (pattern_of p i e both.0, inhabited_to e both.1)
 is_payload p (MailboxSort i Receiving (Some e)) h = pattern_of p i e h
 
+-- a type of a function's signature
 abbrev signature_fits : Program → Sort → Bool
 signature_fits p (BaseSort b) = true
 signature_fits p (MailboxSort i q None) = nat_lt i (length p.interfaces)
@@ -112,9 +115,11 @@ is_signature p (MailboxSort i Sending (Some e)) h =
     (pattern_of p i e both.0, inhabited_to e both.1)
 is_signature p (MailboxSort i Receiving (Some e)) h = pattern_of p i e h
 
+-- the payloads of a tag
 abbrev tag_fits : Program → TagDecl → Bool
 tag_fits p t = all_of (payload_fits p) t.payloads
 
+-- from 1 to 32 tags with different names, and their payloads
 abbrev interface_fits : Program → Interface → Bool
 interface_fits p i =
     nat_lt 0 (length i.tags) && (nat_lt (length i.tags) 33 && (all_differ bytes_eq (map (λ t. t.name) i.tags) && all_of (tag_fits p) i.tags))
@@ -136,6 +141,7 @@ is_interface p i h =
 
 -- ---- functions
 
+-- the node is there, of function f and kind k
 abbrev body_is : Option Node → ℕ → Kind → Bool
 body_is None f k = false
 body_is (Some d) f k = nat_eq d.function f && kind_eq d.kind k
@@ -144,9 +150,11 @@ body_is (Some d) f k = nat_eq d.function f && kind_eq d.kind k
 abbrev binds_right : Program → ℕ → Function → ℕ → Bool
 binds_right p f g x = nat_eq (bindings_of p f x) (if nat_lt x (length g.params) then 0 else 1)
 
+-- what is free in the body is a parameter
 abbrev scope_right : Program → Function → ℕ → Bool
 scope_right p g x = not (is_free p x g.body) || nat_lt x (length g.params)
 
+-- a function; m is above all variables
 abbrev function_fits : ℕ → Program → ℕ → Function → Bool
 function_fits m p f g =
     body_is (node_at p g.body) f (kind_of g.result)
@@ -194,10 +202,12 @@ function_is m p f g below h =
 
 -- ---- nodes
 
+-- the node is there, of function f
 abbrev part_is : Option Node → ℕ → Bool
 part_is None f = false
 part_is (Some e) f = nat_eq e.function f
 
+-- a part comes after its node and is of its function
 abbrev part_fits : Program → ℕ → Node → ℕ → Bool
 part_fits p n d k = nat_lt n k && part_is (node_at p k) d.function
 
@@ -216,10 +226,12 @@ each_among P [] a k h = cc
 each_among P (j ∷ js) a k h =
     ⊎_elim (λ l. subst P (sym (eqb-true k j l)) a.0) (λ r. each_among P js a.1 k r) (or_cases (nat_eq k j) (is_among k js) h)
 
+-- a node of a function that is there
 abbrev node_with : Program → ℕ → Node → Option Function → Bool
 node_with p n d None = false
 node_with p n d (Some g) = all_of (part_fits p n d) (parts d.core) && (nat_eq (uses_of p n) 1 && core_fits p g.vars d.kind d.core)
 
+-- a node
 abbrev node_fits : Program → ℕ → Node → Bool
 node_fits p n d = node_with p n d (function_at p d.function)
 
@@ -241,6 +253,7 @@ node_is p n d h = go (function_at p d.function) refl h
 
 -- ---- programs
 
+-- the type is unit
 abbrev is_nothing : Sort → Bool
 is_nothing (BaseSort BaseUnit) = true
 is_nothing _ = false
@@ -252,6 +265,7 @@ nothing (BaseSort BaseInt) h = cc
 nothing (BaseSort BaseText) h = cc
 nothing (MailboxSort i q e) h = cc
 
+-- there are no parameters
 abbrev has_none : List Sort → Bool
 has_none [] = true
 has_none _ = false
@@ -260,6 +274,7 @@ none : (ss : List Sort) → has_none ss ≡ true → ss ≡ []
 none [] h = refl
 none (s ∷ ss) h = cc
 
+-- main is there, without parameters and with result unit
 abbrev main_is : Option Function → Bool
 main_is None = false
 main_is (Some g) = has_none g.params && is_nothing g.result

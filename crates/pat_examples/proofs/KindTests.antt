@@ -10,6 +10,7 @@ use Rattle.pat_examples.proofs.Tests.{all_of, all_true, all_differ, differ, belo
 
 -- ---- equal kinds
 
+-- the same base type
 abbrev pub base_eq : Base → Base → Bool
 base_eq BaseUnit BaseUnit = true
 base_eq BaseBool BaseBool = true
@@ -24,6 +25,7 @@ base_same BaseInt BaseInt h = refl
 base_same BaseText BaseText h = refl
 base_same _ _ h = cc
 
+-- the same kind
 abbrev pub kind_eq : Kind → Kind → Bool
 kind_eq (Plain a) (Plain b) = base_eq a b
 kind_eq (MailboxOf i) (MailboxOf j) = nat_eq i j
@@ -34,6 +36,7 @@ kind_same (Plain a) (Plain b) h = ap (λ x. Plain x) (base_same a b h)
 kind_same (MailboxOf i) (MailboxOf j) h = ap (λ x. MailboxOf x) (eqb-true i j h)
 kind_same _ _ h = cc
 
+-- the same kinds, place by place
 abbrev pub kinds_eq : List Kind → List Kind → Bool
 kinds_eq [] [] = true
 kinds_eq (j ∷ js) (k ∷ ks) = kind_eq j k && kinds_eq js ks
@@ -57,10 +60,12 @@ kind_is (Some j) k h = ap (λ x. Some x) (kind_same j k h)
 
 -- ---- nodes, expressions and variables
 
+-- the node is there, of this kind
 abbrev node_is : Option Node → Kind → Bool
 node_is None k = false
 node_is (Some d) k = kind_eq d.kind k
 
+-- node n is there, of this kind
 abbrev pub node_has : Program → ℕ → Kind → Bool
 node_has p n k = node_is (node_at p n) k
 
@@ -71,6 +76,7 @@ has_kind p n k h = go (node_at p n) refl h
     go None e w = cc
     go (Some d) e w = (d, e, kind_same d.kind k w)
 
+-- the expressions have the kinds, place by place
 abbrev pub have_kinds : List Kind → List Expr → List Kind → Bool
 have_kinds vars [] [] = true
 have_kinds vars (e ∷ es) (k ∷ ks) = is_kind (expr_kind vars e) k && have_kinds vars es ks
@@ -84,6 +90,7 @@ exprs_have vars (e ∷ es) (k ∷ ks) h =
 exprs_have vars [] (k ∷ ks) h = cc
 exprs_have vars (e ∷ es) [] h = cc
 
+-- the variables have the kinds, place by place
 abbrev pub vars_have : List Kind → List ℕ → List Kind → Bool
 vars_have vars [] [] = true
 vars_have vars (x ∷ xs) (k ∷ ks) = is_kind (slice_get vars x) k && vars_have vars xs ks
@@ -97,6 +104,7 @@ variables_have vars (x ∷ xs) (k ∷ ks) h =
 variables_have vars [] (k ∷ ks) h = cc
 variables_have vars (x ∷ xs) [] h = cc
 
+-- a kind that print takes
 abbrev pub is_printable : Option Kind → Bool
 is_printable (Some (Plain BaseBool)) = true
 is_printable (Some (Plain BaseInt)) = true
@@ -113,10 +121,12 @@ printable None h = cc
 
 -- ---- patterns
 
+-- the interface is there, and the pattern is one of it
 abbrev interface_has : Option Interface → Pat → Bool
 interface_has None e = false
 interface_has (Some j) e = tags_below (length j.tags) e && is_closed e
 
+-- a written pattern of interface i
 abbrev pub is_pattern_of : Program → ℕ → Pat → Bool
 is_pattern_of p i e = interface_has (slice_get p.interfaces i) e
 
@@ -131,11 +141,13 @@ pattern_of p i e h = go (slice_get p.interfaces i) refl h
 
 -- ---- terms
 
+-- a receive clause of a tag that is declared
 abbrev clause_has : Program → List Kind → ℕ → Kind → Clause → Option TagDecl → Bool
 clause_has p vars i k r None = false
 clause_has p vars i k r (Some decl) =
     vars_have vars r.vars (map kind_of decl.payloads) && (is_kind (slice_get vars r.from) (MailboxOf i) && node_has p r.body k)
 
+-- a receive clause of a guard on a mailbox of interface i
 abbrev clause_fits : Program → List Kind → ℕ → Kind → Clause → Bool
 clause_fits p vars i k r = clause_has p vars i k r (tag_at p i r.tag)
 
@@ -155,6 +167,7 @@ clause_kinds p vars i k r h = go (tag_at p i r.tag) refl h
           body = has_kind p r.body k b.1;
         }
 
+-- the node, if there is one, has this kind
 abbrev option_has : Program → Option ℕ → Kind → Bool
 option_has p None k = true
 option_has p (Some n) k = node_has p n k
@@ -174,27 +187,33 @@ bare_unit None (c ∷ cs) k h e f = cc
 bare_unit (Some n) [] k h e f = cc
 bare_unit (Some n) (c ∷ cs) k h e f = cc
 
+-- a let whose name's kind is there
 abbrev named_has : Program → Option Kind → ℕ → ℕ → Kind → Bool
 named_has p None m n k = false
 named_has p (Some j) m n k = node_has p m j && node_has p n k
 
+-- a call of a function that is there
 abbrev call_has : List Kind → List Expr → Kind → Option Function → Bool
 call_has vars args k None = false
 call_has vars args k (Some g) = have_kinds vars args (map kind_of g.params) && kind_eq (kind_of g.result) k
 
+-- the payload of a tag that is declared
 abbrev payload_has : List Kind → List Expr → Option TagDecl → Bool
 payload_has vars args None = false
 payload_has vars args (Some decl) = have_kinds vars args (map kind_of decl.payloads)
 
+-- a send to a variable of this kind
 abbrev send_has : Program → List Kind → ℕ → List Expr → Option Kind → Bool
 send_has p vars m args (Some (MailboxOf i)) = payload_has vars args (tag_at p i m)
 send_has p vars m args _ = false
 
+-- a guard on a variable of this kind
 abbrev guard_has : Program → List Kind → Kind → Pat → Option ℕ → List Clause → Option Kind → Bool
 guard_has p vars k e free cs (Some (MailboxOf i)) =
     is_pattern_of p i e && (option_has p free k && (all_of (clause_fits p vars i k) cs && (all_differ nat_eq (map (λ r. r.tag) cs) && is_bare free cs k)))
 guard_has p vars k e free cs _ = false
 
+-- a term of this kind
 abbrev pub core_fits : Program → List Kind → Kind → Core → Bool
 core_fits p vars k (Val e) = is_kind (expr_kind vars e) k
 core_fits p vars k (Let None m n) = node_has p m (Plain BaseUnit) && node_has p n k

@@ -34,6 +34,7 @@ may_send x i e = (x, mailbox_type i Sending e Second)
 abbrev pub no_params : ℕ → ℕ → Pat
 no_params f k = One
 
+-- no result leaves a pattern out
 abbrev pub no_results : ℕ → Pat
 no_results f = One
 

@@ -30,6 +30,7 @@ result_in [] n = BaseType BaseUnit
 result_in (l ∷ ls) zero = l.0
 result_in (l ∷ ls) (suc n) = result_in ls n
 
+-- the environment of a node, by its line
 abbrev pub env_in : List (TypeOf × List (ℕ × MailboxType)) → ℕ → TypeEnv
 env_in [] n = no_types
 env_in (l ∷ ls) zero = types_in l.1
@@ -46,6 +47,7 @@ typing_of lines params results = record {
 
 -- ---- environments that name no variable from m on
 
+-- g names no variable from m on
 abbrev pub Bounded : ℕ → TypeEnv → Type 0
 Bounded m g = (x : ℕ) → m ≤ x → g x ≡ None
 
@@ -104,6 +106,7 @@ lines_bounded m (l ∷ ls) h (suc n) = lines_bounded m ls (and_parts (all_of (λ
 
 -- ---- types
 
+-- the same polarity
 abbrev pub pole_eq : Polarity → Polarity → Bool
 pole_eq Sending Sending = true
 pole_eq Receiving Receiving = true
@@ -115,6 +118,7 @@ pole_same Receiving Receiving h = refl
 pole_same Sending Receiving h = cc
 pole_same Receiving Sending h = cc
 
+-- the same type
 abbrev pub type_eq : TypeOf → TypeOf → Bool
 type_eq (BaseType a) (BaseType b) = base_eq a b
 type_eq (NameType i q e) (NameType j r f) = nat_eq i j && (pole_eq q r && pat_eq e f)
@@ -129,6 +133,7 @@ type_same (NameType i q e) (NameType j r f) h =
 type_same (BaseType a) (NameType j r f) h = cc
 type_same (NameType i q e) (BaseType b) h = cc
 
+-- a returnable mailbox may stand for a second-class one
 abbrev pub usage_fits : Usage → Usage → Bool
 usage_fits Second Returnable = false
 usage_fits _ _ = true

@@ -131,6 +131,7 @@ alias_lines =
     ∷ line []
     ∷ []
 
+-- its typing
 abbrev alias_typing : Typing
 alias_typing = typing_of alias_lines no_params no_results
 
@@ -177,6 +178,7 @@ beside_lines =
     ∷ line (may_send 2 0 One ∷ [])
     ∷ []
 
+-- its typing
 abbrev beside_typing : Typing
 beside_typing = typing_of beside_lines no_params no_results
 

@@ -26,10 +26,12 @@ use Rattle.pat_typed.proofs.Threads.{apart_any}
 
 -- ---- a word of each sending holding
 
+-- a sending holding has a word
 abbrev pub HoldingHasWord : Holding → Type 0
 HoldingHasWord None = Unit {0}
 HoldingHasWord (Some a) = HasWord a.polarity a.pattern
 
+-- each sending holding has a word
 abbrev pub AllHaveWords : List Holding → Type 0
 AllHaveWords hs = AllByRecursion HoldingHasWord hs
 
@@ -133,6 +135,7 @@ all_words p y c wf typed b =
 
 -- ---- where nobody else refers to the mailbox
 
+-- the holdings of one thread stand between those of others, which hold nothing
 pub record Alone (p : Program) (y : Typing) (b : ℕ) (s : Thread) (now : List Holding) : Type 0 where
   pub before : List Holding
   pub after : List Holding

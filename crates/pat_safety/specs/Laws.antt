@@ -4,7 +4,7 @@ use Rattle.pat_model.specs.Programs.{Program, is_among, delegates}
 use Rattle.pat_model.specs.Configs.{Thread, Config, thread_at, some_thread_refers}
 use Rattle.pat_model.specs.WellFormed.{WellFormed}
 use Rattle.pat_model.specs.Steps.{Step, step}
-use Rattle.pat_model.specs.Runs.{run}
+use Rattle.pat_model.specs.Runs.{run_from, run}
 use Rattle.pat_model.specs.Faults.{GuardAt, AccountsFor, is_delegated, Fault, IsSafe}
 use Rattle.pat_typing.specs.Typings.{Typing, IsTypable}
 use Rattle.pat_typing.specs.Typed.{IsTyped}
@@ -12,6 +12,11 @@ use Rattle.pat_typing.specs.Typed.{IsTyped}
 -- nothing has gone wrong in a typed configuration
 abbrev pub TypedHasNoFault : Type 0
 TypedHasNoFault = (p : Program) (y : Typing) (c : Config) → WellFormed p → IsTyped p y c → Fault p c → ⊥
+
+-- nor does anything go wrong in what steps from a typed configuration lead to
+abbrev pub TypedStaysSafe : Type 0
+TypedStaysSafe =
+    (p : Program) (y : Typing) (ks : List Step) (c d : Config) → WellFormed p → IsTyped p y c → run_from p c ks ≡ Some d → Fault p d → ⊥
 
 -- a well-formed program that can be typed is safe
 abbrev pub TypableIsSafe : Type 0

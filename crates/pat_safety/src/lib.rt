@@ -1,11 +1,12 @@
 // Safety: nothing goes wrong in a typed configuration, so a typable program is safe. No code of the product.
 #![tactic(auto)]
 
-ghost use Rattle.pat_safety.specs.Laws.{TypedHasNoFault, TypableIsSafe, LiveIsReferredTo, DoneLeavesNone, DoneLeavesDelegated, WaitsAtGuards};
+ghost use Rattle.pat_safety.specs.Laws.{TypedHasNoFault, TypedStaysSafe, TypableIsSafe, LiveIsReferredTo, DoneLeavesNone, DoneLeavesDelegated, WaitsAtGuards};
 
-/// A typed configuration has no fault, so no run of a well-formed typable program reaches one.
+/// A typed configuration has no fault, so no run from one and none of a well-formed typable program reaches one.
 pub fn safety_laws()
     ensures faults { TypedHasNoFault }
+    ensures stays { TypedStaysSafe }
     ensures safe { TypableIsSafe }
 {}
 

@@ -20,6 +20,7 @@ use Rattle.pat_typed.proofs.Envs.{held_cases, HeldCases, by_variable, by_none}
 
 -- ---- the value of an expression has its kind
 
+-- the base type that an operator gives
 abbrev op_base : Op → Base
 op_base Add = BaseInt
 op_base Sub = BaseInt

@@ -24,6 +24,7 @@ use Rattle.pat_steps.proofs.Lists.{clash, not_true, distinct_parts, distinct_joi
 
 -- ---- the live mailboxes without one
 
+-- the numbers but a
 abbrev others : ℕ → List ℕ → List ℕ
 others a xs = filter (λ b. not (nat_eq b a)) xs
 

@@ -19,6 +19,7 @@ use Rattle.pat_typing.specs.Typed.{PartFits}
 
 -- ---- expressions
 
+-- a kind that is there and plain
 pub record OfPlain (o : Option Kind) : Type 0 where
   pub base : Base
   pub is : o ≡ Some (Plain base)
