@@ -47,11 +47,11 @@ impl Bag {
         requires { (t : ℕ) → t < 32 → word_of self.now t + word_of other.now t < 2 ^ 32 }
         ensures { word_of result ≡ plus (word_of self.now) (word_of other.now) }
     {
-        let mut counts = self.counts;
+        let mut both = self.counts;
         for t in 0..TAGS {
-            counts[t] += other.counts[t];
+            both[t] += other.counts[t];
         }
-        Bag { counts }
+        Bag { counts: both }
     }
 
     /// Both bags together, or `None` where a count of theirs is greater than the limit's.

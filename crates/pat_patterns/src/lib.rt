@@ -15,3 +15,6 @@ pub use pattern::Pattern;
 pub use reading::{covers, degree, has_values, inhabited, is_flat, levels, nullable, size};
 pub use residuals::residual;
 pub use substitution::subst;
+
+#[cfg(test)]
+mod tests;
