@@ -6,7 +6,7 @@ use Rattle.pat_model.specs.Programs.{Sending, Receiving, is_free}
 use Rattle.pat_model.specs.Faults.{IsSafe}
 use Rattle.pat_typing.specs.Types.{Second, Returnable, MailboxType, TypeOf, BaseType, NameType, mailbox_type}
 use Rattle.pat_safety.proofs.Safe.{typable_safe}
-use Rattle.pat_examples.specs.Safe.{one_message, future, pump, delegation, swap, crossed}
+use Rattle.pat_examples.specs.Safe.{one_message, future, pump, delegation, swap, crossed, turned}
 use Rattle.pat_examples.proofs.FitTests.{program_fits, well_formed}
 use Rattle.pat_examples.proofs.TypeTests.{lines_type, typable}
 
@@ -235,3 +235,30 @@ crossed_typed = refl
 
 pub crossed_safe : IsSafe crossed
 crossed_safe = typable_safe crossed (well_formed 3 crossed crossed_fits) (typable 3 1 3 crossed crossed_lines crossed_params no_results crossed_typed)
+
+-- ---- the turned messages
+
+turned_lines : List (TypeOf × List (ℕ × MailboxType))
+turned_lines =
+    line []
+    ∷ fresh 0
+    ∷ line (may_return 0 0 One ∷ [])
+    ∷ line (may_send 0 0 (Tag 1) ∷ [])
+    ∷ line (may_return 0 0 (Tag 1) ∷ [])
+    ∷ line (may_send 0 0 (Tag 0) ∷ [])
+    ∷ line (may_return 0 0 (Prod (Tag 0) (Tag 1)) ∷ [])
+    ∷ line (may_return 1 0 (Tag 1) ∷ [])
+    ∷ line (may_return 2 0 One ∷ [])
+    ∷ line []
+    ∷ []
+
+turned_fits : program_fits 3 turned ≡ true
+unfolding is_free
+turned_fits = refl
+
+turned_typed : lines_type 4 2 3 turned turned_lines no_params no_results ≡ true
+unfolding turned_lines
+turned_typed = refl
+
+pub turned_safe : IsSafe turned
+turned_safe = typable_safe turned (well_formed 3 turned turned_fits) (typable 4 2 3 turned turned_lines no_params no_results turned_typed)

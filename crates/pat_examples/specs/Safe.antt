@@ -1,5 +1,5 @@
 -- Programs that are typable, and so safe.
-use Rattle.std.specs.Prelude.{◌≡◌, ℕ, List, [], ◌∷◌, Some, None, codes, map, pos}
+use Rattle.std.specs.Prelude.{◌≡◌, ℕ, List, [], ◌∷◌, Option, Some, None, codes, map, pos}
 use Rattle.pat_words.specs.Patterns.{One, Tag, Prod, Star}
 use Rattle.pat_model.specs.Values.{MailboxOf, IntConst, VarExpr, Literal, BaseInt}
 use Rattle.pat_model.specs.Programs.{BaseSort, Program, Let, Call, Print, New, Send, Spawn, Guard}
@@ -232,12 +232,50 @@ crossed_history =
     ∷ entry 0 0 (Some ActEnd)
     ∷ []
 
--- the history ends so, with so many steps, these lines, these live mailboxes and these threads
-pub record EndsAs (p : Program) (es : List Entry) (steps : ℕ) (end : Outcome) (printed : List (List ℕ)) (live threads : List ℕ) : Type 0 where
+-- messages that come in another order than they are received:
+-- interface I { m(), n() }
+-- def main(): Unit { let a = new[I] in a ! n(); a ! m(); guard a : m.n { receive m() from b -> guard b : n { receive n() from c -> free(c) } } }
+abbrev pub turned : Program
+turned = record {
+  interfaces = record { name = codes "I"; tags = tag (codes "m") [] ∷ tag (codes "n") [] ∷ [] } ∷ [];
+  functions = function (codes "main") [] (MailboxOf 0 ∷ MailboxOf 0 ∷ MailboxOf 0 ∷ []) 0 ∷ [];
+  main = 0;
+  nodes =
+      unit_node 0 (Let (Some 0) 1 2)
+      ∷ mailbox_node 0 0 (New 0)
+      ∷ unit_node 0 (Let None 3 4)
+      ∷ unit_node 0 (Send 0 1 [])
+      ∷ unit_node 0 (Let None 5 6)
+      ∷ unit_node 0 (Send 0 0 [])
+      ∷ unit_node 0 (Guard 0 (Prod (Tag 0) (Tag 1)) None (clause 0 [] 1 7 ∷ []))
+      ∷ unit_node 0 (Guard 1 (Tag 1) None (clause 1 [] 2 8 ∷ []))
+      ∷ unit_node 0 (Guard 2 One (Some 9) [])
+      ∷ unit_node 0 nothing
+      ∷ [];
+}
+
+-- a history of it
+abbrev pub turned_history : List Entry
+turned_history =
+    entry 0 1 (Some ActNew)
+    ∷ entry 0 2 (Some ActSend)
+    ∷ entry 0 2 (Some ActSend)
+    ∷ entry 0 1 (Some (ActReceive 1))
+    ∷ entry 0 0 (Some (ActReceive 0))
+    ∷ entry 0 0 (Some ActFree)
+    ∷ entry 0 0 (Some ActEnd)
+    ∷ []
+
+-- a history of it up to the second send
+abbrev pub turned_start : List Entry
+turned_start = entry 0 1 (Some ActNew) ∷ entry 0 2 (Some ActSend) ∷ entry 0 2 None ∷ []
+
+-- the history ends so under this limit on messages, with so many steps, these lines, these live mailboxes and these threads
+pub record EndsAs (p : Program) (es : List Entry) (limit : Option ℕ) (steps : ℕ) (end : Outcome) (printed : List (List ℕ)) (live threads : List ℕ) : Type 0 where
   pub count : step_count es ≡ steps
   pub last : Config
   pub leads : replay p es ≡ Some last
-  pub ends : outcome p last (step_count es) 100 None ≡ Some end
+  pub ends : outcome p last (step_count es) 100 limit ≡ Some end
   pub lines : last.printed ≡ printed
   pub left : last.live ≡ live
   pub remain : map (λ e. e.0) last.threads ≡ threads

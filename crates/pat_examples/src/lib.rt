@@ -1,12 +1,12 @@
 // Examples: programs that are safe by the law, and programs that reach a fault. No code of the product.
 #![tactic(auto)]
 
-ghost use Rattle.std.specs.Prelude.{List, [], ◌∷◌, pos};
+ghost use Rattle.std.specs.Prelude.{List, [], ◌∷◌, Some, None, pos};
 ghost use Rattle.std.specs.Fmt.{signed_decimal};
 ghost use Rattle.pat_model.specs.WellFormed.{WellFormed};
-ghost use Rattle.pat_model.specs.Runs.{EndDone, EndWaiting};
+ghost use Rattle.pat_model.specs.Runs.{EndDone, EndWaiting, EndFull};
 ghost use Rattle.pat_model.specs.Faults.{IsSafe};
-ghost use Rattle.pat_examples.specs.Safe.{one_message, future, future_history, pump, delegation, swap, swap_history, crossed, crossed_history, EndsAs};
+ghost use Rattle.pat_examples.specs.Safe.{one_message, future, future_history, pump, delegation, swap, swap_history, crossed, crossed_history, turned, turned_history, turned_start, EndsAs};
 ghost use Rattle.pat_examples.specs.Unsafe.{leak, alias, beside, ReachesFault, OnlyAlias, OnlyBeside};
 
 /// Programs with messages, spawning, calls, recursion, payloads and delegation are safe.
@@ -17,13 +17,17 @@ pub fn safe_programs()
     ensures delegation { IsSafe delegation }
     ensures swap { IsSafe swap }
     ensures crossed { IsSafe crossed }
+    ensures turned { IsSafe turned }
 {}
 
-/// Histories of three of them, to the end: what they print, which mailboxes are left, and which threads wait.
+/// Histories of four of them, to the end: what they print, which mailboxes are left, and which threads wait; and one that a limit on
+/// messages holds back.
 pub fn runs()
-    ensures future { EndsAs future future_history 34 EndDone (signed_decimal (pos 5) ∷ []) [] [] }
-    ensures swap { EndsAs swap swap_history 11 EndDone [] (0 ∷ 1 ∷ []) [] }
-    ensures crossed { EndsAs crossed crossed_history 13 EndWaiting [] (0 ∷ 1 ∷ []) (1 ∷ 2 ∷ []) }
+    ensures future { EndsAs future future_history None 34 EndDone (signed_decimal (pos 5) ∷ []) [] [] }
+    ensures swap { EndsAs swap swap_history None 11 EndDone [] (0 ∷ 1 ∷ []) [] }
+    ensures crossed { EndsAs crossed crossed_history None 13 EndWaiting [] (0 ∷ 1 ∷ []) (1 ∷ 2 ∷ []) }
+    ensures turned { EndsAs turned turned_history None 13 EndDone [] [] [] }
+    ensures held { EndsAs turned turned_start (Some 1) 7 EndFull [] (0 ∷ []) (0 ∷ []) }
 {}
 
 /// Well-formed programs that reach a fault. Two of them are typed but for one rule: that a target and its payloads are

@@ -3,15 +3,14 @@ use Rattle.std.proofs.Common.{◌≡◌, ℕ, ◌<◌, true, false, ◌||◌, no
 use Rattle.std.specs.Prelude.{is_some, slice_get, option_map}
 use Rattle.std.specs.List.{IsDistinct, list_any, flat_map}
 use Rattle.std.proofs.lemmas.Bool.{eqb-true, eqb-false, eq-eqb, ne_eqb, cond-true, cond-false, or_cases, or_left, or_right, and_from, false_from_ne_true}
-use Rattle.pat_words.specs.Patterns.{One}
 use Rattle.pat_model.specs.Values.{Value, Name, Kind, Plain, MailboxOf, Env, value_at, bind_all, ValueFits, ValuesFit}
-use Rattle.pat_model.specs.Programs.{Program, TagDecl, Clause, Core, Guard, core_at, tag_at, kind_of, parts, binders, clause_bodies, option_list, is_among, clause_binders, clause_uses, is_free, keep, KindAt, Node, Sending}
+use Rattle.pat_model.specs.Programs.{Program, TagDecl, Clause, Core, Guard, core_at, tag_at, kind_of, parts, binders, clause_bodies, option_list, is_among, clause_binders, clause_uses, is_free, keep, KindAt, Node}
 use Rattle.pat_model.specs.WellFormed.{WellFormed, VarsHaveKinds, ClauseKinds}
 use Rattle.pat_model.specs.Configs.{Running, Thread, Message, Config, thread_at, is_name, env_refers, control_refers, thread_refers, message_refers, has_pending}
 use Rattle.pat_model.specs.Steps.{ActReceive, step, redex, received, at_node, thread_of}
 use Rattle.pat_steps.proofs.FreeVars.{free_unfolds}
 use Rattle.pat_steps.proofs.Scopes.{free_fresh, guard_apart}
-use Rattle.pat_typing.specs.Types.{Usage, Second, Returnable, TypeEnv, PassesTo, UsageFits, TypeFits, kind_of_type, mailbox_type}
+use Rattle.pat_typing.specs.Types.{Usage, Second, Returnable, TypeEnv, PassesTo, TypeFits, kind_of_type}
 use Rattle.pat_typing.specs.Typings.{Typing, payload_type, GuardTyped, ClauseTyped}
 use Rattle.pat_typing.specs.Holdings.{Holding, held, control_held, payload_held, wanted}
 use Rattle.pat_typing.specs.Typed.{IsTyped, ThreadFits, MessageFits, NumbersFit, ControlFits, PartFits, KeepsFrom, frames_refer}
@@ -22,6 +21,7 @@ use Rattle.pat_typed.proofs.Refers.{value_refers}
 use Rattle.pat_typed.proofs.Envs.{value_at-bind, value_at-keep, kept, held_cases, HeldCases, by_variable, by_none}
 use Rattle.pat_typed.proofs.Payloads.{names_head, payload_place, names_tail}
 use Rattle.pat_typed.proofs.Named.{free_named, kind_same, part_kind, payloads_typed, tag_payloads}
+use Rattle.pat_typed.proofs.Narrow.{usage_back, refers_value}
 use Rattle.pat_typed.proofs.Unused.{unused_drops}
 use Rattle.pat_typed.proofs.Messages.{others, take_message, found_all, found_message_any, distinct_filter}
 use Rattle.pat_typed.proofs.ReceiveHoldings.{Receipt, BodyCases, is_from, is_payload, is_env, body_cases, own_old, kept_ascends, passes_env, still, has_payload}
@@ -198,8 +198,11 @@ module _ (p : Program) (y : Typing) (c : Config) (t k : ℕ) (s : Thread) (d : C
   abbrev body : TypeEnv
   body = y.envs r.body
 
+  abbrev Cases : ℕ → ℕ → Type 0
+  Cases b z = BodyCases p y typed.interfaces node q.env q.var q.pattern q.free q.receives r m known b z
+
   -- where a variable that is kept comes from
-  comes_from : (b z : ℕ) → value_at kept_values z ≡ Some (Name b) → BodyCases p y typed.interfaces node q.env q.var q.pattern q.free q.receives r m known b z
+  comes_from : (b z : ℕ) → value_at kept_values z ≡ Some (Name b) → Cases b z
   comes_from b z at = body_cases p y typed.interfaces node q.env q.var q.pattern q.free q.receives r m known b z at
 
   -- the message's own mailbox isn't in its payload
@@ -270,7 +273,7 @@ module _ (p : Program) (y : Typing) (c : Config) (t k : ℕ) (s : Thread) (d : C
   new_different : (z w b : ℕ) → value_at kept_values z ≡ Some (Name b) → value_at kept_values w ≡ Some (Name b) → z ≡ w
   new_different z w b az aw = go (comes_from b z az) (comes_from b w aw)
     where
-      go : BodyCases p y typed.interfaces node q.env q.var q.pattern q.free q.receives r m known b z → BodyCases p y typed.interfaces node q.env q.var q.pattern q.free q.receives r m known b w → z ≡ w
+      go : Cases b z → Cases b w → z ≡ w
       go (is_from e o) (is_from e' o') = e ∙ sym e'
       go (is_from e o) (is_payload found off among) = absurd (clash found (ap (λ v. list_any (is_name v) m.values) o ∙ own_apart))
       go (is_from e o) (is_env at apart) = absurd (clash (eq-eqb q.var w (part.different q.var w m.mailbox guards (at ∙ ap (λ v. Some (Name v)) o))) apart)
@@ -298,16 +301,6 @@ module _ (p : Program) (y : Typing) (c : Config) (t k : ℕ) (s : Thread) (d : C
 
   -- ---- what is held as returnable is in no frame
 
-  usage_ret : (a b : Usage) → UsageFits a b → b ≡ Returnable → a ≡ Returnable
-  usage_ret Second Second u e = e
-  usage_ret Second Returnable u e = absurd u
-  usage_ret Returnable b u e = refl
-
-  second_ret : (a b : Usage) → UsageFits a b → a ≡ Second → b ≡ Returnable → ⊥
-  second_ret Second Second u e f = cc
-  second_ret Second Returnable u e f = u
-  second_ret Returnable b u e f = cc
-
   old_keeps : KeepsFrom (λ b. held (y.envs node) b q.env) s.frames
   old_keeps = subst (λ w. KeepsFrom (λ b. control_held p y b w s.frames) s.frames) q.at.control_is old_fits.control_keeps
 
@@ -322,22 +315,26 @@ module _ (p : Program) (y : Typing) (c : Config) (t k : ℕ) (s : Thread) (d : C
           old : HeldCases (y.envs node) b q.env → frames_refer b s.frames ≡ false
           old (by_variable v at' is) =
               let same : v ≡ z = part.different v z b at' at in
-              old_keeps b f (is ∙ ap (y.envs node) same ∙ e) (usage_ret f.usage a.usage w.usage u)
+              old_keeps b f (is ∙ ap (y.envs node) same ∙ e) (usage_back f.usage a.usage w.usage u)
           old (by_none none is) = absurd (none z at)
 
-      from_case : (z : ℕ) → body z ≡ Some a → BodyCases p y typed.interfaces node q.env q.var q.pattern q.free q.receives r m known b z → frames_refer b s.frames ≡ false
+      from_case : (z : ℕ) → body z ≡ Some a → Cases b z → frames_refer b s.frames ≡ false
       from_case z at_body (is_from e o) =
           let own_held = own_old p y typed.interfaces node q.env q.var q.pattern q.free q.receives r m known (held_cases (y.envs node) m.mailbox 0 q.env part.keys) in
-          let keeps = old_keeps m.mailbox guard.guarded own_held (usage_ret guard.guarded.usage Returnable guard.fits.usage refl) in
+          let keeps = old_keeps m.mailbox guard.guarded own_held (usage_back guard.guarded.usage Returnable guard.fits.usage refl) in
           subst (λ w. frames_refer w s.frames ≡ false) (sym o) keeps
       from_case z at_body (is_payload found off among) = offered_usage (payload_held b (payload_type clause.decl) 0 m.values) refl
           (subst (λ o. PassesTo o (body z)) off (clause.passes z))
         where
+          second_first : (v : Usage) → v ≡ Second → v ≡ Returnable → frames_refer b s.frames ≡ false
+          second_first Second e k = cc
+          second_first Returnable e k = cc
+
           offered_usage : (o : Holding) → payload_held b (payload_type clause.decl) 0 m.values ≡ o → PassesTo (payload_held b (payload_type clause.decl) 0 m.values) (body z) → frames_refer b s.frames ≡ false
           offered_usage None e w = absurd (subst (λ x. PassesTo None x) at_body (subst (λ x. PassesTo x (body z)) e w))
           offered_usage (Some f) e w =
               let fits = subst (λ x. PassesTo (Some f) x) at_body (subst (λ x. PassesTo x (body z)) e w) in
-              absurd (second_ret f.usage a.usage fits.usage (held_second clause.decl b 0 m.values f e) u)
+              second_first f.usage (held_second clause.decl b 0 m.values f e) (usage_back f.usage a.usage fits.usage u)
       from_case z at_body (is_env at apart) =
           passes_env_usage z (y.envs node z) refl at (subst (λ x. PassesTo (y.envs node z) x) at_body (passes_z at))
         where
@@ -367,21 +364,11 @@ module _ (p : Program) (y : Typing) (c : Config) (t k : ℕ) (s : Thread) (d : C
 
   -- a mailbox that the new control refers to is live
   kept_live : (a : ℕ) → env_refers a kept_values ≡ true → is_among a c.live ≡ true
-  kept_live a h = go (held_refers (held_cases (λ z. Some (mailbox_type 0 Sending One Second)) a 0 kept_values new_part.keys))
+  kept_live a h =
+      let z = refers_value a 0 kept_values new_part.keys h in
+      cases z.0 (comes_from a z.0 z.1)
     where
-      held_refers : HeldCases (λ z. Some (mailbox_type 0 Sending One Second)) a kept_values → (z : ℕ) × (value_at kept_values z ≡ Some (Name a))
-      held_refers (by_variable z at is) = (z, at)
-      held_refers (by_none none is) = let e = held_some kept_values h in let f = sym is ∙ e in cc
-        where
-          held_some : (env : Env) → env_refers a env ≡ true → held (λ z. Some (mailbox_type 0 Sending One Second)) a env ≡ Some (mailbox_type 0 Sending One Second)
-          held_some [] h = cc
-          held_some (e ∷ env) h =
-              (elim (is_name a e.1) as (λ b. (b || env_refers a env) ≡ true → (if b then Some (mailbox_type 0 Sending One Second) else held (λ z. Some (mailbox_type 0 Sending One Second)) a env) ≡ Some (mailbox_type 0 Sending One Second)) [
-                | true ↦ λ k. refl
-                | false ↦ λ k. held_some env k
-              ]) h
-
-      cases : (z : ℕ) → BodyCases p y typed.interfaces node q.env q.var q.pattern q.free q.receives r m known a z → is_among a c.live ≡ true
+      cases : (z : ℕ) → Cases a z → is_among a c.live ≡ true
       cases z (is_from e o) =
           typed.numbers.messages_live a (or_right (list_any (message_refers a) c.messages) (has_pending a c.messages) (found_message_any (λ w. nat_eq w.mailbox a) k c.messages m q.found (eq-eqb m.mailbox a (sym o))))
       cases z (is_payload found off among) =
@@ -389,9 +376,6 @@ module _ (p : Program) (y : Typing) (c : Config) (t k : ℕ) (s : Thread) (d : C
       cases z (is_env at apart) =
           let refers : control_refers a s.control ≡ true = ap (control_refers a) q.at.control_is ∙ value_refers q.env z a at in
           typed.numbers.threads_live a (lookup_any (thread_refers a) c.threads t s there (or_left (control_refers a s.control) (list_any (λ f. env_refers a f.env) s.frames) refers))
-
-      go : (z : ℕ) × (value_at kept_values z ≡ Some (Name a)) → is_among a c.live ≡ true
-      go h = cases h.0 (comes_from a h.0 h.1)
 
   thread_live : (a : ℕ) → thread_refers a thread' ≡ true → is_among a c.live ≡ true
   thread_live a h =
