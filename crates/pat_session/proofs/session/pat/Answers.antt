@@ -1,0 +1,15 @@
+use Rattle.std.proofs.Common.{map, string_bytes}
+use Rattle.pat_session.proofs.Allows.{usage_only, accepts_safe, shows_run, refuses}
+use Rattle.pat_session.proofs.session.pat.Goals as goal
+
+pub returns-clause-usage : goal.returns-clause-usage
+returns-clause-usage g c = usage_only (map string_bytes c.args.words.now) (g.S.Source.rest c.args.source.now) (g.S.Source.rest c.respond.new.source) (g.K.Sink.taken c.args.sink.now) (g.K.Sink.taken c.respond.new.sink) c.respond.result c.respond.ensures.output
+
+pub returns-clause-accepted_is_safe : goal.returns-clause-accepted_is_safe
+returns-clause-accepted_is_safe g c = accepts_safe (map string_bytes c.args.words.now) (g.S.Source.rest c.args.source.now) (g.S.Source.rest c.respond.new.source) (g.K.Sink.taken c.args.sink.now) (g.K.Sink.taken c.respond.new.sink) c.respond.result c.respond.ensures.output
+
+pub returns-clause-run : goal.returns-clause-run
+returns-clause-run g c = shows_run (map string_bytes c.args.words.now) (g.S.Source.rest c.args.source.now) (g.S.Source.rest c.respond.new.source) (g.K.Sink.taken c.args.sink.now) (g.K.Sink.taken c.respond.new.sink) c.respond.result c.respond.ensures.output
+
+pub returns-clause-not_yet : goal.returns-clause-not_yet
+returns-clause-not_yet g c = refuses (map string_bytes c.args.words.now) (g.S.Source.rest c.args.source.now) (g.S.Source.rest c.respond.new.source) (g.K.Sink.taken c.args.sink.now) (g.K.Sink.taken c.respond.new.sink) c.respond.result c.respond.ensures.output

@@ -1,0 +1,4 @@
+pub mod Statuses
+pub mod Ports
+pub mod Allowed
+pub mod Answers

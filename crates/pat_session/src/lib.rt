@@ -1,0 +1,12 @@
+//! One call of `pat`: its words, its input, what it answers, and what it writes.
+#![tactic(auto)]
+
+mod answer;
+mod input;
+mod output;
+mod session;
+mod status;
+mod words;
+
+pub use session::pat;
+pub use status::{Status, Verdict};
