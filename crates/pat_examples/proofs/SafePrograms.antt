@@ -4,7 +4,7 @@ use Rattle.pat_words.specs.Patterns.{Pat, One, Tag, Prod, Star}
 use Rattle.pat_model.specs.Values.{BaseUnit}
 use Rattle.pat_model.specs.Programs.{Sending, Receiving, is_free}
 use Rattle.pat_model.specs.Faults.{IsSafe}
-use Rattle.pat_typing.specs.Types.{Second, Returnable, MailboxType, TypeOf, BaseType, NameType, mailbox_type}
+use Rattle.pat_typing.specs.Types.{Second, Returnable, MailboxType, TypeOf, BaseTerm, MailboxTerm, mailbox_type}
 use Rattle.pat_safety.proofs.Safe.{typable_safe}
 use Rattle.pat_examples.specs.Safe.{one_message, future, pump, delegation, swap, crossed, turned}
 use Rattle.pat_examples.proofs.FitTests.{program_fits, well_formed}
@@ -12,11 +12,11 @@ use Rattle.pat_examples.proofs.TypeTests.{lines_type, typable}
 
 -- a line of a typing, of a node of type unit
 abbrev pub line : List (ℕ × MailboxType) → TypeOf × List (ℕ × MailboxType)
-line env = (BaseType BaseUnit, env)
+line env = (BaseTerm BaseUnit, env)
 
 -- a line of a new mailbox, to which nothing has been sent
 abbrev pub fresh : ℕ → TypeOf × List (ℕ × MailboxType)
-fresh i = (NameType i Receiving One, [])
+fresh i = (MailboxTerm i Receiving One, [])
 
 -- variable x may receive E, and may be returned
 abbrev pub may_return : ℕ → ℕ → Pat → ℕ × MailboxType

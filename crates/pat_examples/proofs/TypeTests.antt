@@ -9,7 +9,7 @@ use Rattle.pat_words.proofs.PatternLaws.{pat_eq_same, nullable_to, inhabited_to}
 use Rattle.pat_words.proofs.CoverLaws.{covers_to}
 use Rattle.pat_model.specs.Values.{BaseUnit, Kind, MailboxOf, Expr, VarExpr, Literal, OpExpr}
 use Rattle.pat_model.specs.Programs.{Program, Polarity, Sending, Receiving, Sort, TagDecl, Function, Clause, Core, Val, Let, Call, If, Print, New, Send, Spawn, Guard, Node, node_at, function_at, tag_at, is_among, clause_binders}
-use Rattle.pat_typing.specs.Types.{Usage, Second, Returnable, MailboxType, TypeOf, BaseType, NameType, kind_of_type, mailbox_type, UsageFits, PatternFits, Fits, TypeFits, MayDrop, TypeEnv, PassesTo, EnvPasses, PatternJoins, Joins, SplitsTo, EnvSplits, no_types, with_type, without, returnable}
+use Rattle.pat_typing.specs.Types.{Usage, Second, Returnable, MailboxType, TypeOf, BaseTerm, MailboxTerm, kind_of_type, mailbox_type, UsageFits, PatternFits, Fits, TypeFits, MayDrop, TypeEnv, PassesTo, EnvPasses, PatternJoins, Joins, SplitsTo, EnvSplits, no_types, with_type, without, returnable}
 use Rattle.pat_typing.specs.Typings.{Typing, param_type, result_type, payload_sort, payload_type, with_option, args_need, mailbox_args, with_payloads, clause_env, HasMailboxPayload, ClauseTyped, is_received, NamePasses, ValueTyped, without_name, name_type, NewTyped, CoreTyped, HasWord, TypeHasWord, NodeTyped, FunctionTyped, IsTyping, IsTypable, sort_type}
 use Rattle.pat_steps.proofs.Lists.{clash}
 use Rattle.pat_examples.specs.Unsafe.{TypedBut}
@@ -26,7 +26,7 @@ types_in (e ∷ es) x = if nat_eq e.0 x then Some e.1 else types_in es x
 
 -- what stands at a place of a list, if there is one
 abbrev pub result_in : List (TypeOf × List (ℕ × MailboxType)) → ℕ → TypeOf
-result_in [] n = BaseType BaseUnit
+result_in [] n = BaseTerm BaseUnit
 result_in (l ∷ ls) zero = l.0
 result_in (l ∷ ls) (suc n) = result_in ls n
 
@@ -120,18 +120,18 @@ pole_same Receiving Sending h = cc
 
 -- the same type
 abbrev pub type_eq : TypeOf → TypeOf → Bool
-type_eq (BaseType a) (BaseType b) = base_eq a b
-type_eq (NameType i q e) (NameType j r f) = nat_eq i j && (pole_eq q r && pat_eq e f)
+type_eq (BaseTerm a) (BaseTerm b) = base_eq a b
+type_eq (MailboxTerm i q e) (MailboxTerm j r f) = nat_eq i j && (pole_eq q r && pat_eq e f)
 type_eq _ _ = false
 
 type_same : (s t : TypeOf) → type_eq s t ≡ true → s ≡ t
-type_same (BaseType a) (BaseType b) h = ap (λ x. BaseType x) (base_same a b h)
-type_same (NameType i q e) (NameType j r f) h =
+type_same (BaseTerm a) (BaseTerm b) h = ap (λ x. BaseTerm x) (base_same a b h)
+type_same (MailboxTerm i q e) (MailboxTerm j r f) h =
     let a = and_parts (nat_eq i j) (pole_eq q r && pat_eq e f) h in
     let b = and_parts (pole_eq q r) (pat_eq e f) a.1 in
-    ap (λ x. NameType x q e) (eqb-true i j a.0) ∙ ap (λ x. NameType j x e) (pole_same q r b.0) ∙ ap (λ x. NameType j r x) (pat_eq_same e f b.1)
-type_same (BaseType a) (NameType j r f) h = cc
-type_same (NameType i q e) (BaseType b) h = cc
+    ap (λ x. MailboxTerm x q e) (eqb-true i j a.0) ∙ ap (λ x. MailboxTerm j x e) (pole_same q r b.0) ∙ ap (λ x. MailboxTerm j r x) (pat_eq_same e f b.1)
+type_same (BaseTerm a) (MailboxTerm j r f) h = cc
+type_same (MailboxTerm i q e) (BaseTerm b) h = cc
 
 -- a returnable mailbox may stand for a second-class one
 abbrev pub usage_fits : Usage → Usage → Bool
@@ -175,15 +175,15 @@ module _ (depth tags : ℕ) where
       }
 
   abbrev pub type_fits : TypeOf → TypeOf → Bool
-  type_fits (BaseType a) (BaseType b) = base_eq a b
-  type_fits (NameType i q e) (NameType j r f) = fits_test (mailbox_type i q e Returnable) (mailbox_type j r f Returnable)
+  type_fits (BaseTerm a) (BaseTerm b) = base_eq a b
+  type_fits (MailboxTerm i q e) (MailboxTerm j r f) = fits_test (mailbox_type i q e Returnable) (mailbox_type j r f Returnable)
   type_fits _ _ = false
 
   fits_type : (s t : TypeOf) → type_fits s t ≡ true → TypeFits s t
-  fits_type (BaseType a) (BaseType b) h = base_same a b h
-  fits_type (NameType i q e) (NameType j r f) h = fits (mailbox_type i q e Returnable) (mailbox_type j r f Returnable) h
-  fits_type (BaseType a) (NameType j r f) h = cc
-  fits_type (NameType i q e) (BaseType b) h = cc
+  fits_type (BaseTerm a) (BaseTerm b) h = base_same a b h
+  fits_type (MailboxTerm i q e) (MailboxTerm j r f) h = fits (mailbox_type i q e Returnable) (mailbox_type j r f Returnable) h
+  fits_type (BaseTerm a) (MailboxTerm j r f) h = cc
+  fits_type (MailboxTerm i q e) (BaseTerm b) h = cc
 
   abbrev pub drops : Polarity → Pat → Bool
   drops Sending e = is_nullable e
@@ -302,42 +302,42 @@ module _ (depth tags : ℕ) where
 
     module _ (p : Program) (y : Typing) where
       abbrev pub value_typed : TypeOf → Expr → TypeEnv → Bool
-      value_typed (BaseType b) e g = env_passes g no_types
-      value_typed (NameType i q f) (VarExpr x) g = nat_lt x m && env_passes g (with_type x (mailbox_type i q f Returnable) no_types)
-      value_typed (NameType i q f) _ g = false
+      value_typed (BaseTerm b) e g = env_passes g no_types
+      value_typed (MailboxTerm i q f) (VarExpr x) g = nat_lt x m && env_passes g (with_type x (mailbox_type i q f Returnable) no_types)
+      value_typed (MailboxTerm i q f) _ g = false
 
       is_value : (t : TypeOf) (e : Expr) (g : TypeEnv) → Bounded m g → value_typed t e g ≡ true → ValueTyped t e g
-      is_value (BaseType b) e g bg h = passes_env g no_types bg (none_bounded m) h
-      is_value (NameType i q f) (VarExpr x) g bg h =
+      is_value (BaseTerm b) e g bg h = passes_env g no_types bg (none_bounded m) h
+      is_value (MailboxTerm i q f) (VarExpr x) g bg h =
           let both = and_parts (nat_lt x m) (env_passes g (with_type x (mailbox_type i q f Returnable) no_types)) h in
           passes_env g (with_type x (mailbox_type i q f Returnable) no_types) bg (with_bounded m x (mailbox_type i q f Returnable) no_types (below_true x m both.0) (none_bounded m)) both.1
-      is_value (NameType i q f) (Literal c) g bg h = cc
-      is_value (NameType i q f) (OpExpr op a b) g bg h = cc
+      is_value (MailboxTerm i q f) (Literal c) g bg h = cc
+      is_value (MailboxTerm i q f) (OpExpr op a b) g bg h = cc
 
       abbrev pub name_passes : TypeOf → Option MailboxType → Bool
-      name_passes (BaseType b) o = not (is_some o)
-      name_passes (NameType i q e) (Some a) = nat_eq a.interface i && (pole_eq a.polarity q && pat_eq a.pattern e)
-      name_passes (NameType i q e) None = drops q e
+      name_passes (BaseTerm b) o = not (is_some o)
+      name_passes (MailboxTerm i q e) (Some a) = nat_eq a.interface i && (pole_eq a.polarity q && pat_eq a.pattern e)
+      name_passes (MailboxTerm i q e) None = drops q e
 
-      is_name_passed : (t : TypeOf) (o : Option MailboxType) → name_passes t o ≡ true → NamePasses t o
-      is_name_passed (BaseType b) None h = refl
-      is_name_passed (BaseType b) (Some a) h = cc
-      is_name_passed (NameType i q e) (Some a) h =
+      is_mailbox_passed : (t : TypeOf) (o : Option MailboxType) → name_passes t o ≡ true → NamePasses t o
+      is_mailbox_passed (BaseTerm b) None h = refl
+      is_mailbox_passed (BaseTerm b) (Some a) h = cc
+      is_mailbox_passed (MailboxTerm i q e) (Some a) h =
           let x = and_parts (nat_eq a.interface i) (pole_eq a.polarity q && pat_eq a.pattern e) h in
           let z = and_parts (pole_eq a.polarity q) (pat_eq a.pattern e) x.1 in
           (eqb-true a.interface i x.0, pole_same a.polarity q z.0, pat_eq_same a.pattern e z.1)
-      is_name_passed (NameType i q e) None h = may_drop i q e Returnable h
+      is_mailbox_passed (MailboxTerm i q e) None h = may_drop i q e Returnable h
 
       abbrev pub new_typed : ℕ → TypeOf → Bool
-      new_typed i (NameType j Receiving e) = nat_eq i j && is_nullable e
+      new_typed i (MailboxTerm j Receiving e) = nat_eq i j && is_nullable e
       new_typed i _ = false
 
       is_new : (i : ℕ) (t : TypeOf) → new_typed i t ≡ true → NewTyped i t
-      is_new i (NameType j Receiving e) h =
+      is_new i (MailboxTerm j Receiving e) h =
           let both = and_parts (nat_eq i j) (is_nullable e) h in
           (eqb-true i j both.0, λ w e'. subst (In e) (sym e') (nullable_to e both.1))
-      is_new i (NameType j Sending e) h = cc
-      is_new i (BaseType b) h = cc
+      is_new i (MailboxTerm j Sending e) h = cc
+      is_new i (BaseTerm b) h = cc
 
       abbrev pub call_typed : TypeEnv → TypeOf → ℕ → List Expr → Option Function → Bool
       call_typed g t f args None = false
@@ -451,7 +451,7 @@ module _ (depth tags : ℕ) where
           type_eq (y.results a) t && (type_eq (y.results b) t && (env_passes g (y.envs a) && env_passes g (y.envs b)))
       core_typed g t (New i) = new_typed i t && env_passes g no_types
       core_typed g t (Send x n args) = send_typed g x n args (g x)
-      core_typed g t (Spawn a) = type_eq (y.results a) (BaseType BaseUnit) && env_passes (λ x. returnable (g x)) (y.envs a)
+      core_typed g t (Spawn a) = type_eq (y.results a) (BaseTerm BaseUnit) && env_passes (λ x. returnable (g x)) (y.envs a)
       core_typed g t (Guard x e free cs) = guard_typed g t x e free cs (g x)
 
       is_core : (bounded : (n : ℕ) → Bounded m (y.envs n)) → (g : TypeEnv) (t : TypeOf) → Bounded m g → (core : Core) → core_typed g t core ≡ true → CoreTyped p y g t core
@@ -465,7 +465,7 @@ module _ (depth tags : ℕ) where
           let v = and_parts t2 t3 u.1 in (
             type_same (y.results b) t u.0,
             splits_env g (y.envs a) (without_name x (y.envs b)) bg (bounded a) (name_bounded m x (y.envs b) (bounded b)) v.0,
-            is_name_passed (y.results a) (name_type x (y.envs b)) v.1,
+            is_mailbox_passed (y.results a) (name_type x (y.envs b)) v.1,
           )
       is_core bounded g t bg (Call f args) h = go (function_at p f) refl h
         where
@@ -522,8 +522,8 @@ module _ (depth tags : ℕ) where
               let both = and_parts (nat_lt x m) (payload_typed g a.interface x n args (tag_at p a.interface n)) w in
               on a.interface (below_true x m both.0) (tag_at p a.interface n) refl both.1
       is_core bounded g t bg (Spawn a) h =
-          let both = and_parts (type_eq (y.results a) (BaseType BaseUnit)) (env_passes (λ x. returnable (g x)) (y.envs a)) h in
-          (type_same (y.results a) (BaseType BaseUnit) both.0, passes_env (λ x. returnable (g x)) (y.envs a) (returnable_bounded m g bg) (bounded a) both.1)
+          let both = and_parts (type_eq (y.results a) (BaseTerm BaseUnit)) (env_passes (λ x. returnable (g x)) (y.envs a)) h in
+          (type_same (y.results a) (BaseTerm BaseUnit) both.0, passes_env (λ x. returnable (g x)) (y.envs a) (returnable_bounded m g bg) (bounded a) both.1)
       is_core bounded g t bg (Guard x e free cs) h = go (g x) refl h
         where
           go : (o : Option MailboxType) → g x ≡ o → guard_typed g t x e free cs o ≡ true → CoreTyped p y g t (Guard x e free cs)
@@ -561,12 +561,12 @@ module _ (depth tags : ℕ) where
       word_of Receiving e h = tt
 
       abbrev pub type_has_word : TypeOf → Bool
-      type_has_word (BaseType b) = true
-      type_has_word (NameType i q e) = has_word q e
+      type_has_word (BaseTerm b) = true
+      type_has_word (MailboxTerm i q e) = has_word q e
 
       word_of_type : (t : TypeOf) → type_has_word t ≡ true → TypeHasWord t
-      word_of_type (BaseType b) h = tt
-      word_of_type (NameType i q e) h = word_of q e h
+      word_of_type (BaseTerm b) h = tt
+      word_of_type (MailboxTerm i q e) h = word_of q e h
 
       abbrev pub words_at : Option MailboxType → Bool
       words_at None = true

@@ -5,14 +5,14 @@ use Rattle.pat_words.specs.Words.{Word, no_word, LiesIn}
 use Rattle.pat_words.specs.Patterns.{One, Tag, Sum, In}
 use Rattle.pat_words.proofs.WordLaws.{count_eq}
 use Rattle.pat_words.proofs.CoverLaws.{covers_to}
-use Rattle.pat_model.specs.Values.{BaseUnit, VarExpr, Name}
+use Rattle.pat_model.specs.Values.{BaseUnit, VarExpr, Mailbox}
 use Rattle.pat_model.specs.Programs.{Sending, Receiving, Send, Guard, is_free}
 use Rattle.pat_model.specs.WellFormed.{WellFormed}
 use Rattle.pat_model.specs.Configs.{pending}
 use Rattle.pat_model.specs.Steps.{ActLocal, ActNew, ActSend, ActFree, ActReceive, Step}
 use Rattle.pat_model.specs.Runs.{run}
 use Rattle.pat_model.specs.Faults.{AccountsFor, LeftBehind, unreached, dead, too_many, GuardOn, left, unexpected}
-use Rattle.pat_typing.specs.Types.{Second, Returnable, MailboxType, TypeOf, BaseType, TypeEnv, mailbox_type, with_type, without}
+use Rattle.pat_typing.specs.Types.{Second, Returnable, MailboxType, TypeOf, BaseTerm, TypeEnv, mailbox_type, with_type, without}
 use Rattle.pat_typing.specs.Typings.{Typing, payload_type, args_need, with_payloads, clause_env, is_received}
 use Rattle.pat_examples.specs.Build.{main_step, led_by, tag, clause, unit_node, sending_as}
 use Rattle.pat_examples.specs.Unsafe.{leak, alias, beside, SendsButAlias, ClauseButOwn, GuardsButOwn, ReachesFault, OnlyAlias, OnlyBeside}
@@ -63,7 +63,7 @@ alias_leads = refl
 alias_guard : GuardOn alias (led_by alias alias_steps) 0 0
 unfolding is_free alias_steps
 alias_guard = record {
-  guard = record { node = 7; env = (2, Name 0) ∷ []; frames = []; var = 2; pattern = One; free = Some 8; receives = []; stands = refl; term = refl };
+  guard = record { node = 7; env = (2, Mailbox 0) ∷ []; frames = []; var = 2; pattern = One; free = Some 8; receives = []; stands = refl; term = refl };
   names = refl;
 }
 
@@ -186,7 +186,7 @@ beside_bounded : (n : ℕ) → Bounded 4 (env_in beside_lines n)
 unfolding beside_lines
 beside_bounded n = lines_bounded 4 beside_lines refl n
 
-beside_clause : ClauseButOwn beside beside_typing (env_in beside_lines 7) (BaseType BaseUnit) 1 1 (Tag 0) (clause 0 (2 ∷ []) 3 8)
+beside_clause : ClauseButOwn beside beside_typing (env_in beside_lines 7) (BaseTerm BaseUnit) 1 1 (Tag 0) (clause 0 (2 ∷ []) 3 8)
 unfolding beside_lines
 beside_clause = record {
   decl = tag (codes "m") (sending_as 0 One ∷ []);
@@ -202,7 +202,7 @@ beside_clause = record {
     inner : TypeEnv
     inner = with_payloads types 0 (2 ∷ []) (without 1 (env_in beside_lines 7))
 
-beside_guards : GuardsButOwn beside beside_typing (env_in beside_lines 7) (BaseType BaseUnit) 1 (Tag 0) (clause 0 (2 ∷ []) 3 8 ∷ [])
+beside_guards : GuardsButOwn beside beside_typing (env_in beside_lines 7) (BaseTerm BaseUnit) 1 (Tag 0) (clause 0 (2 ∷ []) 3 8 ∷ [])
 unfolding beside_lines
 beside_guards = record {
   guarded = mailbox_type 1 Receiving (Tag 0) Returnable;
@@ -214,7 +214,7 @@ beside_guards = record {
 
 pub only_beside : OnlyBeside
 unfolding beside_lines
-only_beside = (beside_typing, typed_but 3 1 4 beside beside_typing beside_bounded 7 (GuardsButOwn beside beside_typing (env_in beside_lines 7) (BaseType BaseUnit) 1 (Tag 0) (clause 0 (2 ∷ []) 3 8 ∷ [])) (unit_node 1 (Guard 1 (Tag 0) None (clause 0 (2 ∷ []) 3 8 ∷ []))) refl refl refl refl beside_guards)
+only_beside = (beside_typing, typed_but 3 1 4 beside beside_typing beside_bounded 7 (GuardsButOwn beside beside_typing (env_in beside_lines 7) (BaseTerm BaseUnit) 1 (Tag 0) (clause 0 (2 ∷ []) 3 8 ∷ [])) (unit_node 1 (Guard 1 (Tag 0) None (clause 0 (2 ∷ []) 3 8 ∷ []))) refl refl refl refl beside_guards)
 
 -- ---- and well formed
 

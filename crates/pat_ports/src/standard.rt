@@ -1,6 +1,9 @@
 // The standard streams, which tell no content and count their errors.
 ghost use Rattle.std.specs.Prelude.{◌≡◌, None};
-ghost use Rattle.std.specs.Io.{WritesAtMost};
+ghost use Rattle.std.specs.Io.{ReadsAtMost, WritesAtMost};
+ghost use Rattle.std.specs.Io.KnownBytes.{ReadConsumes, WriteAppends};
+ghost use Rattle.pat_ports.specs.Causes.{HasCause, faults_after};
+ghost use Rattle.pat_ports.specs.Bytes.{WritesSome};
 
 use crate::{Failed, Sink, Source};
 use std::io::{self, Read, Write};
@@ -13,7 +16,10 @@ pub struct StdSource<R: Read + Drop> {
 }
 
 impl<R: Read + Drop> StdSource<R> {
-    pub fn new(inner: R) -> Self {
+    /// A source over this reader, with no fault counted yet.
+    pub fn new(inner: R) -> Self
+        ensures { result.faults ≡ 0 }
+    {
         StdSource { inner, faults: 0 }
     }
 }
@@ -23,7 +29,12 @@ impl<R: Read + Drop> Source for StdSource<R> {
 
     ghost faults = { λ s. s.faults };
 
-    fn read(&mut self, buf: &mut [u8]) -> Result<usize, Failed> {
+    fn read(&mut self, buf: &mut [u8]) -> Result<usize, Failed>
+        ensures bound { ReadsAtMost result buf.new }
+        ensures bytes { ReadConsumes None None result buf.new }
+        ensures cause { HasCause self.old.faults self.new.faults result }
+        ensures counted { self.new.faults ≡ faults_after self.old.faults result }
+    {
         match self.inner.read(buf) {
             Ok(count) => Ok(count),
             Err(_) => {
@@ -43,7 +54,10 @@ pub struct StdSink<W: Write + Drop> {
 }
 
 impl<W: Write + Drop> StdSink<W> {
-    pub fn new(inner: W) -> Self {
+    /// A sink over this writer, with no fault counted yet.
+    pub fn new(inner: W) -> Self
+        ensures { result.faults ≡ 0 }
+    {
         StdSink { inner, faults: 0 }
     }
 
@@ -62,7 +76,12 @@ impl<W: Write + Drop> Sink for StdSink<W> {
 
     ghost faults = { λ s. s.faults };
 
-    fn write(&mut self, bytes: &[u8]) -> Result<usize, Failed> {
+    fn write(&mut self, bytes: &[u8]) -> Result<usize, Failed>
+        ensures count { WritesSome result bytes.now }
+        ensures bytes { WriteAppends None None result bytes.now }
+        ensures cause { HasCause self.old.faults self.new.faults result }
+        ensures counted { self.new.faults ≡ faults_after self.old.faults result }
+    {
         match self.write_through(bytes) {
             Ok(count) if count > 0 || bytes.is_empty() => Ok(count),
             _ => {

@@ -3,9 +3,9 @@ use Rattle.std.proofs.Common.{◌≡◌, ℕ, suc, ◌+◌, Bool, true, false, �
 use Rattle.std.specs.Prelude.{slice_get, option_and_then}
 use Rattle.std.specs.List.{AllByRecursion, list_any}
 use Rattle.std.proofs.lemmas.Bool.{or_cases, or_left, or_right, or_parts, cases_Bool}
-use Rattle.pat_model.specs.Values.{Value, Name, Kind, Plain, MailboxOf, Env, ValueFits}
+use Rattle.pat_model.specs.Values.{Value, Mailbox, Kind, Plain, MailboxOf, Env, ValueFits}
 use Rattle.pat_model.specs.Programs.{Program, Sending, Receiving, Sort, BaseSort, MailboxSort, TagDecl, tag_at, is_among, KindAt, option_list, is_receiving}
-use Rattle.pat_model.specs.Configs.{Control, Running, Returned, Frame, Thread, Message, Config, is_name, has_pending, some_thread_refers, some_message_refers}
+use Rattle.pat_model.specs.Configs.{Control, Running, Returned, Frame, Thread, Message, Config, is_mailbox, has_pending, some_thread_refers, some_message_refers}
 use Rattle.pat_model.specs.Faults.{VariablesAgree, ControlAgrees, ThreadAgrees, MessageAgrees, is_received_as, payloads_of, message_delegates, is_delegated, AccountsFor, LeftBehind, unreached, dead}
 use Rattle.pat_typing.specs.Types.{TypeEnv}
 use Rattle.pat_typing.specs.Typings.{Typing, payload_sort, payload_type}
@@ -36,7 +36,7 @@ sort_receives (MailboxSort i Receiving e) h = cc
 none_received : (b : ℕ) (types : TypeEnv) (k : ℕ) (ss : List Sort) (vs : List Value) → AreAt types k ss → is_received_as b ss vs ≡ false → receives (payload_held b types k vs) ≡ []
 none_received b types k ss [] at h = refl
 none_received b types k [] (v ∷ vs) at h =
-    elim (is_name b v) as (λ t. receives (if t then types k else payload_held b types (suc k) vs) ≡ []) [
+    elim (is_mailbox b v) as (λ t. receives (if t then types k else payload_held b types (suc k) vs) ≡ []) [
       | true ↦ ap receives (at_first types k [] at)
       | false ↦ none_received b types (suc k) [] vs (λ j. ap types (omega arith) ∙ at (suc j)) (past vs)
     ]
@@ -45,8 +45,8 @@ none_received b types k [] (v ∷ vs) at h =
     past [] = refl
     past (w ∷ ws) = refl
 none_received b types k (s ∷ ss) (v ∷ vs) at h =
-    let q = or_parts (is_receiving s && is_name b v) (is_received_as b ss vs) h in
-    (elim (is_name b v) as (λ t. (is_receiving s && t) ≡ false → receives (if t then types k else payload_held b types (suc k) vs) ≡ []) [
+    let q = or_parts (is_receiving s && is_mailbox b v) (is_received_as b ss vs) h in
+    (elim (is_mailbox b v) as (λ t. (is_receiving s && t) ≡ false → receives (if t then types k else payload_held b types (suc k) vs) ≡ []) [
       | true ↦ λ w. ap receives (at_first types k (s ∷ ss) at) ∙ sort_receives s (first (is_receiving s) w)
       | false ↦ λ w. none_received b types (suc k) ss vs (at_rest types k s ss at) q.1
     ]) q.0
@@ -89,13 +89,13 @@ reached_by p y c typed a live =
 
 -- ---- variables and messages
 
-kind_agrees : (p : Program) (interfaces : ℕ → ℕ) (n x a : ℕ) (k : Kind) → KindAt p n x k → ValueFits interfaces (Name a) k → KindAt p n x (MailboxOf (interfaces a))
+kind_agrees : (p : Program) (interfaces : ℕ → ℕ) (n x a : ℕ) (k : Kind) → KindAt p n x k → ValueFits interfaces (Mailbox a) k → KindAt p n x (MailboxOf (interfaces a))
 kind_agrees p f n x a (MailboxOf i) at fits = subst (λ j. KindAt p n x (MailboxOf j)) (sym fits) at
 kind_agrees p f n x a (Plain b) at fits = absurd fits
 
 part_agrees : (p : Program) (interfaces : ℕ → ℕ) (live : List ℕ) (n : ℕ) (but : List ℕ) (env : Env) → PartFits p interfaces n but env → VariablesAgree p interfaces live n env
 part_agrees p f live n but env part x a at l =
-    let k = part.kinds x (Name a) at in
+    let k = part.kinds x (Mailbox a) at in
     kind_agrees p f n x a k.0 k.1 k.2
 
 control_agrees : (p : Program) (y : Typing) (interfaces : ℕ → ℕ) (live : List ℕ) (k : Control) (fs : List Frame) → ControlFits p y interfaces k fs → ControlAgrees p interfaces live k

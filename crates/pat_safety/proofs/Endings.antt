@@ -5,7 +5,7 @@ use Rattle.std.specs.List.{list_any}
 use Rattle.std.proofs.lemmas.Bool.{or_cases, or_left, or_right, or_parts, and_parts, cases_Bool}
 use Rattle.pat_model.specs.Values.{Value}
 use Rattle.pat_model.specs.Programs.{Program, Interface, TagDecl, Sort, tag_at, is_among, is_receiving, delegates}
-use Rattle.pat_model.specs.Configs.{Message, Config, is_name, message_refers, has_pending, some_thread_refers, some_message_refers, thread_refers}
+use Rattle.pat_model.specs.Configs.{Message, Config, is_mailbox, message_refers, has_pending, some_thread_refers, some_message_refers, thread_refers}
 use Rattle.pat_model.specs.WellFormed.{WellFormed}
 use Rattle.pat_model.specs.Steps.{Step}
 use Rattle.pat_model.specs.Runs.{run}
@@ -42,9 +42,9 @@ plain_receives a (s ∷ ss) [] off h = cc
 plain_receives a (s ∷ ss) (v ∷ vs) off h =
     let q = or_parts (is_receiving s) (list_any is_receiving ss) off in
     ⊎_elim
-    (λ l. clash (and_parts (is_receiving s) (is_name a v) l).0 q.0)
+    (λ l. clash (and_parts (is_receiving s) (is_mailbox a v) l).0 q.0)
     (λ r. plain_receives a ss vs q.1 r)
-    (or_cases (is_receiving s && is_name a v) (is_received_as a ss vs) h)
+    (or_cases (is_receiving s && is_mailbox a v) (is_received_as a ss vs) h)
 
 plain_delegates : (p : Program) (interfaces : ℕ → ℕ) (a : ℕ) (ms : List Message) → delegates p ≡ false → list_any (message_delegates p interfaces a) ms ≡ true → ⊥
 plain_delegates p f a [] off h = cc
@@ -80,15 +80,15 @@ done_leaves_none p ks c safe off h none = go c.live refl
         let live : is_among x c.live ≡ true = ap (is_among x) e ∙ among_head x xs in
         absurd (clash (live_referred p ks c x safe off h live) (no_thread_refers c x none))
 
-received_names : (a : ℕ) (ss : List Sort) (vs : List Value) → is_received_as a ss vs ≡ true → list_any (is_name a) vs ≡ true
+received_names : (a : ℕ) (ss : List Sort) (vs : List Value) → is_received_as a ss vs ≡ true → list_any (is_mailbox a) vs ≡ true
 received_names a [] [] h = cc
 received_names a [] (v ∷ vs) h = cc
 received_names a (s ∷ ss) [] h = cc
 received_names a (s ∷ ss) (v ∷ vs) h =
     ⊎_elim
-    (λ l. or_left (is_name a v) (list_any (is_name a) vs) (and_parts (is_receiving s) (is_name a v) l).1)
-    (λ r. or_right (is_name a v) (list_any (is_name a) vs) (received_names a ss vs r))
-    (or_cases (is_receiving s && is_name a v) (is_received_as a ss vs) h)
+    (λ l. or_left (is_mailbox a v) (list_any (is_mailbox a) vs) (and_parts (is_receiving s) (is_mailbox a v) l).1)
+    (λ r. or_right (is_mailbox a v) (list_any (is_mailbox a) vs) (received_names a ss vs r))
+    (or_cases (is_receiving s && is_mailbox a v) (is_received_as a ss vs) h)
 
 delegated_refers : (p : Program) (interfaces : ℕ → ℕ) (a : ℕ) (ms : List Message) → list_any (message_delegates p interfaces a) ms ≡ true → list_any (message_refers a) ms ≡ true
 delegated_refers p f a [] h = cc

@@ -10,10 +10,10 @@ use Rattle.pat_words.proofs.WordLaws.{plus_none}
 use Rattle.pat_model.specs.Values.{Value, Env}
 use Rattle.pat_model.specs.Programs.{Program, Polarity, Sending, Receiving, Sort, BaseSort, MailboxSort, TagDecl, Clause, Let, is_among, option_list}
 use Rattle.pat_model.specs.WellFormed.{WellFormed, IsPayload}
-use Rattle.pat_model.specs.Configs.{Control, Running, Returned, Frame, Thread, Message, Config, is_name, thread_refers, has_pending, other_refers, pending_in}
+use Rattle.pat_model.specs.Configs.{Control, Running, Returned, Frame, Thread, Message, Config, is_mailbox, thread_refers, has_pending, other_refers, pending_in}
 use Rattle.pat_model.specs.Steps.{clause_for}
 use Rattle.pat_model.specs.Faults.{IsIn}
-use Rattle.pat_typing.specs.Types.{MailboxType, TypeOf, BaseType, NameType, TypeEnv}
+use Rattle.pat_typing.specs.Types.{MailboxType, TypeOf, BaseTerm, MailboxTerm, TypeEnv}
 use Rattle.pat_typing.specs.Typings.{Typing, IsTyping, HasWord, TypeHasWord, payload_sort, payload_type, is_received}
 use Rattle.pat_typing.specs.Holdings.{Holding, held, as_holding, type_at, control_held, frame_held, thread_held, threads_held, payload_held, declared_types, message_held, wanted, holdings, SendsBy, Sends, Choice}
 use Rattle.pat_typing.specs.Typed.{IsTyped, ThreadFits, ControlFits, PartFits, FramesFit, MessageFits}
@@ -64,8 +64,8 @@ held_word g b env words = held_all g b HoldingHasWord tt (λ x. go x (g x) refl)
     go x (Some a) e = words x a e
 
 type_word : (t : TypeOf) → TypeHasWord t → HoldingHasWord (as_holding t)
-type_word (BaseType b) h = tt
-type_word (NameType i q e) h = h
+type_word (BaseTerm b) h = tt
+type_word (MailboxTerm i q e) h = h
 
 module _ (p : Program) (y : Typing) (interfaces : ℕ → ℕ) (wf : WellFormed p) (typing : IsTyping p y) where
   part_word : (n : ℕ) (but : List ℕ) (env : Env) (b : ℕ) → PartFits p interfaces n but env → HoldingHasWord (held (y.envs n) b env)
@@ -82,7 +82,7 @@ module _ (p : Program) (y : Typing) (interfaces : ℕ → ℕ) (wf : WellFormed 
   control_word : (k : Control) (fs : List Frame) (b : ℕ) → ControlFits p y interfaces k fs → FramesFit p y interfaces fs → HoldingHasWord (control_held p y b k fs)
   control_word (Running n env) fs b h frames = part_word n [] env b h.0
   control_word (Returned v) fs b h frames =
-      elim (is_name b v) as (λ t. HoldingHasWord (if t then as_holding (wanted p y fs) else None)) [
+      elim (is_mailbox b v) as (λ t. HoldingHasWord (if t then as_holding (wanted p y fs) else None)) [
         | true ↦ type_word (wanted p y fs) (wanted_word fs frames)
         | false ↦ tt
       ]
@@ -115,7 +115,7 @@ module _ (p : Program) (y : Typing) (interfaces : ℕ → ℕ) (wf : WellFormed 
   payload_word : (types : TypeEnv) → ((k : ℕ) → HoldingHasWord (types k)) → (b k : ℕ) (vs : List Value) → HoldingHasWord (payload_held b types k vs)
   payload_word types words b k [] = tt
   payload_word types words b k (v ∷ vs) =
-      elim (is_name b v) as (λ t. HoldingHasWord (if t then types k else payload_held b types (suc k) vs)) [
+      elim (is_mailbox b v) as (λ t. HoldingHasWord (if t then types k else payload_held b types (suc k) vs)) [
         | true ↦ words k
         | false ↦ payload_word types words b (suc k) vs
       ]

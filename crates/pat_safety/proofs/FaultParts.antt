@@ -2,7 +2,7 @@
 use Rattle.std.proofs.Common.{◌≡◌, ℕ, true, false, nat_eq, List, [], ◌∷◌, map, Some, refl, sym, ap, ◌∙◌, subst, ⊎_elim}
 use Rattle.std.specs.Prelude.{slice_get}
 use Rattle.std.proofs.lemmas.Bool.{or_left, eq-eqb}
-use Rattle.pat_model.specs.Values.{Value, Const, Name, Kind, Plain, MailboxOf, Env, value_at, ValueHasKind, ValuesHaveKinds, ValueFits, ValuesFit}
+use Rattle.pat_model.specs.Values.{Value, Const, Mailbox, Kind, Plain, MailboxOf, Env, value_at, ValueHasKind, ValuesHaveKinds, ValueFits, ValuesFit}
 use Rattle.pat_model.specs.Programs.{Program, Let, Node, function_at, tag_at, kind_of, is_free, is_among, option_list, KindAt, Function}
 use Rattle.pat_model.specs.WellFormed.{WellFormed}
 use Rattle.pat_model.specs.Configs.{Returned, Frame, Message}
@@ -22,9 +22,9 @@ use Rattle.pat_typed.proofs.Frames.{name_kind}
 -- a value that fits has the kind
 pub fits_has : (interfaces : ℕ → ℕ) (v : Value) (k : Kind) → ValueFits interfaces v k → ValueHasKind v k
 fits_has f (Const c) (Plain b) h = h
-fits_has f (Name a) (MailboxOf i) h = tt
+fits_has f (Mailbox a) (MailboxOf i) h = tt
 fits_has f (Const c) (MailboxOf i) h = absurd h
-fits_has f (Name a) (Plain b) h = absurd h
+fits_has f (Mailbox a) (Plain b) h = absurd h
 
 pub all_have : (interfaces : ℕ → ℕ) (vs : List Value) (ks : List Kind) → ValuesFit interfaces vs ks → ValuesHaveKinds vs ks
 all_have f [] [] h = tt
@@ -71,10 +71,10 @@ returned_has p y i v f fs wf typing fits x k named kind =
 -- ---- messages
 
 -- where a part names a mailbox, it has the variable's interface
-pub part_interface : (p : Program) (interfaces : ℕ → ℕ) (n : ℕ) (but : List ℕ) (env : Env) → PartFits p interfaces n but env → (x a i : ℕ) → value_at env x ≡ Some (Name a) → KindAt p n x (MailboxOf i) → interfaces a ≡ i
+pub part_interface : (p : Program) (interfaces : ℕ → ℕ) (n : ℕ) (but : List ℕ) (env : Env) → PartFits p interfaces n but env → (x a i : ℕ) → value_at env x ≡ Some (Mailbox a) → KindAt p n x (MailboxOf i) → interfaces a ≡ i
 part_interface p f n but env part x a i at kind =
-    let k = part.kinds x (Name a) at in
-    subst (λ w. ValueFits f (Name a) w) (one_kind p n x k.0 (MailboxOf i) k.1 kind) k.2
+    let k = part.kinds x (Mailbox a) at in
+    subst (λ w. ValueFits f (Mailbox a) w) (one_kind p n x k.0 (MailboxOf i) k.1 kind) k.2
 
 pub message_declared : (p : Program) (interfaces : ℕ → ℕ) (i : ℕ) (m : Message) → MessageFits p interfaces m → interfaces m.mailbox ≡ i → IsAsDeclared p i m
 message_declared p f i m fits same =

@@ -6,7 +6,7 @@ use Rattle.std.proofs.lemmas.Bool.{or_left, eq-eqb, eqb-true, and_from, and_part
 use Rattle.pat_words.specs.Words.{Word, no_word, plus, LiesIn}
 use Rattle.pat_words.specs.Patterns.{Pat, In}
 use Rattle.pat_words.proofs.WordLaws.{plus_none}
-use Rattle.pat_model.specs.Values.{Value, Const, Name, Kind, MailboxOf, value_at, ValueFits, ValuesFit}
+use Rattle.pat_model.specs.Values.{Value, Const, Mailbox, Kind, MailboxOf, value_at, ValueFits, ValuesFit}
 use Rattle.pat_model.specs.Programs.{Program, Polarity, Sending, Receiving, TagDecl, Clause, Core, Guard, core_at, tag_at, kind_of, is_among, is_free, option_list, clause_uses, KindAt}
 use Rattle.pat_model.specs.WellFormed.{WellFormed, VarsHaveKinds, ClauseKinds}
 use Rattle.pat_model.specs.Configs.{Running, Thread, Message, Config, with_thread, env_refers, thread_refers, message_refers, has_pending, other_refers, is_reached_by_none_but, pending}
@@ -59,7 +59,7 @@ front_fits g rest r q b w c =
     subst (λ (e : Pat). In e (plus r w)) (sym same.0) (b.fits w c)
 
 -- thread t stands at a guard on mailbox a
-module _ (p : Program) (y : Typing) (c : Config) (wf : WellFormed p) (typed : IsTyped p y c) (t : ℕ) (g : GuardAt p c t) (a : ℕ) (names : value_at g.env g.var ≡ Some (Name a)) where
+module _ (p : Program) (y : Typing) (c : Config) (wf : WellFormed p) (typed : IsTyped p y c) (t : ℕ) (g : GuardAt p c t) (a : ℕ) (names : value_at g.env g.var ≡ Some (Mailbox a)) where
   abbrev n : ℕ
   n = g.node
 
@@ -159,7 +159,7 @@ module _ (p : Program) (y : Typing) (c : Config) (wf : WellFormed p) (typed : Is
       step_is ActFree
       ∙ ap (λ o. free_at p c t g.frames (redex_at o g.env)) g.term
       ∙ ap (λ o. free_mailbox p c t g.frames g.free g.env o) names
-      ∙ ap (λ o. free_mailbox p c t g.frames o g.env (Some (Name a))) free
+      ∙ ap (λ o. free_mailbox p c t g.frames o g.env (Some (Mailbox a))) free
       ∙ cond-true test (Some made) None on in
       some_none (step p c (record { thread = t; act = ActFree })) is off
 
@@ -178,7 +178,7 @@ module _ (p : Program) (y : Typing) (c : Config) (wf : WellFormed p) (typed : Is
       let message_fits = is_in_all (MessageFits p typed.interfaces) c.messages m typed.messages q.is_in in
       let own : m.mailbox ≡ a = eqb-true m.mailbox a q.mailbox in
       let interface_is : typed.interfaces a ≡ facts.kinds.0 =
-      env_fits p y typed.interfaces n core g.env facts part g.var (Name a) (MailboxOf facts.kinds.0) names facts.kinds.1 in
+      env_fits p y typed.interfaces n core g.env facts part g.var (Mailbox a) (MailboxOf facts.kinds.0) names facts.kinds.1 in
       let declared : tag_at p (typed.interfaces m.mailbox) m.tag ≡ Some kinds.0.decl =
       ap (λ b. tag_at p (typed.interfaces b) m.tag) own ∙ ap (λ i. tag_at p i m.tag) interface_is ∙ ap (λ k. tag_at p facts.kinds.0 k) (sym kinds.1) ∙ kinds.0.declared in
       let both : Some message_fits.decl ≡ Some kinds.0.decl = sym message_fits.declared ∙ declared in
@@ -194,7 +194,7 @@ module _ (p : Program) (y : Typing) (c : Config) (wf : WellFormed p) (typed : Is
       step_is (ActReceive m.number)
       ∙ ap (λ o. receive_at p c t g.frames m.number (redex_at o g.env)) g.term
       ∙ ap (λ o. receive_from p c t g.frames g.receives g.env o (message_at c m.number)) names
-      ∙ ap (λ o. receive_from p c t g.frames g.receives g.env (Some (Name a)) o) found
+      ∙ ap (λ o. receive_from p c t g.frames g.receives g.env (Some (Mailbox a)) o) found
       ∙ ap (λ o. receive_message p c t g.frames g.receives g.env a m o) chosen_m
       ∙ cond-true test (Some made) None on in
       some_none (step p c (record { thread = t; act = ActReceive m.number })) is (off m.number)
@@ -238,7 +238,7 @@ guard_free p n x e free cs wf at =
     ∙ or_left (nat_eq x x) (list_any (is_free p x) (option_list free) || list_any (clause_uses (is_free p x) x) cs) (eq-eqb x x refl)
 
 -- a guard's variable names a mailbox
-pub guard_names : (p : Program) (y : Typing) (c : Config) (wf : WellFormed p) (typed : IsTyped p y c) (t : ℕ) (g : GuardAt p c t) → (a : ℕ) × (value_at g.env g.var ≡ Some (Name a))
+pub guard_names : (p : Program) (y : Typing) (c : Config) (wf : WellFormed p) (typed : IsTyped p y c) (t : ℕ) (g : GuardAt p c t) → (a : ℕ) × (value_at g.env g.var ≡ Some (Mailbox a))
 guard_names p y c wf typed t g =
     let s = thread_of (Running g.node g.env) g.frames in
     let core = Guard g.var g.pattern g.free g.receives in
@@ -251,8 +251,8 @@ guard_names p y c wf typed t g =
     let a = a_name typed.interfaces v.0 facts.kinds.0 fit in
     (a.0, v.1 ∙ ap (λ w. Some w) a.1)
   where
-    a_name : (f : ℕ → ℕ) (v : Value) (i : ℕ) → ValueFits f v (MailboxOf i) → (a : ℕ) × (v ≡ Name a)
-    a_name f (Name a) i h = (a, refl)
+    a_name : (f : ℕ → ℕ) (v : Value) (i : ℕ) → ValueFits f v (MailboxOf i) → (a : ℕ) × (v ≡ Mailbox a)
+    a_name f (Mailbox a) i h = (a, refl)
     a_name f (Const k) i h = absurd h
 
 pub not_failing : (p : Program) (y : Typing) (c : Config) → WellFormed p → IsTyped p y c → FailingGuard p c → ⊥

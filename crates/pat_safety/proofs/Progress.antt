@@ -4,7 +4,7 @@ use Rattle.std.specs.Prelude.{is_some, slice_get, option_map, option_and_then, c
 use Rattle.std.specs.List.{list_any}
 use Rattle.std.specs.Int.{w64, int_wrapping_add, int_wrapping_sub, int_wrapping_mul}
 use Rattle.std.proofs.lemmas.Bool.{or_left, or_right, eq-eqb}
-use Rattle.pat_model.specs.Values.{BaseBool, BaseInt, BaseText, Value, Const, Name, Constant, UnitConst, BoolConst, IntConst, TextConst, Kind, Plain, MailboxOf, Op, Add, Sub, Mul, Equal, Less, Expr, VarExpr, Literal, OpExpr, Env, value_at, occurs, apply, apply_values, eval, eval_all, both_values, line_of, ValueFits}
+use Rattle.pat_model.specs.Values.{BaseBool, BaseInt, BaseText, Value, Const, Mailbox, Constant, UnitConst, BoolConst, IntConst, TextConst, Kind, Plain, MailboxOf, Op, Add, Sub, Mul, Equal, Less, Expr, VarExpr, Literal, OpExpr, Env, value_at, occurs, apply, apply_values, eval, eval_all, both_values, line_of, ValueFits}
 use Rattle.pat_model.specs.Programs.{Program, Core, Val, Let, Call, If, Print, New, Send, Spawn, Guard, core_at, is_free, core_uses, kind_of, option_list}
 use Rattle.pat_model.specs.WellFormed.{WellFormed, op_kind, expr_kind, HaveKinds, IsPrintable}
 use Rattle.pat_model.specs.Configs.{Control, Running, Returned, Frame, Thread, Config, thread_at, with_thread}
@@ -35,24 +35,24 @@ module _ (interfaces : ℕ → ℕ) where
   int_value (Const UnitConst) h = cc
   int_value (Const (BoolConst b)) h = cc
   int_value (Const (TextConst t)) h = cc
-  int_value (Name a) h = absurd h
+  int_value (Mailbox a) h = absurd h
 
   bool_value : (v : Value) → ValueFits interfaces v (Plain BaseBool) → (b : Bool) × (v ≡ Const (BoolConst b))
   bool_value (Const (BoolConst b)) h = (b, refl)
   bool_value (Const UnitConst) h = cc
   bool_value (Const (IntConst n)) h = cc
   bool_value (Const (TextConst t)) h = cc
-  bool_value (Name a) h = absurd h
+  bool_value (Mailbox a) h = absurd h
 
   text_value : (v : Value) → ValueFits interfaces v (Plain BaseText) → (t : List ℕ) × (v ≡ Const (TextConst t))
   text_value (Const (TextConst t)) h = (t, refl)
   text_value (Const UnitConst) h = cc
   text_value (Const (IntConst n)) h = cc
   text_value (Const (BoolConst b)) h = cc
-  text_value (Name a) h = absurd h
+  text_value (Mailbox a) h = absurd h
 
-  name_value : (v : Value) (i : ℕ) → ValueFits interfaces v (MailboxOf i) → (a : ℕ) × (v ≡ Name a)
-  name_value (Name a) i h = (a, refl)
+  name_value : (v : Value) (i : ℕ) → ValueFits interfaces v (MailboxOf i) → (a : ℕ) × (v ≡ Mailbox a)
+  name_value (Mailbox a) i h = (a, refl)
   name_value (Const k) i h = absurd h
 
   printed_value : (v : Value) (k : Kind) → IsPrintable k → ValueFits interfaces v k → (line : List ℕ) × (line_of v ≡ Some line)
@@ -62,8 +62,8 @@ module _ (interfaces : ℕ → ℕ) where
   printed_value (Const (TextConst t)) k p h = (t, refl)
   printed_value (Const UnitConst) (Plain b) p h = absurd (subst (λ c. IsPrintable (Plain c)) (sym h) p)
   printed_value (Const UnitConst) (MailboxOf i) p h = absurd h
-  printed_value (Name a) (MailboxOf i) p h = absurd p
-  printed_value (Name a) (Plain b) p h = absurd h
+  printed_value (Mailbox a) (MailboxOf i) p h = absurd p
+  printed_value (Mailbox a) (Plain b) p h = absurd h
 
   op_on : (op : Op) (c d e : Constant) (va vb : Value) → va ≡ Const c → vb ≡ Const d → apply op c d ≡ Some e → (v : Value) × (apply_values op (Some va) (Some vb) ≡ Some v)
   op_on op c d e va vb p q h = (Const e, ap₂ (λ x z. apply_values op (Some x) (Some z)) p q ∙ ap (λ o. option_map Const o) h)
@@ -187,7 +187,7 @@ module _ (p : Program) (y : Typing) (c : Config) (t n : ℕ) (env : Env) (fs : L
       ∙ ap (λ o. print_line c t fs (option_and_then line_of o)) v.1
       ∙ ap (λ o. print_line c t fs o) line.1)
   running_goes (New i) at guard =
-      enabled p c t 1 ActNew (record (with_thread c t (thread_of (Returned (Name c.next_mailbox)) fs)) { live = c.live ++ c.next_mailbox ∷ []; next_mailbox = c.next_mailbox + 1 }) refl
+      enabled p c t 1 ActNew (record (with_thread c t (thread_of (Returned (Mailbox c.next_mailbox)) fs)) { live = c.live ++ c.next_mailbox ∷ []; next_mailbox = c.next_mailbox + 1 }) refl
       (step_of_thread p c t s ActNew there ∙ ap (λ r. new_at c t fs r) (redex_is (New i) at))
   running_goes (Send x m args) at guard =
       let facts = node_facts p y n (Send x m args) wf typed.typing at in

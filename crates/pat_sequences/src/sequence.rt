@@ -27,12 +27,14 @@ impl<T> Sequence<T> {
         }
     }
 
+    /// The sequence of the items of a vector.
     pub fn from_vec(items: Vec<T>) -> Self
         ensures { result ≡ items.items }
     {
         Sequence { items }
     }
 
+    /// The vector of its items.
     pub fn into_vec(self) -> Vec<T>
         ensures { result.items ≡ self }
     {
@@ -40,18 +42,21 @@ impl<T> Sequence<T> {
         items
     }
 
+    /// Its items.
     pub fn as_slice(&self) -> &[T]
         ensures { result.now ≡ self.now }
     {
         self.items.as_slice()
     }
 
+    /// The number of items.
     pub fn len(&self) -> usize
         ensures { result ≡ length self.now }
     {
         self.items.len()
     }
 
+    /// Whether there is no item.
     pub fn is_empty(&self) -> bool
         ensures { result ≡ (length self.now == 0) }
     {
@@ -69,6 +74,7 @@ impl<T> Sequence<T> {
         Ok(())
     }
 
+    /// Takes the last item.
     pub fn pop(&mut self) -> Option<T>
         ensures some { IfSome result (λ x. self.old ≡ self.new ++ x ∷ []) }
         ensures none { IfNone result ((self.old ≡ []) × (self.new ≡ [])) }
@@ -85,6 +91,7 @@ impl<T> Sequence<T> {
         mem::replace(&mut self.items[place], item)
     }
 
+    /// Takes out the item at a place; those behind it move up.
     pub fn remove(&mut self, place: usize) -> T
         requires { place < length self.old }
         ensures before { slice_get self.old place ≡ Some result }

@@ -17,6 +17,7 @@ impl Model for Text {
 }
 
 impl Text {
+    /// The text of these bytes.
     pub fn from_vec(bytes: Vec<u8>) -> Text
         ensures { result ≡ bytes.items }
     {
@@ -31,6 +32,7 @@ impl Text {
         Ok(Text { bytes })
     }
 
+    /// Its bytes.
     pub fn as_bytes(&self) -> &[u8]
         ensures { result.now ≡ self.now }
     {
@@ -44,6 +46,7 @@ impl Text {
         Text::from_slice(alloc, self.bytes.as_slice())
     }
 
+    /// Whether both have the same bytes.
     pub fn is_same(&self, other: &Text) -> bool
         ensures { IsTrue result ↔ (self.now ≡ other.now) }
     {

@@ -12,7 +12,7 @@ use Rattle.pat_model.specs.Configs.{Thread, Config, thread_at}
 use Rattle.pat_model.specs.Steps.{Step}
 use Rattle.pat_model.specs.Runs.{run, can_step, can_step_thread, has_threads}
 use Rattle.pat_model.specs.Faults.{GuardAt, IsSafe, stuck, wrong}
-use Rattle.pat_typing.specs.Types.{TypeOf, BaseType, kind_of_type, TypeFits, TypeEnv, no_types, MailboxType}
+use Rattle.pat_typing.specs.Types.{TypeOf, BaseTerm, kind_of_type, TypeFits, TypeEnv, no_types, MailboxType}
 use Rattle.pat_typing.specs.Typings.{Typing, IsTyping, IsTypable, NodeTyped, FunctionTyped, CoreTyped, param_type, result_type, args_need, mailbox_args, without_name, name_type}
 use Rattle.pat_straight_laws.specs.Laws.{HasNoMailboxes}
 
@@ -32,7 +32,7 @@ base_at (Some d) = base_of_kind d.kind
 -- each node has its kind as its type, and no variable names a mailbox
 abbrev pub plain_typing : Program → Typing
 plain_typing p = record {
-  results = λ n. BaseType (base_at (node_at p n));
+  results = λ n. BaseTerm (base_at (node_at p n));
   envs = λ n. no_types;
   param_patterns = λ f k. One;
   result_patterns = λ f. One;
@@ -55,10 +55,10 @@ module _ (p : Program) (well : WellFormed p) (plain : HasNoMailboxes p) where
   few i h = let none : length p.interfaces ≡ 0 = ap length plain.interfaces in omega (arith, none)
 
   -- the type of a node of a base kind
-  result_is : (n : ℕ) (d : Node) (b : Base) → node_at p n ≡ Some d → d.kind ≡ Plain b → y.results n ≡ BaseType b
-  result_is n d b at kind = ap (λ o. BaseType (base_at o)) at ∙ ap (λ k. BaseType (base_of_kind k)) kind
+  result_is : (n : ℕ) (d : Node) (b : Base) → node_at p n ≡ Some d → d.kind ≡ Plain b → y.results n ≡ BaseTerm b
+  result_is n d b at kind = ap (λ o. BaseTerm (base_at o)) at ∙ ap (λ k. BaseTerm (base_of_kind k)) kind
 
-  kind_result : (n : ℕ) (b : Base) → HasKind p n (Plain b) → y.results n ≡ BaseType b
+  kind_result : (n : ℕ) (b : Base) → HasKind p n (Plain b) → y.results n ≡ BaseTerm b
   kind_result n b h = result_is n h.0 b h.1 h.2
 
   -- a type in a signature is a base type
@@ -107,7 +107,7 @@ module _ (p : Program) (well : WellFormed p) (plain : HasNoMailboxes p) where
   no_name_type (Some x) = refl
 
   -- the conditions of a term of a base kind
-  core_typed : (vars : List Kind) (b : Base) (core : Core) → CoreKinds p vars (Plain b) core → CoreTyped p y no_types (BaseType b) core
+  core_typed : (vars : List Kind) (b : Base) (core : Core) → CoreKinds p vars (Plain b) core → CoreTyped p y no_types (BaseTerm b) core
   core_typed vars b (Val e) h = λ x. tt
   core_typed vars b (Print e) h = λ x. tt
   core_typed vars b (Let None m n) h = (kind_result n b h.1, λ x. tt, refl)
@@ -121,7 +121,7 @@ module _ (p : Program) (well : WellFormed p) (plain : HasNoMailboxes p) where
         h.1,
         subst (IsDistinct nat_eq) (sym (no_args (param_type y f h.0) none 0 args)) (no_distinct nat_eq),
         λ x. subst (Rattle.pat_typing.specs.Types.PassesTo None) (sym (no_need (param_type y f h.0) none 0 args x)) tt,
-        subst (λ t. TypeFits t (BaseType b)) (sym (ap (Rattle.pat_typing.specs.Typings.result_of One) s.1)) bases,
+        subst (λ t. TypeFits t (BaseTerm b)) (sym (ap (Rattle.pat_typing.specs.Typings.result_of One) s.1)) bases,
       )
   core_typed vars b (If e m n) h = (kind_result m b h.1, kind_result n b h.2, λ x. tt, λ x. tt)
   core_typed vars b (New i) h = cc

@@ -2,9 +2,9 @@
 use Rattle.std.proofs.Common.{◌≡◌, ℕ, Bool, true, ◌||◌, nat_eq, List, [], ◌∷◌, Some, refl, sym, ap, ◌∙◌, map}
 use Rattle.std.proofs.lemmas.Bool.{or_left, or_right, eq-eqb, eqb-true}
 use Rattle.std.specs.List.{AllByRecursion, list_any}
-use Rattle.pat_model.specs.Values.{Value, Const, Name, Kind, Plain, MailboxOf, Env, ValueFits, ValuesFit, value_at}
+use Rattle.pat_model.specs.Values.{Value, Const, Mailbox, Kind, Plain, MailboxOf, Env, ValueFits, ValuesFit, value_at}
 use Rattle.pat_model.specs.Programs.{Program, tag_at, kind_of, option_list}
-use Rattle.pat_model.specs.Configs.{Control, Running, Returned, Frame, Thread, Message, is_name, env_refers, control_refers, thread_refers, message_refers}
+use Rattle.pat_model.specs.Configs.{Control, Running, Returned, Frame, Thread, Message, is_mailbox, env_refers, control_refers, thread_refers, message_refers}
 use Rattle.pat_typing.specs.Types.{kind_of_type}
 use Rattle.pat_typing.specs.Typings.{Typing}
 use Rattle.pat_typing.specs.Holdings.{wanted, message_held, payload_held, declared_types}
@@ -16,26 +16,26 @@ module _ (f g : ℕ → ℕ) where
   abbrev pub AgreeOn : (ℕ → Bool) → Type 0
   AgreeOn refers = (a : ℕ) → refers a ≡ true → g a ≡ f a
 
-  pub value_agrees : (v : Value) (k : Kind) → AgreeOn (λ a. is_name a v) → ValueFits f v k → ValueFits g v k
+  pub value_agrees : (v : Value) (k : Kind) → AgreeOn (λ a. is_mailbox a v) → ValueFits f v k → ValueFits g v k
   value_agrees (Const c) (Plain b) agree h = h
-  value_agrees (Name a) (MailboxOf i) agree h = agree a (name_is a) ∙ h
+  value_agrees (Mailbox a) (MailboxOf i) agree h = agree a (name_is a) ∙ h
   value_agrees (Const c) (MailboxOf i) agree h = absurd h
-  value_agrees (Name a) (Plain b) agree h = absurd h
+  value_agrees (Mailbox a) (Plain b) agree h = absurd h
 
-  pub values_agree : (vs : List Value) (ks : List Kind) → AgreeOn (λ a. list_any (is_name a) vs) → ValuesFit f vs ks → ValuesFit g vs ks
+  pub values_agree : (vs : List Value) (ks : List Kind) → AgreeOn (λ a. list_any (is_mailbox a) vs) → ValuesFit f vs ks → ValuesFit g vs ks
   values_agree [] [] agree h = tt
   values_agree (v ∷ vs) (k ∷ ks) agree h = (
-    value_agrees v k (λ a r. agree a (or_left (is_name a v) (list_any (is_name a) vs) r)) h.0,
-    values_agree vs ks (λ a r. agree a (or_right (is_name a v) (list_any (is_name a) vs) r)) h.1,
+    value_agrees v k (λ a r. agree a (or_left (is_mailbox a v) (list_any (is_mailbox a) vs) r)) h.0,
+    values_agree vs ks (λ a r. agree a (or_right (is_mailbox a v) (list_any (is_mailbox a) vs) r)) h.1,
   )
   values_agree [] (k ∷ ks) agree h = absurd h
   values_agree (v ∷ vs) [] agree h = absurd h
 
   -- a value at a variable, by cases
-  value_in : (env : Env) (x : ℕ) (v : Value) → value_at env x ≡ Some v → AgreeOn (λ a. env_refers a env) → AgreeOn (λ a. is_name a v)
+  value_in : (env : Env) (x : ℕ) (v : Value) → value_at env x ≡ Some v → AgreeOn (λ a. env_refers a env) → AgreeOn (λ a. is_mailbox a v)
   value_in env x (Const c) h agree a r = cc
-  value_in env x (Name b) h agree a r =
-      agree a (value_refers env x a (h ∙ ap (λ n. Some (Name n)) (sym (eqb-true a b r))))
+  value_in env x (Mailbox b) h agree a r =
+      agree a (value_refers env x a (h ∙ ap (λ n. Some (Mailbox n)) (sym (eqb-true a b r))))
 
   pub part_agrees : (p : Program) (n : ℕ) (but : List ℕ) (env : Env) → AgreeOn (λ a. env_refers a env) → PartFits p f n but env → PartFits p g n but env
   part_agrees p n but env agree h = record {

@@ -3,15 +3,15 @@ use Rattle.std.proofs.Common.{◌≡◌, ℕ, suc, true, false, nat_eq, List, []
 use Rattle.std.specs.Prelude.{is_some, slice_get, option_map}
 use Rattle.std.specs.List.{AllByRecursion, IsDistinct, list_any}
 use Rattle.std.proofs.lemmas.Bool.{or_cases, eqb-true, eqb-false, ne_eqb, cond-true, cond-false, false_from_ne_true, eq-eqb, or_left, or_right}
-use Rattle.pat_model.specs.Values.{Base, BaseInt, BaseBool, BaseText, Value, Const, Name, Constant, BoolConst, IntConst, TextConst, Kind, Plain, MailboxOf, Op, Add, Sub, Mul, Equal, Less, Expr, VarExpr, Literal, OpExpr, Env, value_at, base_of, apply, apply_values, eval, eval_all, both_values, ValueFits, ValuesFit, AscendsFrom}
+use Rattle.pat_model.specs.Values.{Base, BaseInt, BaseBool, BaseText, Value, Const, Mailbox, Constant, BoolConst, IntConst, TextConst, Kind, Plain, MailboxOf, Op, Add, Sub, Mul, Equal, Less, Expr, VarExpr, Literal, OpExpr, Env, value_at, base_of, apply, apply_values, eval, eval_all, both_values, ValueFits, ValuesFit, AscendsFrom}
 use Rattle.pat_model.specs.Programs.{Sort, kind_of}
 use Rattle.pat_model.specs.WellFormed.{op_kind, expr_kind, HaveKinds}
-use Rattle.pat_model.specs.Configs.{is_name, env_refers}
+use Rattle.pat_model.specs.Configs.{is_mailbox, env_refers}
 use Rattle.pat_typing.specs.Types.{MailboxType, TypeEnv, PassesTo}
 use Rattle.pat_typing.specs.Typings.{with_option, args_need, mailbox_args, if_mailbox}
 use Rattle.pat_typing.specs.Holdings.{payload_held, held}
-use Rattle.pat_typing.specs.Typed.{names}
-use Rattle.pat_typed.proofs.Refers.{is_name_same, name_is, payload_none}
+use Rattle.pat_typing.specs.Typed.{mailboxes_of}
+use Rattle.pat_typed.proofs.Refers.{is_mailbox_same, name_is, payload_none}
 use Rattle.pat_typed.proofs.Payloads.{option_here, option_there, names_head, names_tail}
 use Rattle.pat_typed.proofs.Named.{PlacesTyped}
 use Rattle.pat_steps.proofs.Lists.{distinct_parts}
@@ -82,10 +82,10 @@ pub all_parts : (env : Env) (e : Expr) (es : List Expr) (vs : List Value) → ev
 all_parts env e es vs h = all_parts_of env e es vs (eval env e) (eval_all env es) refl refl h
 
 -- a value that is a mailbox is that of a variable
-pub eval_name : (env : Env) (e : Expr) (a : ℕ) → eval env e ≡ Some (Name a) → (x : ℕ) × (e ≡ VarExpr x) × (value_at env x ≡ Some (Name a))
+pub eval_name : (env : Env) (e : Expr) (a : ℕ) → eval env e ≡ Some (Mailbox a) → (x : ℕ) × (e ≡ VarExpr x) × (value_at env x ≡ Some (Mailbox a))
 eval_name env (VarExpr x) a h = (x, refl, h)
 eval_name env (Literal c) a h = cc
-eval_name env (OpExpr op l r) a h = let v = op_value op (eval env l) (eval env r) (Name a) h in let e = v.is in cc
+eval_name env (OpExpr op l r) a h = let v = op_value op (eval env l) (eval env r) (Mailbox a) h in let e = v.is in cc
 
 module _ (interfaces : ℕ → ℕ) (vars : List Kind) (env : Env) (fit : (x : ℕ) (v : Value) (k : Kind) → value_at env x ≡ Some v → slice_get vars x ≡ Some k → ValueFits interfaces v k) where
   pub eval_fits : (e : Expr) (k : Kind) (v : Value) → expr_kind vars e ≡ Some k → eval env e ≡ Some v → ValueFits interfaces v k
@@ -110,7 +110,7 @@ module _ (interfaces : ℕ → ℕ) (vars : List Kind) (env : Env) (fit : (x : �
   -- ---- a mailbox among arguments
 
   -- the first place where it stands gives what is needed of its variable
-  pub args_held : (b x : ℕ) → ((z : ℕ) → value_at env z ≡ Some (Name b) → z ≡ x) → value_at env x ≡ Some (Name b) → (types : TypeEnv) (k : ℕ) (es : List Expr) (ss : List Sort) (vs : List Value) → HaveKinds vars es (map kind_of ss) → PlacesTyped types k ss → eval_all env es ≡ Some vs → args_need types k es x ≡ payload_held b types k vs
+  pub args_held : (b x : ℕ) → ((z : ℕ) → value_at env z ≡ Some (Mailbox b) → z ≡ x) → value_at env x ≡ Some (Mailbox b) → (types : TypeEnv) (k : ℕ) (es : List Expr) (ss : List Sort) (vs : List Value) → HaveKinds vars es (map kind_of ss) → PlacesTyped types k ss → eval_all env es ≡ Some vs → args_need types k es x ≡ payload_held b types k vs
   args_held b x only at types k [] ss vs h p e = let same : [] ≡ vs = cc in ap (payload_held b types k) same
   args_held b x only at types k (a ∷ es) [] vs h p e = absurd h
   args_held b x only at types k (VarExpr z ∷ es) (s ∷ ss) vs h p e =
@@ -120,47 +120,47 @@ module _ (interfaces : ℕ → ℕ) (vars : List Kind) (env : Env) (fit : (x : �
       (elim (nat_eq z x) as (λ t. nat_eq z x ≡ t → with_option z (types k) (args_need types (suc k) es) x ≡ payload_held b types k vs) [
         | true ↦ λ w.
             let same : z ≡ x = eqb-true z x w in
-            let sees : Some q.first ≡ Some (Name b) = sym q.first_is ∙ ap (value_at env) same ∙ at in
-            let is : q.first ≡ Name b = cc in
-            let on : is_name b q.first ≡ true = ap (is_name b) is ∙ name_is b in
+            let sees : Some q.first ≡ Some (Mailbox b) = sym q.first_is ∙ ap (value_at env) same ∙ at in
+            let is : q.first ≡ Mailbox b = cc in
+            let on : is_mailbox b q.first ≡ true = ap (is_mailbox b) is ∙ name_is b in
             let some = typed_place (kind_of s) refl (subst (λ u. ValueFits interfaces u (kind_of s)) is (fit z q.first (kind_of s) q.first_is h.0)) (p.0) in
-            option_here z (types k) (args_need types (suc k) es) x some w ∙ sym (cond-true (is_name b q.first) (types k) (payload_held b types (suc k) q.rest) on) ∙ turned
+            option_here z (types k) (args_need types (suc k) es) x some w ∙ sym (cond-true (is_mailbox b q.first) (types k) (payload_held b types (suc k) q.rest) on) ∙ turned
         | false ↦ λ w.
-            let off : is_name b q.first ≡ false = false_from_ne_true (is_name b q.first) (λ on. eqb-false z x w (only z (q.first_is ∙ ap (λ u. Some u) (is_name_same b q.first on)))) in
-            option_there z (types k) (args_need types (suc k) es) x w ∙ rest ∙ sym (cond-false (is_name b q.first) (types k) (payload_held b types (suc k) q.rest) off) ∙ turned
+            let off : is_mailbox b q.first ≡ false = false_from_ne_true (is_mailbox b q.first) (λ on. eqb-false z x w (only z (q.first_is ∙ ap (λ u. Some u) (is_mailbox_same b q.first on)))) in
+            option_there z (types k) (args_need types (suc k) es) x w ∙ rest ∙ sym (cond-false (is_mailbox b q.first) (types k) (payload_held b types (suc k) q.rest) off) ∙ turned
       ]) refl
     where
-      typed_place : (kind : Kind) → kind_of s ≡ kind → ValueFits interfaces (Name b) (kind_of s) → ((i : ℕ) → kind_of s ≡ MailboxOf i → is_some (types k) ≡ true) → is_some (types k) ≡ true
-      typed_place (Plain c) e f typed = absurd (subst (λ w. ValueFits interfaces (Name b) w) e f)
+      typed_place : (kind : Kind) → kind_of s ≡ kind → ValueFits interfaces (Mailbox b) (kind_of s) → ((i : ℕ) → kind_of s ≡ MailboxOf i → is_some (types k) ≡ true) → is_some (types k) ≡ true
+      typed_place (Plain c) e f typed = absurd (subst (λ w. ValueFits interfaces (Mailbox b) w) e f)
       typed_place (MailboxOf i) e f typed = typed i e
   args_held b x only at types k (Literal c ∷ es) (s ∷ ss) vs h p e =
       let q = all_parts env (Literal c) es vs e in
-      let off : is_name b q.first ≡ false = false_from_ne_true (is_name b q.first) (λ on. let same = is_name_same b q.first on in let f = q.first_is in cc) in
-      args_held b x only at types (suc k) es ss q.rest h.1 p.1 q.rest_is ∙ sym (cond-false (is_name b q.first) (types k) (payload_held b types (suc k) q.rest) off) ∙ ap (payload_held b types k) (sym q.all_is)
+      let off : is_mailbox b q.first ≡ false = false_from_ne_true (is_mailbox b q.first) (λ on. let same = is_mailbox_same b q.first on in let f = q.first_is in cc) in
+      args_held b x only at types (suc k) es ss q.rest h.1 p.1 q.rest_is ∙ sym (cond-false (is_mailbox b q.first) (types k) (payload_held b types (suc k) q.rest) off) ∙ ap (payload_held b types k) (sym q.all_is)
   args_held b x only at types k (OpExpr op l r ∷ es) (s ∷ ss) vs h p e =
       let q = all_parts env (OpExpr op l r) es vs e in
       let v = op_value op (eval env l) (eval env r) q.first q.first_is in
-      let off : is_name b q.first ≡ false = ap (is_name b) v.is in
-      args_held b x only at types (suc k) es ss q.rest h.1 p.1 q.rest_is ∙ sym (cond-false (is_name b q.first) (types k) (payload_held b types (suc k) q.rest) off) ∙ ap (payload_held b types k) (sym q.all_is)
+      let off : is_mailbox b q.first ≡ false = ap (is_mailbox b) v.is in
+      args_held b x only at types (suc k) es ss q.rest h.1 p.1 q.rest_is ∙ sym (cond-false (is_mailbox b q.first) (types k) (payload_held b types (suc k) q.rest) off) ∙ ap (payload_held b types k) (sym q.all_is)
 
 -- a mailbox among the values of expressions is among the values of variables
-pub args_refer : (env : Env) (b : ℕ) (es : List Expr) (vs : List Value) → eval_all env es ≡ Some vs → list_any (is_name b) vs ≡ true → (x : ℕ) × (value_at env x ≡ Some (Name b))
-args_refer env b [] vs e h = let same : [] ≡ vs = cc in let f : list_any (is_name b) [] ≡ true = ap (λ w. list_any (is_name b) w) same ∙ h in cc
+pub args_refer : (env : Env) (b : ℕ) (es : List Expr) (vs : List Value) → eval_all env es ≡ Some vs → list_any (is_mailbox b) vs ≡ true → (x : ℕ) × (value_at env x ≡ Some (Mailbox b))
+args_refer env b [] vs e h = let same : [] ≡ vs = cc in let f : list_any (is_mailbox b) [] ≡ true = ap (λ w. list_any (is_mailbox b) w) same ∙ h in cc
 args_refer env b (a ∷ es) vs e h =
     let q = all_parts env a es vs e in
-    let g : list_any (is_name b) (q.first ∷ q.rest) ≡ true = ap (λ w. list_any (is_name b) w) (sym q.all_is) ∙ h in
+    let g : list_any (is_mailbox b) (q.first ∷ q.rest) ≡ true = ap (λ w. list_any (is_mailbox b) w) (sym q.all_is) ∙ h in
     ⊎_elim
-    (λ l. let n = eval_name env a b (q.first_is ∙ ap (λ u. Some u) (is_name_same b q.first l)) in (n.0, n.2))
+    (λ l. let n = eval_name env a b (q.first_is ∙ ap (λ u. Some u) (is_mailbox_same b q.first l)) in (n.0, n.2))
     (λ r. args_refer env b es q.rest q.rest_is r)
-    (or_cases (is_name b q.first) (list_any (is_name b) q.rest) g)
+    (or_cases (is_mailbox b q.first) (list_any (is_mailbox b) q.rest) g)
 
 -- a mailbox whose variable is none of the mailbox arguments isn't among the values
-module _ (interfaces : ℕ → ℕ) (vars : List Kind) (env : Env) (fit : (x : ℕ) (v : Value) (k : Kind) → value_at env x ≡ Some v → slice_get vars x ≡ Some k → ValueFits interfaces v k) (apart : (x z a : ℕ) → value_at env x ≡ Some (Name a) → value_at env z ≡ Some (Name a) → x ≡ z) where
-  typed_here : (b k : ℕ) (types : TypeEnv) (s : Sort) (v : Value) → ValueFits interfaces v (kind_of s) → v ≡ Name b → ((i : ℕ) → kind_of s ≡ MailboxOf i → is_some (types k) ≡ true) → is_some (types k) ≡ true
+module _ (interfaces : ℕ → ℕ) (vars : List Kind) (env : Env) (fit : (x : ℕ) (v : Value) (k : Kind) → value_at env x ≡ Some v → slice_get vars x ≡ Some k → ValueFits interfaces v k) (apart : (x z a : ℕ) → value_at env x ≡ Some (Mailbox a) → value_at env z ≡ Some (Mailbox a) → x ≡ z) where
+  typed_here : (b k : ℕ) (types : TypeEnv) (s : Sort) (v : Value) → ValueFits interfaces v (kind_of s) → v ≡ Mailbox b → ((i : ℕ) → kind_of s ≡ MailboxOf i → is_some (types k) ≡ true) → is_some (types k) ≡ true
   typed_here b k types s v f is typed = go (kind_of s) refl
     where
       go : (kind : Kind) → kind_of s ≡ kind → is_some (types k) ≡ true
-      go (Plain c) e = absurd (subst (λ w. ValueFits interfaces (Name b) w) e (subst (λ u. ValueFits interfaces u (kind_of s)) is f))
+      go (Plain c) e = absurd (subst (λ w. ValueFits interfaces (Mailbox b) w) e (subst (λ u. ValueFits interfaces u (kind_of s)) is f))
       go (MailboxOf i) e = typed i e
 
   mailbox_first : (o : Option MailboxType) (x : ℕ) (xs : List ℕ) → is_some o ≡ true → if_mailbox o x xs ≡ x ∷ xs
@@ -179,22 +179,22 @@ module _ (interfaces : ℕ → ℕ) (vars : List Kind) (env : Env) (fit : (x : �
   args_head : (P : ℕ → Type 0) (types : TypeEnv) (k x : ℕ) (es : List Expr) → is_some (types k) ≡ true → AllByRecursion P (mailbox_args types k (VarExpr x ∷ es)) → P x
   args_head P types k x es some h = (subst (AllByRecursion P) (mailbox_first (types k) x (mailbox_args types (suc k) es) some) h).0
 
-  pub names_apart : (b x : ℕ) → value_at env x ≡ Some (Name b) → (types : TypeEnv) (k : ℕ) (es : List Expr) (ss : List Sort) (vs : List Value) → HaveKinds vars es (map kind_of ss) → PlacesTyped types k ss → eval_all env es ≡ Some vs → AllByRecursion (λ z. nat_eq x z ≡ false) (mailbox_args types k es) → AllByRecursion (λ c. nat_eq b c ≡ false) (names vs)
-  names_apart b x at types k [] ss vs h p e a = let same : [] ≡ vs = cc in subst (λ w. AllByRecursion (λ c. nat_eq b c ≡ false) (names w)) same tt
+  pub names_apart : (b x : ℕ) → value_at env x ≡ Some (Mailbox b) → (types : TypeEnv) (k : ℕ) (es : List Expr) (ss : List Sort) (vs : List Value) → HaveKinds vars es (map kind_of ss) → PlacesTyped types k ss → eval_all env es ≡ Some vs → AllByRecursion (λ z. nat_eq x z ≡ false) (mailbox_args types k es) → AllByRecursion (λ c. nat_eq b c ≡ false) (mailboxes_of vs)
+  names_apart b x at types k [] ss vs h p e a = let same : [] ≡ vs = cc in subst (λ w. AllByRecursion (λ c. nat_eq b c ≡ false) (mailboxes_of w)) same tt
   names_apart b x at types k (y ∷ es) [] vs h p e a = absurd h
   names_apart b x at types k (y ∷ es) (s ∷ ss) vs h p e a =
       let q = all_parts env y es vs e in
       let rest = names_apart b x at types (suc k) es ss q.rest h.1 p.1 q.rest_is (args_tail (λ z. nat_eq x z ≡ false) types k y es a) in
-      subst (λ w. AllByRecursion (λ c. nat_eq b c ≡ false) (names w)) (sym q.all_is) (go q.first q.rest q.first_is rest)
+      subst (λ w. AllByRecursion (λ c. nat_eq b c ≡ false) (mailboxes_of w)) (sym q.all_is) (go q.first q.rest q.first_is rest)
     where
-      go : (v : Value) (ws : List Value) → eval env y ≡ Some v → AllByRecursion (λ c. nat_eq b c ≡ false) (names ws) → AllByRecursion (λ c. nat_eq b c ≡ false) (names (v ∷ ws))
+      go : (v : Value) (ws : List Value) → eval env y ≡ Some v → AllByRecursion (λ c. nat_eq b c ≡ false) (mailboxes_of ws) → AllByRecursion (λ c. nat_eq b c ≡ false) (mailboxes_of (v ∷ ws))
       go (Const c) ws f rest = rest
-      go (Name c) ws f rest =
+      go (Mailbox c) ws f rest =
           let n = eval_name env y c f in
-          let fits = eval_fits interfaces vars env fit y (kind_of s) (Name c) h.0 f in
-          let some = typed_here c k types s (Name c) fits refl p.0 in
+          let fits = eval_fits interfaces vars env fit y (kind_of s) (Mailbox c) h.0 f in
+          let some = typed_here c k types s (Mailbox c) fits refl p.0 in
           let off = args_head (λ z. nat_eq x z ≡ false) types k n.0 es some (subst (λ (u : Expr). AllByRecursion (λ z. nat_eq x z ≡ false) (mailbox_args types k (u ∷ es))) n.1 a) in
-          (ne_eqb b c (λ same. eqb-false x n.0 off (apart x n.0 b at (n.2 ∙ ap (λ u. Some (Name u)) (sym same)))), rest)
+          (ne_eqb b c (λ same. eqb-false x n.0 off (apart x n.0 b at (n.2 ∙ ap (λ u. Some (Mailbox u)) (sym same)))), rest)
 
   distinct_mailbox : (o : Option MailboxType) (x : ℕ) (xs : List ℕ) → IsDistinct nat_eq (if_mailbox o x xs) → IsDistinct nat_eq xs
   distinct_mailbox None x xs d = d
@@ -208,21 +208,21 @@ module _ (interfaces : ℕ → ℕ) (vars : List Kind) (env : Env) (fit : (x : �
   args_apart : (types : TypeEnv) (k x : ℕ) (es : List Expr) → is_some (types k) ≡ true → IsDistinct nat_eq (mailbox_args types k (VarExpr x ∷ es)) → AllByRecursion (λ z. nat_eq x z ≡ false) (mailbox_args types (suc k) es)
   args_apart types k x es some d = (distinct_parts x (mailbox_args types (suc k) es) (subst (IsDistinct nat_eq) (mailbox_first (types k) x (mailbox_args types (suc k) es) some) d)).0
 
-  pub names_distinct : (types : TypeEnv) (k : ℕ) (es : List Expr) (ss : List Sort) (vs : List Value) → HaveKinds vars es (map kind_of ss) → PlacesTyped types k ss → eval_all env es ≡ Some vs → IsDistinct nat_eq (mailbox_args types k es) → IsDistinct nat_eq (names vs)
+  pub names_distinct : (types : TypeEnv) (k : ℕ) (es : List Expr) (ss : List Sort) (vs : List Value) → HaveKinds vars es (map kind_of ss) → PlacesTyped types k ss → eval_all env es ≡ Some vs → IsDistinct nat_eq (mailbox_args types k es) → IsDistinct nat_eq (mailboxes_of vs)
   unfolding IsDistinct
-  names_distinct types k [] ss vs h p e d = let same : [] ≡ vs = cc in subst (λ w. IsDistinct nat_eq (names w)) same tt
+  names_distinct types k [] ss vs h p e d = let same : [] ≡ vs = cc in subst (λ w. IsDistinct nat_eq (mailboxes_of w)) same tt
   names_distinct types k (y ∷ es) [] vs h p e d = absurd h
   names_distinct types k (y ∷ es) (s ∷ ss) vs h p e d =
       let q = all_parts env y es vs e in
       let rest = names_distinct types (suc k) es ss q.rest h.1 p.1 q.rest_is (args_rest types k y es d) in
-      subst (λ w. IsDistinct nat_eq (names w)) (sym q.all_is) (go q.first q.rest q.first_is q.rest_is rest)
+      subst (λ w. IsDistinct nat_eq (mailboxes_of w)) (sym q.all_is) (go q.first q.rest q.first_is q.rest_is rest)
     where
-      go : (v : Value) (ws : List Value) → eval env y ≡ Some v → eval_all env es ≡ Some ws → IsDistinct nat_eq (names ws) → IsDistinct nat_eq (names (v ∷ ws))
+      go : (v : Value) (ws : List Value) → eval env y ≡ Some v → eval_all env es ≡ Some ws → IsDistinct nat_eq (mailboxes_of ws) → IsDistinct nat_eq (mailboxes_of (v ∷ ws))
       go (Const c) ws f g rest = rest
-      go (Name c) ws f g rest =
+      go (Mailbox c) ws f g rest =
           let n = eval_name env y c f in
-          let fits = eval_fits interfaces vars env fit y (kind_of s) (Name c) h.0 f in
-          let some = typed_here c k types s (Name c) fits refl p.0 in
+          let fits = eval_fits interfaces vars env fit y (kind_of s) (Mailbox c) h.0 f in
+          let some = typed_here c k types s (Mailbox c) fits refl p.0 in
           let off = args_apart types k n.0 es some (subst (λ (u : Expr). IsDistinct nat_eq (mailbox_args types k (u ∷ es))) n.1 d) in
           (names_apart c n.0 n.2 types (suc k) es ss ws h.1 p.1 g off, rest)
 
@@ -247,27 +247,27 @@ place_at vs z = let same : z ≡ 0 + z = omega arith in ap (value_at (numbered 0
 -- what is held of values under numbers is held as of a message's
 pub numbered_held : (types : TypeEnv) (b k : ℕ) (vs : List Value) → held types b (numbered k vs) ≡ payload_held b types k vs
 numbered_held types b k [] = refl
-numbered_held types b k (v ∷ vs) = ap (λ h. if is_name b v then types k else h) (numbered_held types b (suc k) vs)
+numbered_held types b k (v ∷ vs) = ap (λ h. if is_mailbox b v then types k else h) (numbered_held types b (suc k) vs)
 
-pub numbered_refers : (b k : ℕ) (vs : List Value) → env_refers b (numbered k vs) ≡ list_any (is_name b) vs
+pub numbered_refers : (b k : ℕ) (vs : List Value) → env_refers b (numbered k vs) ≡ list_any (is_mailbox b) vs
 numbered_refers b k [] = refl
-numbered_refers b k (v ∷ vs) = ap (λ t. is_name b v || t) (numbered_refers b (suc k) vs)
+numbered_refers b k (v ∷ vs) = ap (λ t. is_mailbox b v || t) (numbered_refers b (suc k) vs)
 
-pub place_any : (b : ℕ) (vs : List Value) (z : ℕ) → slice_get vs z ≡ Some (Name b) → list_any (is_name b) vs ≡ true
+pub place_any : (b : ℕ) (vs : List Value) (z : ℕ) → slice_get vs z ≡ Some (Mailbox b) → list_any (is_mailbox b) vs ≡ true
 place_any b [] z h = cc
-place_any b (v ∷ vs) zero h = let same : v ≡ Name b = cc in or_left (is_name b v) (list_any (is_name b) vs) (ap (is_name b) same ∙ name_is b)
-place_any b (v ∷ vs) (suc z) h = or_right (is_name b v) (list_any (is_name b) vs) (place_any b vs z h)
+place_any b (v ∷ vs) zero h = let same : v ≡ Mailbox b = cc in or_left (is_mailbox b v) (list_any (is_mailbox b) vs) (ap (is_mailbox b) same ∙ name_is b)
+place_any b (v ∷ vs) (suc z) h = or_right (is_mailbox b v) (list_any (is_mailbox b) vs) (place_any b vs z h)
 
-pub places_apart : (vs : List Value) → IsDistinct nat_eq (names vs) → (z w b : ℕ) → slice_get vs z ≡ Some (Name b) → slice_get vs w ≡ Some (Name b) → z ≡ w
+pub places_apart : (vs : List Value) → IsDistinct nat_eq (mailboxes_of vs) → (z w b : ℕ) → slice_get vs z ≡ Some (Mailbox b) → slice_get vs w ≡ Some (Mailbox b) → z ≡ w
 places_apart [] d z w b hz hw = cc
 places_apart (v ∷ vs) d zero zero b hz hw = refl
 places_apart (v ∷ vs) d zero (suc w) b hz hw =
-    let same : v ≡ Name b = cc in
-    let off = names_head b vs (subst (λ (u : Value). IsDistinct nat_eq (names (u ∷ vs))) same d) in
+    let same : v ≡ Mailbox b = cc in
+    let off = names_head b vs (subst (λ (u : Value). IsDistinct nat_eq (mailboxes_of (u ∷ vs))) same d) in
     let bad : true ≡ false = sym (place_any b vs w hw) ∙ off in cc
 places_apart (v ∷ vs) d (suc z) zero b hz hw =
-    let same : v ≡ Name b = cc in
-    let off = names_head b vs (subst (λ (u : Value). IsDistinct nat_eq (names (u ∷ vs))) same d) in
+    let same : v ≡ Mailbox b = cc in
+    let off = names_head b vs (subst (λ (u : Value). IsDistinct nat_eq (mailboxes_of (u ∷ vs))) same d) in
     let bad : true ≡ false = sym (place_any b vs z hz) ∙ off in cc
 places_apart (v ∷ vs) d (suc z) (suc w) b hz hw = ap (λ k. suc k) (places_apart vs (names_tail v vs d) z w b hz hw)
 
@@ -293,7 +293,7 @@ take_at (suc n) (x ∷ ks) (suc z) k h = take_at n ks z k h
 -- ---- what is held of arguments
 
 -- what is held of a mailbox passes to what its place among the arguments has
-pub args_pass : (interfaces : ℕ → ℕ) (vars : List Kind) (env : Env) → ((x : ℕ) (v : Value) (k : Kind) → value_at env x ≡ Some v → slice_get vars x ≡ Some k → ValueFits interfaces v k) → AscendsFrom 0 env → ((x z a : ℕ) → value_at env x ≡ Some (Name a) → value_at env z ≡ Some (Name a) → x ≡ z) → (g types : TypeEnv) (es : List Expr) (ss : List Sort) (vs : List Value) → HaveKinds vars es (map kind_of ss) → PlacesTyped types 0 ss → eval_all env es ≡ Some vs → (b : ℕ) → ((x : ℕ) → value_at env x ≡ Some (Name b) → PassesTo (g x) (args_need types 0 es x)) → PassesTo (held g b env) (payload_held b types 0 vs)
+pub args_pass : (interfaces : ℕ → ℕ) (vars : List Kind) (env : Env) → ((x : ℕ) (v : Value) (k : Kind) → value_at env x ≡ Some v → slice_get vars x ≡ Some k → ValueFits interfaces v k) → AscendsFrom 0 env → ((x z a : ℕ) → value_at env x ≡ Some (Mailbox a) → value_at env z ≡ Some (Mailbox a) → x ≡ z) → (g types : TypeEnv) (es : List Expr) (ss : List Sort) (vs : List Value) → HaveKinds vars es (map kind_of ss) → PlacesTyped types 0 ss → eval_all env es ≡ Some vs → (b : ℕ) → ((x : ℕ) → value_at env x ≡ Some (Mailbox b) → PassesTo (g x) (args_need types 0 es x)) → PassesTo (held g b env) (payload_held b types 0 vs)
 args_pass f vars env fit keys apart g types es ss vs kinds places values b passes = go (held_cases g b 0 env keys)
   where
     go : HeldCases g b env → PassesTo (held g b env) (payload_held b types 0 vs)
@@ -301,5 +301,5 @@ args_pass f vars env fit keys apart g types es ss vs kinds places values b passe
         subst (λ w. PassesTo w (payload_held b types 0 vs)) (sym is)
         (subst (λ w. PassesTo (g x) w) (args_held f vars env fit b x (λ z hz. apart z x b hz at) at types 0 es ss vs kinds places values) (passes x at))
     go (by_none none is) =
-        let off : list_any (is_name b) vs ≡ false = false_from_ne_true (list_any (is_name b) vs) (λ on. let r = args_refer env b es vs values on in none r.0 r.1) in
+        let off : list_any (is_mailbox b) vs ≡ false = false_from_ne_true (list_any (is_mailbox b) vs) (λ on. let r = args_refer env b es vs values on in none r.0 r.1) in
         subst (λ w. PassesTo w (payload_held b types 0 vs)) (sym is) (subst (λ w. PassesTo None w) (sym (payload_none b types 0 vs off)) tt)

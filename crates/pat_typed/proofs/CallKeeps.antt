@@ -2,7 +2,7 @@
 use Rattle.std.proofs.Common.{◌≡◌, ℕ, nat_eq, List, [], length, map, Some, refl, sym, ap, ◌∙◌, subst}
 use Rattle.std.specs.Prelude.{slice_get, option_map}
 use Rattle.std.specs.List.{IsDistinct}
-use Rattle.pat_model.specs.Values.{Value, Name, Kind, Expr, Env, value_at, eval_all, ValueFits, ValuesFit}
+use Rattle.pat_model.specs.Values.{Value, Mailbox, Kind, Expr, Env, value_at, eval_all, ValueFits, ValuesFit}
 use Rattle.pat_model.specs.Programs.{Program, Function, Node, Core, Call, core_at, function_at, kind_of, is_free, keep, KindAt}
 use Rattle.pat_model.specs.WellFormed.{WellFormed, FunctionFits, HaveKinds}
 use Rattle.pat_model.specs.Configs.{Running, Thread, Config, thread_at, with_thread, control_refers}
@@ -10,7 +10,7 @@ use Rattle.pat_model.specs.Steps.{thread_of, at_node, numbered}
 use Rattle.pat_typing.specs.Types.{TypeFits, TypeEnv, PassesTo, EnvPasses}
 use Rattle.pat_typing.specs.Typings.{Typing, IsTyping, FunctionTyped, param_type, result_type, args_need, mailbox_args}
 use Rattle.pat_typing.specs.Holdings.{held, control_held, payload_held, wanted}
-use Rattle.pat_typing.specs.Typed.{IsTyped, ThreadFits, ControlFits, PartFits, names}
+use Rattle.pat_typing.specs.Typed.{IsTyped, ThreadFits, ControlFits, PartFits, mailboxes_of}
 use Rattle.pat_typed.proofs.Threads.{lookup_all}
 use Rattle.pat_steps.proofs.Inversion.{StandsAt}
 use Rattle.pat_typed.proofs.Nodes.{NodeFacts, node_facts}
@@ -70,10 +70,10 @@ module _ (p : Program) (y : Typing) (interfaces : ℕ → ℕ) (s : Thread) (n g
   values_fit : ValuesFit interfaces vs (map kind_of h.params)
   values_fit = all_fit interfaces facts.fits.function.vars env fit args (map kind_of h.params) vs have_kinds values
 
-  names_apart : IsDistinct nat_eq (names vs)
+  names_apart : IsDistinct nat_eq (mailboxes_of vs)
   names_apart = names_distinct interfaces facts.fits.function.vars env fit control_fits.0.different types 0 args h.params vs have_kinds (params_typed y g h) values apart_args
 
-  places_differ : (z w a : ℕ) → value_at entered z ≡ Some (Name a) → value_at entered w ≡ Some (Name a) → z ≡ w
+  places_differ : (z w a : ℕ) → value_at entered z ≡ Some (Mailbox a) → value_at entered w ≡ Some (Mailbox a) → z ≡ w
   places_differ z w a hz hw = places_apart vs names_apart z w a (sym (place_at vs z) ∙ hz) (sym (place_at vs w) ∙ hw)
 
   narrowed : Narrowed (λ z. is_free p z h.body) entered body_env
@@ -97,7 +97,7 @@ module _ (p : Program) (y : Typing) (interfaces : ℕ → ℕ) (s : Thread) (n g
         (q.0, narrowed.still z q.0 (place_at vs z ∙ q.1) free);
     free = λ z v is. ((narrowed.inside z v is).0, refl);
     kinds = λ z v is. kind_at z v (narrowed.inside z v is).1;
-    different = λ z w a hz hw. places_differ z w a (narrowed.inside z (Name a) hz).1 (narrowed.inside w (Name a) hw).1;
+    different = λ z w a hz hw. places_differ z w a (narrowed.inside z (Mailbox a) hz).1 (narrowed.inside w (Mailbox a) hw).1;
   }
 
   pub call_move : Move p y interfaces s (at_node p h.body entered)

@@ -3,9 +3,9 @@ use Rattle.std.proofs.Common.{◌≡◌, ℕ, ◌<◌, Bool, true, false, if◌t
 use Rattle.pat_model.specs.Values.{BaseUnit, Expr}
 use Rattle.pat_model.specs.Programs.{Program, Val}
 use Rattle.pat_model.specs.WellFormed.{WellFormed}
-use Rattle.pat_model.specs.Configs.{Returned, Thread, Config, thread_at, is_name, thread_refers, pending}
+use Rattle.pat_model.specs.Configs.{Returned, Thread, Config, thread_at, is_mailbox, thread_refers, pending}
 use Rattle.pat_model.specs.Steps.{ActEnd, step, redex, without_thread}
-use Rattle.pat_typing.specs.Types.{TypeOf, BaseType, NameType, TypeFits, TypeEnv, EnvPasses, PassesTo, no_types}
+use Rattle.pat_typing.specs.Types.{TypeOf, BaseTerm, MailboxTerm, TypeFits, TypeEnv, EnvPasses, PassesTo, no_types}
 use Rattle.pat_typing.specs.Typings.{Typing, ValueTyped}
 use Rattle.pat_typing.specs.Holdings.{control_held, thread_held, message_held, wanted, holdings, Balanced, as_holding, frame_held}
 use Rattle.pat_typing.specs.Typed.{IsTyped, ThreadFits, ControlFits, NumbersFit}
@@ -16,11 +16,11 @@ use Rattle.pat_typed.proofs.Nodes.{node_facts, held_all}
 
 -- ---- what the ended thread held may be dropped
 
-value_unit : (t : TypeOf) (e : Expr) (g : TypeEnv) → TypeFits t (BaseType BaseUnit) → ValueTyped t e g → EnvPasses g no_types
-value_unit (BaseType b) e g fits h = h
-value_unit (NameType i q f) e g fits h = absurd fits
+value_unit : (t : TypeOf) (e : Expr) (g : TypeEnv) → TypeFits t (BaseTerm BaseUnit) → ValueTyped t e g → EnvPasses g no_types
+value_unit (BaseTerm b) e g fits h = h
+value_unit (MailboxTerm i q f) e g fits h = absurd fits
 
-nothing_held : (t : Bool) → PassesTo (if t then as_holding (BaseType BaseUnit) else None) None
+nothing_held : (t : Bool) → PassesTo (if t then as_holding (BaseTerm BaseUnit) else None) None
 nothing_held true = tt
 nothing_held false = tt
 
@@ -34,7 +34,7 @@ ended_drops p y c d t s wf typed there (end_value e env at none is) b =
     subst (λ k. PassesTo (control_held p y b k s.frames) None) (sym at.control_is) (held_all (y.envs at.node) b (λ h. PassesTo h None) tt drops env)
 ended_drops p y c d t s wf typed there (end_return v at none is) b =
     subst (λ k. PassesTo (control_held p y b k s.frames) None) (sym at)
-    (subst (λ fs. PassesTo (control_held p y b (Returned v) fs) None) (sym none) (nothing_held (is_name b v)))
+    (subst (λ fs. PassesTo (control_held p y b (Returned v) fs) None) (sym none) (nothing_held (is_mailbox b v)))
 
 ended_frames : (p : Program) (c d : Config) (t : ℕ) (s : Thread) → EndStep p c t s d → (s.frames ≡ []) × (d ≡ without_thread c t)
 ended_frames p c d t s (end_value e env at none is) = (none, is)

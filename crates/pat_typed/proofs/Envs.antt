@@ -3,12 +3,12 @@ use Rattle.std.proofs.Common.{◌≡◌, ℕ, suc, ◌≤◌, Bool, true, false,
 use Rattle.std.specs.Prelude.{filter}
 use Rattle.std.specs.Map.{lookup}
 use Rattle.std.proofs.lemmas.Bool.{eqb-true, eqb-false, eq-eqb, ne_eqb, ltb-true, ltb-false, cond-true, cond-false, cases_Bool}
-use Rattle.pat_model.specs.Values.{Value, Name, Env, value_at, bind, bind_all, AscendsFrom}
+use Rattle.pat_model.specs.Values.{Value, Mailbox, Env, value_at, bind, bind_all, AscendsFrom}
 use Rattle.pat_model.specs.Programs.{Program, is_free, keep}
-use Rattle.pat_model.specs.Configs.{is_name}
+use Rattle.pat_model.specs.Configs.{is_mailbox}
 use Rattle.pat_typing.specs.Types.{TypeEnv}
 use Rattle.pat_typing.specs.Holdings.{held}
-use Rattle.pat_typed.proofs.Refers.{is_name_same, name_is}
+use Rattle.pat_typed.proofs.Refers.{is_mailbox_same, name_is}
 
 -- ---- ascending environments
 
@@ -115,21 +115,21 @@ kept p n env z v h =
 
 -- a variable names the mailbox, and what is held is its type; or none does, and nothing is held
 pub data HeldCases (g : TypeEnv) (b : ℕ) (env : Env) : Type 0 where
-  by_variable : (z : ℕ) → value_at env z ≡ Some (Name b) → held g b env ≡ g z → HeldCases g b env
-  by_none : ((z : ℕ) → value_at env z ≡ Some (Name b) → ⊥) → held g b env ≡ None → HeldCases g b env
+  by_variable : (z : ℕ) → value_at env z ≡ Some (Mailbox b) → held g b env ≡ g z → HeldCases g b env
+  by_none : ((z : ℕ) → value_at env z ≡ Some (Mailbox b) → ⊥) → held g b env ≡ None → HeldCases g b env
 
-held_on : (g : TypeEnv) (b : ℕ) (e : ℕ × Value) (env : Env) → AscendsFrom (suc e.0) env → is_name b e.1 ≡ false → HeldCases g b env → HeldCases g b (e ∷ env)
+held_on : (g : TypeEnv) (b : ℕ) (e : ℕ × Value) (env : Env) → AscendsFrom (suc e.0) env → is_mailbox b e.1 ≡ false → HeldCases g b env → HeldCases g b (e ∷ env)
 held_on g b e env a off (by_variable z at is) =
-    let above = value_above (suc e.0) env z (Name b) a at in
+    let above = value_above (suc e.0) env z (Mailbox b) a at in
     let apart : nat_eq z e.0 ≡ false = ne_eqb z e.0 (λ q. omega arith) in
-    by_variable z (cond-false (nat_eq z e.0) (Some e.1) (lookup (nat_eq z) env) apart ∙ at) (cond-false (is_name b e.1) (g e.0) (held g b env) off ∙ is)
+    by_variable z (cond-false (nat_eq z e.0) (Some e.1) (lookup (nat_eq z) env) apart ∙ at) (cond-false (is_mailbox b e.1) (g e.0) (held g b env) off ∙ is)
 held_on g b e env a off (by_none none is) =
     by_none
-    (λ z h. (elim (nat_eq z e.0) as (λ t. cond t (Some e.1) (lookup (nat_eq z) env) ≡ Some (Name b) → ⊥) [
-      | true ↦ λ k. let same : e.1 ≡ Name b = cc in true_false (sym (name_is b) ∙ ap (is_name b) (sym same) ∙ off)
+    (λ z h. (elim (nat_eq z e.0) as (λ t. cond t (Some e.1) (lookup (nat_eq z) env) ≡ Some (Mailbox b) → ⊥) [
+      | true ↦ λ k. let same : e.1 ≡ Mailbox b = cc in true_false (sym (name_is b) ∙ ap (is_mailbox b) (sym same) ∙ off)
       | false ↦ λ k. none z k
     ]) h)
-    (cond-false (is_name b e.1) (g e.0) (held g b env) off ∙ is)
+    (cond-false (is_mailbox b e.1) (g e.0) (held g b env) off ∙ is)
   where
     true_false : true ≡ false → ⊥
     true_false e = cc
@@ -138,6 +138,6 @@ pub held_cases : (g : TypeEnv) (b n : ℕ) (env : Env) → AscendsFrom n env →
 held_cases g b n [] a = by_none (λ z h. cc) refl
 held_cases g b n (e ∷ env) a =
     ⊎_elim
-    (λ found. by_variable e.0 (cond-true (nat_eq e.0 e.0) (Some e.1) (lookup (nat_eq e.0) env) (eq-eqb e.0 e.0 refl) ∙ ap (λ v. Some v) (is_name_same b e.1 found)) (cond-true (is_name b e.1) (g e.0) (held g b env) found))
+    (λ found. by_variable e.0 (cond-true (nat_eq e.0 e.0) (Some e.1) (lookup (nat_eq e.0) env) (eq-eqb e.0 e.0 refl) ∙ ap (λ v. Some v) (is_mailbox_same b e.1 found)) (cond-true (is_mailbox b e.1) (g e.0) (held g b env) found))
     (λ off. held_on g b e env a.1 off (held_cases g b (suc e.0) env a.1))
-    (cases_Bool (is_name b e.1))
+    (cases_Bool (is_mailbox b e.1))

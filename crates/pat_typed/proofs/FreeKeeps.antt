@@ -3,7 +3,7 @@ use Rattle.std.proofs.Common.{◌≡◌, ℕ, ◌<◌, Bool, true, false, cond, 
 use Rattle.std.specs.Prelude.{is_some, filter}
 use Rattle.std.specs.List.{AllByRecursion, IsDistinct, list_any}
 use Rattle.std.proofs.lemmas.Bool.{or_cases, or_left, or_right, eq-eqb, eqb-true, eqb-false, ne_eqb, and_parts, cases_Bool, cond-true, cond-false, false_from_ne_true}
-use Rattle.pat_model.specs.Values.{Name, Env, value_at}
+use Rattle.pat_model.specs.Values.{Mailbox, Env, value_at}
 use Rattle.pat_model.specs.Programs.{Program, Core, Guard, core_at, is_free, keep, is_among, parts, clause_bodies, clause_uses}
 use Rattle.pat_model.specs.WellFormed.{WellFormed}
 use Rattle.pat_model.specs.Configs.{Running, Thread, Config, thread_at, env_refers, control_refers, thread_refers, message_refers, has_pending, other_refers}
@@ -127,7 +127,7 @@ module _ (p : Program) (y : Typing) (c : Config) (t : ℕ) (s : Thread) (d : Con
   gone =
       false_from_ne_true (env_refers a env') (λ h.
       let r = refers_value a 0 env' narrowed.keys h in
-      let at = (narrowed.inside r.0 (Name a) r.1).1 in
+      let at = (narrowed.inside r.0 (Mailbox a) r.1).1 in
       let same : r.0 ≡ q.var = control_fits.0.different r.0 q.var a at q.guards in
       let some = part_named p y typed.interfaces m [] env' wf typed.typing body.0 body.1 new_part r.0 a r.1 in
       let none : without q.var (y.envs n) q.var ≡ None = cond-true (nat_eq q.var q.var) None (y.envs n q.var) (eq-eqb q.var q.var refl) in
@@ -141,7 +141,7 @@ module _ (p : Program) (y : Typing) (c : Config) (t : ℕ) (s : Thread) (d : Con
   passes b off =
       narrow_passes (λ z. is_free p z m) (y.envs n) (y.envs m) q.env env' b control_fits.0.keys control_fits.0.different narrowed
       (λ z at.
-      let apart : nat_eq q.var z ≡ false = ne_eqb q.var z (λ e. let w : Some (Name a) ≡ Some (Name b) = sym q.guards ∙ ap (value_at q.env) e ∙ at in eqb-false b a off cc) in
+      let apart : nat_eq q.var z ≡ false = ne_eqb q.var z (λ e. let w : Some (Mailbox a) ≡ Some (Mailbox b) = sym q.guards ∙ ap (value_at q.env) e ∙ at in eqb-false b a off cc) in
       subst (λ o. PassesTo o (y.envs m z)) (cond-false (nat_eq q.var z) None (y.envs n z) apart) (guard.free_passes m refl z))
       (λ z off. unused_drops p y wf typed.typing z m body.0 body.1 off)
 

@@ -6,7 +6,7 @@ use Rattle.std.proofs.lemmas.Bool.{or_cases, or_left, or_right, eq-eqb, eqb-true
 use Rattle.pat_words.specs.Words.{no_word}
 use Rattle.pat_words.specs.Patterns.{Pat, Prod, In, Included}
 use Rattle.pat_words.proofs.WordLaws.{none_plus, plus_none}
-use Rattle.pat_model.specs.Values.{Name, Env, value_at}
+use Rattle.pat_model.specs.Values.{Mailbox, Env, value_at}
 use Rattle.pat_model.specs.Programs.{Program, Polarity, Sending, Receiving, Core, Let, core_at, is_free, keep, is_among, option_list, parts}
 use Rattle.pat_model.specs.WellFormed.{WellFormed}
 use Rattle.pat_model.specs.Configs.{Running, Frame, Thread, Config, thread_at, with_thread, env_refers, control_refers, thread_refers, pending}
@@ -186,17 +186,17 @@ module _ (p : Program) (y : Typing) (interfaces : ℕ → ℕ) (s : Thread) (n m
       subst (λ w. PassesTo w None) (sym (without_out x (y.envs b) z out)) (unused_drops p y wf typing z b body_core.0 body_core.1 free))
       (cases_Bool (is_among z (option_list x)))
 
-  body_out : (z a : ℕ) → value_at body_env z ≡ Some (Name a) → without_name x (y.envs b) z ≡ y.envs b z
-  body_out z a at = without_out x (y.envs b) z (body_part.free z (Name a) at).1
+  body_out : (z a : ℕ) → value_at body_env z ≡ Some (Mailbox a) → without_name x (y.envs b) z ≡ y.envs b z
+  body_out z a at = without_out x (y.envs b) z (body_part.free z (Mailbox a) at).1
 
   -- what the body has, as the let divides it
-  divided : (a z : ℕ) (h : Holding) → value_at env z ≡ Some (Name a) → SplitsTo (y.envs n z) h (without_name x (y.envs b) z) → SplitsTo (y.envs n z) h (body_held a)
+  divided : (a z : ℕ) (h : Holding) → value_at env z ≡ Some (Mailbox a) → SplitsTo (y.envs n z) h (without_name x (y.envs b) z) → SplitsTo (y.envs n z) h (body_held a)
   divided a z h at split = go (narrow_cases body_test (y.envs n) (y.envs b) env body_env a part.keys part.different body_narrows)
     where
       go : NarrowCases body_test (y.envs n) (y.envs b) env body_env a → SplitsTo (y.envs n z) h (body_held a)
       go (stays w at1 at2 is is') =
           let same : w ≡ z = part.different w z a at1 at in
-          subst (λ k. SplitsTo (y.envs n z) h k) (body_out z a (subst (λ u. value_at body_env u ≡ Some (Name a)) same at2) ∙ sym (is' ∙ ap (y.envs b) same)) split
+          subst (λ k. SplitsTo (y.envs n z) h k) (body_out z a (subst (λ u. value_at body_env u ≡ Some (Mailbox a)) same at2) ∙ sym (is' ∙ ap (y.envs b) same)) split
       go (goes w at1 off is is') =
           let same : w ≡ z = part.different w z a at1 at in
           subst (λ k. SplitsTo (y.envs n z) h k) (sym is') (split_second (y.envs n z) h (without_name x (y.envs b) z) split (body_drops z (ap body_test (sym same) ∙ off)))
@@ -220,13 +220,13 @@ module _ (p : Program) (y : Typing) (interfaces : ℕ → ℕ) (s : Thread) (n m
         where
           nothing : HeldCases (y.envs b) a body_env → body_held a ≡ None
           nothing (by_none none' is) = is
-          nothing (by_variable w at is) = absurd (none w (body_narrows.inside w (Name a) at).1)
+          nothing (by_variable w at is) = absurd (none w (body_narrows.inside w (Mailbox a) at).1)
 
   -- a mailbox that the frame refers to is held there
   frame_holds : (a : ℕ) → env_refers a body_env ≡ true → is_some (body_held a) ≡ true
   frame_holds a h = go (refers_value a 0 body_env body_narrows.keys h) (held_cases (y.envs b) a 0 body_env body_narrows.keys)
     where
-      go : (z : ℕ) × (value_at body_env z ≡ Some (Name a)) → HeldCases (y.envs b) a body_env → is_some (body_held a) ≡ true
+      go : (z : ℕ) × (value_at body_env z ≡ Some (Mailbox a)) → HeldCases (y.envs b) a body_env → is_some (body_held a) ≡ true
       go q (by_variable z at is) = ap is_some is ∙ part_named p y interfaces b (option_list x) body_env wf typing body_core.0 body_core.1 body_part z a at
       go q (by_none none is) = absurd (none q.0 q.1)
 

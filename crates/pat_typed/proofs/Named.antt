@@ -9,7 +9,7 @@ use Rattle.pat_model.specs.Values.{Base, BaseBool, BaseInt, BaseText, Kind, Plai
 use Rattle.pat_model.specs.Programs.{Program, Sending, Receiving, Sort, BaseSort, MailboxSort, Function, TagDecl, Clause, Core, Val, Let, Call, If, Print, New, Send, Spawn, Guard, Node, node_at, core_at, function_at, parts, option_list, clause_bodies, clause_binders, is_among, is_free, clause_uses, core_uses, kind_of, tag_at, Interface, KindAt}
 use Rattle.pat_model.specs.WellFormed.{WellFormed, InterfaceFits, IsPayload, CoreKinds, op_kind, expr_kind, HaveKinds, IsPrintable}
 use Rattle.pat_steps.proofs.FreeVars.{free_unfolds, part_after}
-use Rattle.pat_typing.specs.Types.{MailboxType, TypeOf, BaseType, NameType, kind_of_type, TypeEnv, PassesTo, SplitsTo, with_type, without, no_types, returnable, mailbox_type, Second, Returnable}
+use Rattle.pat_typing.specs.Types.{MailboxType, TypeOf, BaseTerm, MailboxTerm, kind_of_type, TypeEnv, PassesTo, SplitsTo, with_type, without, no_types, returnable, mailbox_type, Second, Returnable}
 use Rattle.pat_typing.specs.Typings.{Typing, IsTyping, CoreTyped, GuardTyped, ClauseTyped, ValueTyped, with_option, with_payloads, args_need, clause_env, without_name, param_type, payload_type, payload_sort, sort_type}
 use Rattle.pat_typed.proofs.Nodes.{NodeFacts, node_facts, part_core}
 use Rattle.pat_typed.proofs.Payloads.{payloads_off}
@@ -93,13 +93,13 @@ args_named vars z i at types k (e ∷ es) (s ∷ ss) h p o =
 
 -- a term that is an expression
 pub value_named : (vars : List Kind) (z i : ℕ) → slice_get vars z ≡ Some (MailboxOf i) → (t : TypeOf) (e : Expr) (g : TypeEnv) → expr_kind vars e ≡ Some (kind_of_type t) → ValueTyped t e g → occurs z e ≡ true → is_some (g z) ≡ true
-value_named vars z i at (BaseType b) e g k h o = absurd (base_occurs vars z i at e b k o)
-value_named vars z i at (NameType j q f) (VarExpr x) g k h o =
+value_named vars z i at (BaseTerm b) e g k h o = absurd (base_occurs vars z i at e b k o)
+value_named vars z i at (MailboxTerm j q f) (VarExpr x) g k h o =
     let same : z ≡ x = eqb-true z x o in
     passes_some (g z) (with_type x (mailbox_type j q f Returnable) (no_types) z) (h z)
     (ap is_some (cond-true (nat_eq x z) (Some (mailbox_type j q f Returnable)) None (eq-eqb x z (sym same))))
-value_named vars z i at (NameType j q f) (Literal c) g k h o = absurd h
-value_named vars z i at (NameType j q f) (OpExpr op a b) g k h o = absurd h
+value_named vars z i at (MailboxTerm j q f) (Literal c) g k h o = absurd h
+value_named vars z i at (MailboxTerm j q f) (OpExpr op a b) g k h o = absurd h
 
 -- ---- places of signatures and of tags
 

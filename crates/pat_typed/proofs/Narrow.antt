@@ -3,15 +3,15 @@ use Rattle.std.proofs.Common.{◌≡◌, ℕ, suc, Bool, true, false, ◌&&◌, 
 use Rattle.std.specs.Prelude.{is_some, filter}
 use Rattle.std.specs.Map.{lookup}
 use Rattle.std.proofs.lemmas.Bool.{eq-eqb, ne_eqb, cond-true, cond-false, or_cases, and_from, and_parts, false_from_ne_true}
-use Rattle.pat_model.specs.Values.{Value, Name, Kind, Plain, MailboxOf, Env, AscendsFrom, value_at, ValueFits}
+use Rattle.pat_model.specs.Values.{Value, Mailbox, Kind, Plain, MailboxOf, Env, AscendsFrom, value_at, ValueFits}
 use Rattle.pat_model.specs.Programs.{Program, Core, core_at, is_among, is_free, keep, KindAt}
 use Rattle.pat_model.specs.WellFormed.{WellFormed}
-use Rattle.pat_model.specs.Configs.{Frame, is_name, env_refers}
+use Rattle.pat_model.specs.Configs.{Frame, is_mailbox, env_refers}
 use Rattle.pat_typing.specs.Types.{Usage, Second, Returnable, MailboxType, TypeEnv, PassesTo, UsageFits}
 use Rattle.pat_typing.specs.Typings.{Typing, IsTyping}
 use Rattle.pat_typing.specs.Holdings.{Holding, held}
 use Rattle.pat_typing.specs.Typed.{PartFits, KeepsFrom}
-use Rattle.pat_typed.proofs.Refers.{is_name_same, value_refers}
+use Rattle.pat_typed.proofs.Refers.{is_mailbox_same, value_refers}
 use Rattle.pat_typed.proofs.Envs.{value_at-keep, kept, held_cases, HeldCases, by_variable, by_none, ascends_filter, value_at-filter, value_above}
 use Rattle.pat_typed.proofs.Named.{free_named}
 use Rattle.pat_steps.proofs.Lists.{not_true}
@@ -52,47 +52,47 @@ narrow_twice f g e1 e2 e3 a b = record {
 }
 
 -- who is referred to, is so by a variable
-pub refers_value : (b n : ℕ) (env : Env) → AscendsFrom n env → env_refers b env ≡ true → (z : ℕ) × (value_at env z ≡ Some (Name b))
+pub refers_value : (b n : ℕ) (env : Env) → AscendsFrom n env → env_refers b env ≡ true → (z : ℕ) × (value_at env z ≡ Some (Mailbox b))
 refers_value b n [] a h = cc
 refers_value b n (e ∷ env) a h =
     ⊎_elim
-    (λ here. (e.0, cond-true (nat_eq e.0 e.0) (Some e.1) (lookup (nat_eq e.0) env) (eq-eqb e.0 e.0 refl) ∙ ap (λ v. Some v) (is_name_same b e.1 here)))
+    (λ here. (e.0, cond-true (nat_eq e.0 e.0) (Some e.1) (lookup (nat_eq e.0) env) (eq-eqb e.0 e.0 refl) ∙ ap (λ v. Some v) (is_mailbox_same b e.1 here)))
     (λ rest.
     let q = refers_value b (suc e.0) env a.1 rest in
-    let above = value_above (suc e.0) env q.0 (Name b) a.1 q.1 in
+    let above = value_above (suc e.0) env q.0 (Mailbox b) a.1 q.1 in
     let apart : nat_eq q.0 e.0 ≡ false = ne_eqb q.0 e.0 (λ w. omega arith) in
     (q.0, cond-false (nat_eq q.0 e.0) (Some e.1) (lookup (nat_eq q.0) env) apart ∙ q.1))
-    (or_cases (is_name b e.1) (env_refers b env) h)
+    (or_cases (is_mailbox b e.1) (env_refers b env) h)
 
 -- the narrower environment refers to no more
 pub narrow_refers : (f : ℕ → Bool) (env env' : Env) (b : ℕ) → Narrowed f env env' → env_refers b env' ≡ true → env_refers b env ≡ true
 narrow_refers f env env' b w h =
-    let q = refers_value b 0 env' w.keys h in value_refers env q.0 b (w.inside q.0 (Name b) q.1).1
+    let q = refers_value b 0 env' w.keys h in value_refers env q.0 b (w.inside q.0 (Mailbox b) q.1).1
 
 -- different variables name different mailboxes
 abbrev pub NamesApart : Env → Type 0
-NamesApart env = (x z a : ℕ) → value_at env x ≡ Some (Name a) → value_at env z ≡ Some (Name a) → x ≡ z
+NamesApart env = (x z a : ℕ) → value_at env x ≡ Some (Mailbox a) → value_at env z ≡ Some (Mailbox a) → x ≡ z
 
 -- what is held of b before and after
 pub data NarrowCases (f : ℕ → Bool) (g h : TypeEnv) (env env' : Env) (b : ℕ) : Type 0 where
-  stays : (z : ℕ) → value_at env z ≡ Some (Name b) → value_at env' z ≡ Some (Name b) → held g b env ≡ g z → held h b env' ≡ h z → NarrowCases f g h env env' b
-  goes : (z : ℕ) → value_at env z ≡ Some (Name b) → f z ≡ false → held g b env ≡ g z → held h b env' ≡ None → NarrowCases f g h env env' b
-  absent : ((z : ℕ) → value_at env z ≡ Some (Name b) → ⊥) → held g b env ≡ None → held h b env' ≡ None → NarrowCases f g h env env' b
+  stays : (z : ℕ) → value_at env z ≡ Some (Mailbox b) → value_at env' z ≡ Some (Mailbox b) → held g b env ≡ g z → held h b env' ≡ h z → NarrowCases f g h env env' b
+  goes : (z : ℕ) → value_at env z ≡ Some (Mailbox b) → f z ≡ false → held g b env ≡ g z → held h b env' ≡ None → NarrowCases f g h env env' b
+  absent : ((z : ℕ) → value_at env z ≡ Some (Mailbox b) → ⊥) → held g b env ≡ None → held h b env' ≡ None → NarrowCases f g h env env' b
 
 pub narrow_cases : (f : ℕ → Bool) (g h : TypeEnv) (env env' : Env) (b : ℕ) → AscendsFrom 0 env → NamesApart env → Narrowed f env env' → NarrowCases f g h env env' b
 narrow_cases f g h env env' b a apart w = go (held_cases g b 0 env a) (held_cases h b 0 env' w.keys)
   where
     go : HeldCases g b env → HeldCases h b env' → NarrowCases f g h env env' b
     go (by_variable z at is) (by_variable z' at' is') =
-        let same : z' ≡ z = apart z' z b (w.inside z' (Name b) at').1 at in
-        stays z at (subst (λ x. value_at env' x ≡ Some (Name b)) same at') is (is' ∙ ap h same)
+        let same : z' ≡ z = apart z' z b (w.inside z' (Mailbox b) at').1 at in
+        stays z at (subst (λ x. value_at env' x ≡ Some (Mailbox b)) same at') is (is' ∙ ap h same)
     go (by_variable z at is) (by_none none is') =
-        goes z at (false_from_ne_true (f z) (λ q. none z (w.still z (Name b) at q))) is is'
-    go (by_none none is) (by_variable z' at' is') = absurd (none z' (w.inside z' (Name b) at').1)
+        goes z at (false_from_ne_true (f z) (λ q. none z (w.still z (Mailbox b) at q))) is is'
+    go (by_none none is) (by_variable z' at' is') = absurd (none z' (w.inside z' (Mailbox b) at').1)
     go (by_none none is) (by_none none' is') = absent none is is'
 
 -- what is there passes to what goes on, where each variable's type does
-pub narrow_passes : (f : ℕ → Bool) (g h : TypeEnv) (env env' : Env) (b : ℕ) → AscendsFrom 0 env → NamesApart env → Narrowed f env env' → ((z : ℕ) → value_at env z ≡ Some (Name b) → PassesTo (g z) (h z)) → ((z : ℕ) → f z ≡ false → PassesTo (h z) None) → PassesTo (held g b env) (held h b env')
+pub narrow_passes : (f : ℕ → Bool) (g h : TypeEnv) (env env' : Env) (b : ℕ) → AscendsFrom 0 env → NamesApart env → Narrowed f env env' → ((z : ℕ) → value_at env z ≡ Some (Mailbox b) → PassesTo (g z) (h z)) → ((z : ℕ) → f z ≡ false → PassesTo (h z) None) → PassesTo (held g b env) (held h b env')
 narrow_passes f g h env env' b a apart w passes unused = go (narrow_cases f g h env env' b a apart w)
   where
     go : NarrowCases f g h env env' b → PassesTo (held g b env) (held h b env')
@@ -112,18 +112,18 @@ narrow_part p f n m but env env' part w sub kind core there = record {
       let q = and_parts (is_free p z m) (not (is_among z but)) (w.inside z v at).0 in
       (q.0, not_true (is_among z but) q.1);
   kinds = λ z v at. let k = part.kinds z v (w.inside z v at).1 in (k.0, kind z k.0 k.1, k.2);
-  different = λ z x a at at'. part.different z x a (w.inside z (Name a) at).1 (w.inside x (Name a) at').1;
+  different = λ z x a at at'. part.different z x a (w.inside z (Mailbox a) at).1 (w.inside x (Mailbox a) at').1;
 }
 
 -- a mailbox variable of a part is named by its node's environment
-pub part_named : (p : Program) (y : Typing) (interfaces : ℕ → ℕ) (n : ℕ) (but : List ℕ) (env : Env) → WellFormed p → IsTyping p y → (core : Core) → core_at p n ≡ Some core → PartFits p interfaces n but env → (z a : ℕ) → value_at env z ≡ Some (Name a) → is_some (y.envs n z) ≡ true
+pub part_named : (p : Program) (y : Typing) (interfaces : ℕ → ℕ) (n : ℕ) (but : List ℕ) (env : Env) → WellFormed p → IsTyping p y → (core : Core) → core_at p n ≡ Some core → PartFits p interfaces n but env → (z a : ℕ) → value_at env z ≡ Some (Mailbox a) → is_some (y.envs n z) ≡ true
 part_named p y f n but env wf typing core there part z a at =
-    let k = part.kinds z (Name a) at in
+    let k = part.kinds z (Mailbox a) at in
     go k.0 k.1 k.2
   where
-    go : (w : Kind) → KindAt p n z w → ValueFits f (Name a) w → is_some (y.envs n z) ≡ true
+    go : (w : Kind) → KindAt p n z w → ValueFits f (Mailbox a) w → is_some (y.envs n z) ≡ true
     go (Plain b) kind fits = absurd fits
-    go (MailboxOf i) kind fits = free_named p y wf typing z i n core there kind (part.free z (Name a) at).0
+    go (MailboxOf i) kind fits = free_named p y wf typing z i n core there kind (part.free z (Mailbox a) at).0
 
 -- ---- returnable
 

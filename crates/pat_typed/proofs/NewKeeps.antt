@@ -5,12 +5,12 @@ use Rattle.std.specs.List.{IsDistinct, list_any}
 use Rattle.pat_words.specs.Words.{Word, no_word, plus}
 use Rattle.pat_words.specs.Patterns.{Pat, In}
 use Rattle.pat_words.proofs.WordLaws.{none_plus}
-use Rattle.pat_model.specs.Values.{Name, Kind, MailboxOf, Env, ValueFits}
+use Rattle.pat_model.specs.Values.{Mailbox, Kind, MailboxOf, Env, ValueFits}
 use Rattle.pat_model.specs.Programs.{Program, Sending, Receiving, New, is_among}
 use Rattle.pat_model.specs.WellFormed.{WellFormed}
-use Rattle.pat_model.specs.Configs.{Running, Returned, Frame, Thread, Message, Config, thread_at, with_thread, is_name, env_refers, control_refers, thread_refers, message_refers, has_pending, pending}
+use Rattle.pat_model.specs.Configs.{Running, Returned, Frame, Thread, Message, Config, thread_at, with_thread, is_mailbox, env_refers, control_refers, thread_refers, message_refers, has_pending, pending}
 use Rattle.pat_model.specs.Steps.{ActNew, step, redex, thread_of}
-use Rattle.pat_typing.specs.Types.{Returnable, TypeOf, BaseType, NameType, kind_of_type, mailbox_type, TypeFits, no_types, EnvPasses, PassesTo}
+use Rattle.pat_typing.specs.Types.{Returnable, TypeOf, BaseTerm, MailboxTerm, kind_of_type, mailbox_type, TypeFits, no_types, EnvPasses, PassesTo}
 use Rattle.pat_typing.specs.Typings.{Typing, NewTyped}
 use Rattle.pat_typing.specs.Holdings.{Holding, wanted, as_holding, control_held, frame_held, message_held, thread_held, holdings, Balanced}
 use Rattle.pat_typing.specs.Typed.{IsTyped, ThreadFits, NumbersFit, ControlFits, KeepsFrom, frames_refer}
@@ -31,16 +31,16 @@ none_parts (h ∷ hs) ks a = let r = none_parts hs ks a.1 in ((a.0, r.0), r.1)
 record NewWanted (t : TypeOf) : Type 0 where
   interface : ℕ
   pattern : Pat
-  is : t ≡ NameType interface Receiving pattern
+  is : t ≡ MailboxTerm interface Receiving pattern
   empty : In pattern no_word
 
 new_wanted : (i : ℕ) (s t : TypeOf) → NewTyped i s → TypeFits s t → NewWanted t
-new_wanted i (NameType j Receiving e) (NameType k Receiving f) n h =
+new_wanted i (MailboxTerm j Receiving e) (MailboxTerm k Receiving f) n h =
     record { interface = k; pattern = f; is = refl; empty = h.pattern no_word (n.1 no_word refl) }
-new_wanted i (NameType j Receiving e) (NameType k Sending f) n h = let q = h.polarity in cc
-new_wanted i (NameType j Receiving e) (BaseType b) n h = absurd h
-new_wanted i (NameType j Sending e) t n h = absurd n
-new_wanted i (BaseType b) t n h = absurd n
+new_wanted i (MailboxTerm j Receiving e) (MailboxTerm k Sending f) n h = let q = h.polarity in cc
+new_wanted i (MailboxTerm j Receiving e) (BaseTerm b) n h = absurd h
+new_wanted i (MailboxTerm j Sending e) t n h = absurd n
+new_wanted i (BaseTerm b) t n h = absurd n
 
 -- a mailbox with one receiving holding and nothing else is balanced
 alone_balanced : (i : ℕ) (e : Pat) (hs : List Holding) (r : Word) → AllNone hs → r ≡ no_word → In e no_word → Balanced (Some (mailbox_type i Receiving e Returnable) ∷ hs) r
@@ -70,7 +70,7 @@ module _ (p : Program) (y : Typing) (c : Config) (t : ℕ) (s : Thread) (i : ℕ
   interfaces' a = if nat_eq a c.next_mailbox then i else typed.interfaces a
 
   abbrev thread' : Thread
-  thread' = thread_of (Returned (Name c.next_mailbox)) s.frames
+  thread' = thread_of (Returned (Mailbox c.next_mailbox)) s.frames
 
   abbrev after : Config
   after = record (with_thread c t thread') { live = c.live ++ c.next_mailbox ∷ []; next_mailbox = c.next_mailbox + 1 }
@@ -149,7 +149,7 @@ module _ (p : Program) (y : Typing) (c : Config) (t : ℕ) (s : Thread) (i : ℕ
       let k : MailboxOf i ≡ kind_of_type (wanted p y s.frames) =
       sym made.kind ∙ fits_kind (y.results made.node) (wanted p y s.frames) control_fits.1 in
       record {
-        control = subst (λ (x : Kind). ValueFits interfaces' (Name c.next_mailbox) x) k (cond-true (nat_eq c.next_mailbox c.next_mailbox) i (typed.interfaces c.next_mailbox) (eq-eqb c.next_mailbox c.next_mailbox refl));
+        control = subst (λ (x : Kind). ValueFits interfaces' (Mailbox c.next_mailbox) x) k (cond-true (nat_eq c.next_mailbox c.next_mailbox) i (typed.interfaces c.next_mailbox) (eq-eqb c.next_mailbox c.next_mailbox refl));
         frames = frames_agree typed.interfaces interfaces' p y s.frames
             (λ a h. threads_agreed a (lookup_any (thread_refers a) c.threads t s made.there (or_right (control_refers a s.control) (list_any (λ (x : Frame). env_refers a x.env) s.frames) h)))
             old_fits.frames;
@@ -162,7 +162,7 @@ module _ (p : Program) (y : Typing) (c : Config) (t : ℕ) (s : Thread) (i : ℕ
       ⊎_elim
       (λ k. any_last (nat_eq a) c.live (c.next_mailbox ∷ []) (or_left (nat_eq a c.next_mailbox) false k))
       (λ k. any_first (nat_eq a) c.live (c.next_mailbox ∷ []) (typed.numbers.threads_live a (lookup_any (thread_refers a) c.threads t s made.there (or_right (control_refers a s.control) (list_any (λ f. env_refers a f.env) s.frames) k))))
-      (or_cases (is_name a (Name c.next_mailbox)) (list_any (λ f. env_refers a f.env) s.frames) h)
+      (or_cases (is_mailbox a (Mailbox c.next_mailbox)) (list_any (λ f. env_refers a f.env) s.frames) h)
 
   numbers' : NumbersFit after
   numbers' = record {

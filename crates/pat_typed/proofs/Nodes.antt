@@ -4,8 +4,8 @@ use Rattle.std.specs.Prelude.{option_map}
 use Rattle.pat_model.specs.Values.{Env, Plain, MailboxOf}
 use Rattle.pat_model.specs.Programs.{Program, Core, Node, node_at, core_at, parts, binders, is_among}
 use Rattle.pat_model.specs.WellFormed.{WellFormed, NodeFits, CoreKinds}
-use Rattle.pat_model.specs.Configs.{is_name}
-use Rattle.pat_typing.specs.Types.{MailboxType, TypeOf, BaseType, NameType, kind_of_type, TypeFits, TypeEnv}
+use Rattle.pat_model.specs.Configs.{is_mailbox}
+use Rattle.pat_typing.specs.Types.{MailboxType, TypeOf, BaseTerm, MailboxTerm, kind_of_type, TypeFits, TypeEnv}
 use Rattle.pat_typing.specs.Typings.{Typing, IsTyping, NodeTyped, CoreTyped}
 use Rattle.pat_typing.specs.Holdings.{Holding, held}
 use Rattle.pat_typed.proofs.Unbound.{named_unbound}
@@ -41,16 +41,16 @@ node_facts p y n core w i h = facts_of p y n core (node_at p n) w i refl h
 
 -- a type that fits another has its kind
 pub fits_kind : (s t : TypeOf) → TypeFits s t → kind_of_type s ≡ kind_of_type t
-fits_kind (BaseType b) (BaseType c) h = ap (λ x. Plain x) h
-fits_kind (NameType i q e) (NameType j r f) h = ap (λ x. MailboxOf x) h.interface
-fits_kind (BaseType b) (NameType j r f) h = absurd h
-fits_kind (NameType i q e) (BaseType c) h = absurd h
+fits_kind (BaseTerm b) (BaseTerm c) h = ap (λ x. Plain x) h
+fits_kind (MailboxTerm i q e) (MailboxTerm j r f) h = ap (λ x. MailboxOf x) h.interface
+fits_kind (BaseTerm b) (MailboxTerm j r f) h = absurd h
+fits_kind (MailboxTerm i q e) (BaseTerm c) h = absurd h
 
 -- what holds of no holding and of each variable's type holds of what an environment holds
 pub held_all : (g : TypeEnv) (b : ℕ) (P : Holding → Type 0) → P None → ((x : ℕ) → P (g x)) → (env : Env) → P (held g b env)
 held_all g b P none each [] = none
 held_all g b P none each (e ∷ env) =
-    elim (is_name b e.1) as (λ v. P (if v then g e.0 else held g b env)) [
+    elim (is_mailbox b e.1) as (λ v. P (if v then g e.0 else held g b env)) [
       | true ↦ each e.0
       | false ↦ held_all g b P none each env
     ]

@@ -3,7 +3,7 @@ use Rattle.std.proofs.Common.{◌≡◌, ℕ, Some, None, ◌∙◌, sym, subst,
 use Rattle.pat_words.specs.Words.{no_word}
 use Rattle.pat_words.specs.Patterns.{Pat, In}
 use Rattle.pat_model.specs.Programs.{Polarity, Sending, Receiving}
-use Rattle.pat_typing.specs.Types.{Usage, PatternFits, DropsAs, PassesTo, Second, Returnable, UsageFits, MailboxType, Fits, TypeOf, BaseType, NameType, TypeFits, mailbox_type}
+use Rattle.pat_typing.specs.Types.{Usage, PatternFits, DropsAs, PassesTo, Second, Returnable, UsageFits, MailboxType, Fits, TypeOf, BaseTerm, MailboxTerm, TypeFits, mailbox_type}
 use Rattle.pat_typing.specs.Holdings.{Holding, as_holding}
 use Rattle.pat_typing.specs.Typings.{NamePasses}
 
@@ -51,19 +51,19 @@ passes_twice (Some a) (Some b) (Some c) h k = fits_twice a b c h k
 
 -- a type that fits another passes to it
 pub type_passes : (s t : TypeOf) → TypeFits s t → PassesTo (as_holding s) (as_holding t)
-type_passes (BaseType b) (BaseType c) h = tt
-type_passes (NameType i q e) (NameType j r f) h = h
-type_passes (BaseType b) (NameType j r f) h = absurd h
-type_passes (NameType i q e) (BaseType c) h = absurd h
+type_passes (BaseTerm b) (BaseTerm c) h = tt
+type_passes (MailboxTerm i q e) (MailboxTerm j r f) h = h
+type_passes (BaseTerm b) (MailboxTerm j r f) h = absurd h
+type_passes (MailboxTerm i q e) (BaseTerm c) h = absurd h
 
 pub type_twice : (r s t : TypeOf) → TypeFits r s → TypeFits s t → TypeFits r t
-type_twice (BaseType a) (BaseType b) (BaseType c) h k = h ∙ k
-type_twice (NameType i q e) (NameType j r f) (NameType l s g) h k =
+type_twice (BaseTerm a) (BaseTerm b) (BaseTerm c) h k = h ∙ k
+type_twice (MailboxTerm i q e) (MailboxTerm j r f) (MailboxTerm l s g) h k =
     fits_twice (mailbox_type i q e Returnable) (mailbox_type j r f Returnable) (mailbox_type l s g Returnable) h k
-type_twice (BaseType a) (NameType j r f) t h k = absurd h
-type_twice (NameType i q e) (BaseType b) t h k = absurd h
-type_twice (BaseType a) (BaseType b) (NameType l s g) h k = absurd k
-type_twice (NameType i q e) (NameType j r f) (BaseType c) h k = absurd k
+type_twice (BaseTerm a) (MailboxTerm j r f) t h k = absurd h
+type_twice (MailboxTerm i q e) (BaseTerm b) t h k = absurd h
+type_twice (BaseTerm a) (BaseTerm b) (MailboxTerm l s g) h k = absurd k
+type_twice (MailboxTerm i q e) (MailboxTerm j r f) (BaseTerm c) h k = absurd k
 
 pub pattern_same : (q : Polarity) (e f : Pat) → e ≡ f → PatternFits q e f
 pattern_same Sending e f h = λ w i. subst (λ (x : Pat). In x w) (sym h) i
@@ -75,9 +75,9 @@ usage_any Returnable = tt
 
 -- what is returned passes to the name of a let
 pub name_passes : (t : TypeOf) (o : Holding) → NamePasses t o → PassesTo (as_holding t) o
-name_passes (BaseType b) o h = subst (λ x. PassesTo None x) (sym h) tt
-name_passes (NameType i q e) None h = h
-name_passes (NameType i q e) (Some a) h = record {
+name_passes (BaseTerm b) o h = subst (λ x. PassesTo None x) (sym h) tt
+name_passes (MailboxTerm i q e) None h = h
+name_passes (MailboxTerm i q e) (Some a) h = record {
   interface = sym h.0;
   polarity = sym h.1;
   usage = usage_any a.usage;
@@ -85,5 +85,5 @@ name_passes (NameType i q e) (Some a) h = record {
 }
 
 pub type_same : (t : TypeOf) → TypeFits t t
-type_same (BaseType b) = refl
-type_same (NameType i q e) = record { interface = refl; polarity = refl; usage = tt; pattern = pattern_same q e e refl }
+type_same (BaseTerm b) = refl
+type_same (MailboxTerm i q e) = record { interface = refl; polarity = refl; usage = tt; pattern = pattern_same q e e refl }

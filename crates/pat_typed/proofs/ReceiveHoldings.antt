@@ -7,14 +7,14 @@ use Rattle.pat_words.specs.Words.{Word, no_word, one, plus}
 use Rattle.pat_words.specs.Patterns.{Pat, In, Included, residual}
 use Rattle.pat_words.proofs.WordLaws.{word_ext}
 use Rattle.pat_words.proofs.PatternLaws.{residual_from}
-use Rattle.pat_model.specs.Values.{Value, Name, Env, AscendsFrom, value_at, bind_all}
+use Rattle.pat_model.specs.Values.{Value, Mailbox, Env, AscendsFrom, value_at, bind_all}
 use Rattle.pat_model.specs.Programs.{Program, Polarity, Sending, Receiving, Clause, is_among, clause_binders, is_free, keep}
-use Rattle.pat_model.specs.Configs.{Message, is_name}
+use Rattle.pat_model.specs.Configs.{Message, is_mailbox}
 use Rattle.pat_model.specs.Steps.{received}
 use Rattle.pat_typing.specs.Types.{Usage, Returnable, mailbox_type, PatternFits, TypeEnv, PassesTo, without}
 use Rattle.pat_typing.specs.Typings.{Typing, payload_type, with_payloads, clause_env, HasMailboxPayload, GuardTyped, ClauseTyped}
 use Rattle.pat_typing.specs.Holdings.{Holding, held, payload_held, Balanced}
-use Rattle.pat_typing.specs.Typed.{PartFits, names}
+use Rattle.pat_typing.specs.Typed.{PartFits, mailboxes_of}
 use Rattle.pat_typed.proofs.Balance.{Refines, active, refine_balance, passes_refine, choice_one, choice_of_one, drop_second, drop_first}
 use Rattle.pat_typed.proofs.Refers.{payload_none}
 use Rattle.pat_typed.proofs.Envs.{value_at-bind, kept, held_cases, HeldCases, by_variable, by_none, ascends_bind, ascends_bind_all, ascends_filter, value_at-keep}
@@ -44,9 +44,9 @@ receive_refine i j u v Receiving Sending e0 e f m s q0 fits p0 rest = cc
 pub record Receipt (p : Program) (y : Typing) (interfaces : ℕ → ℕ) (n : ℕ) (env : Env) (x : ℕ) (e : Pat) (free : Option ℕ) (cs : List Clause) (r : Clause) (m : Message) : Type 0 where
   pub guard : GuardTyped p y (y.envs n) (y.results n) x e free cs
   pub clause : ClauseTyped p y (y.envs n) (y.results n) x guard.guarded.interface e r
-  pub guards : value_at env x ≡ Some (Name m.mailbox)
+  pub guards : value_at env x ≡ Some (Mailbox m.mailbox)
   pub part : PartFits p interfaces n [] env
-  pub different : IsDistinct nat_eq (names (Name m.mailbox ∷ m.values))
+  pub different : IsDistinct nat_eq (mailboxes_of (Mailbox m.mailbox ∷ m.values))
   pub lengths : length r.vars ≡ length m.values
   pub tag : r.tag ≡ m.tag
   pub vars_distinct : IsDistinct nat_eq r.vars
@@ -54,7 +54,7 @@ pub record Receipt (p : Program) (y : Typing) (interfaces : ℕ → ℕ) (n : �
   pub fresh : (z : ℕ) (v : Value) → value_at env z ≡ Some v → is_among z (clause_binders r) ≡ false
   pub have_types : HaveTypes (payload_type clause.decl) 0 m.values
   -- a mailbox variable that is free in the body is named there
-  pub named : (z b : ℕ) → value_at (keep p r.body (received r m env)) z ≡ Some (Name b) → is_some (y.envs r.body z) ≡ true
+  pub named : (z b : ℕ) → value_at (keep p r.body (received r m env)) z ≡ Some (Mailbox b) → is_some (y.envs r.body z) ≡ true
   -- a variable that isn't free in the body may be dropped there
   pub unused : (z : ℕ) → is_free p z r.body ≡ false → PassesTo (y.envs r.body z) None
 
@@ -77,12 +77,12 @@ module _ (p : Program) (y : Typing) (interfaces : ℕ → ℕ) (n : ℕ) (env : 
   none_some : {A : Type 0} {a : A} → None ≡ Some a → ⊥
   none_some h = cc
 
-  names_distinct : IsDistinct nat_eq (names m.values)
+  names_distinct : IsDistinct nat_eq (mailboxes_of m.values)
   unfolding IsDistinct
   names_distinct = known.different.1
 
   -- the message's own mailbox isn't in its payload
-  own_apart : list_any (is_name m.mailbox) m.values ≡ false
+  own_apart : list_any (is_mailbox m.mailbox) m.values ≡ false
   own_apart = names_head m.mailbox m.values known.different
 
   binders_parts : (z : ℕ) → is_among z (clause_binders r) ≡ false → (is_among z r.vars ≡ false) × (nat_eq z r.from ≡ false)
@@ -106,7 +106,7 @@ module _ (p : Program) (y : Typing) (interfaces : ℕ → ℕ) (n : ℕ) (env : 
   -- the guarded variable isn't offered
   offered_guarded : offered x ≡ None
   offered_guarded =
-      let q = binders_parts x (known.fresh x (Name m.mailbox) known.guards) in
+      let q = binders_parts x (known.fresh x (Mailbox m.mailbox) known.guards) in
       offered_off x q.1 ∙ payloads_off types 0 r.vars (without x (y.envs n)) x q.0 ∙ cond-true (nat_eq x x) None (y.envs n x) (eq-eqb x x refl)
 
   -- so the body doesn't name it
@@ -122,8 +122,8 @@ module _ (p : Program) (y : Typing) (interfaces : ℕ → ℕ) (n : ℕ) (env : 
   -- what is left of the mailbox, a payload, or a variable that named it before
   pub data BodyCases (b z : ℕ) : Type 0 where
     is_from : z ≡ r.from → b ≡ m.mailbox → BodyCases b z
-    is_payload : list_any (is_name b) m.values ≡ true → offered z ≡ payload_held b types 0 m.values → is_among z (clause_binders r) ≡ true → BodyCases b z
-    is_env : value_at env z ≡ Some (Name b) → nat_eq x z ≡ false → BodyCases b z
+    is_payload : list_any (is_mailbox b) m.values ≡ true → offered z ≡ payload_held b types 0 m.values → is_among z (clause_binders r) ≡ true → BodyCases b z
+    is_env : value_at env z ≡ Some (Mailbox b) → nat_eq x z ≡ false → BodyCases b z
 
   payload_case : (b z : ℕ) → body z ≡ None ⊎ (is_some (body z) ≡ true) → nat_eq z r.from ≡ false → is_some (body z) ≡ true → PayloadCases (without x (y.envs n)) types env b 0 r.vars m.values z → BodyCases b z
   payload_case b z o off some (of_payload among found is) =
@@ -134,19 +134,19 @@ module _ (p : Program) (y : Typing) (interfaces : ℕ → ℕ) (n : ℕ) (env : 
       let none : body z ≡ None = subst (λ w. body w ≡ None) same body_guarded in
       clash (sym (ap is_some none) ∙ some) refl))
 
-  pub body_cases : (b z : ℕ) → value_at kept_values z ≡ Some (Name b) → BodyCases b z
+  pub body_cases : (b z : ℕ) → value_at kept_values z ≡ Some (Mailbox b) → BodyCases b z
   body_cases b z at =
       let some = known.named z b at in
-      let k = kept p r.body all_values z (Name b) at in
-      (elim (nat_eq z r.from) as (λ t. nat_eq z r.from ≡ t → (if t then Some (Name m.mailbox) else value_at (bind_all env r.vars m.values) z) ≡ Some (Name b) → BodyCases b z) [
+      let k = kept p r.body all_values z (Mailbox b) at in
+      (elim (nat_eq z r.from) as (λ t. nat_eq z r.from ≡ t → (if t then Some (Mailbox m.mailbox) else value_at (bind_all env r.vars m.values) z) ≡ Some (Mailbox b) → BodyCases b z) [
         | true ↦ λ q v. is_from (eqb-true z r.from q) cc
         | false ↦ λ q v. payload_case b z (inr some) q some (payload_cases (without x (y.envs n)) types env b 0 r.vars m.values z known.lengths known.have_types names_distinct v)
-      ]) refl (sym (value_at-bind (bind_all env r.vars m.values) r.from (Name m.mailbox) z) ∙ k.1)
+      ]) refl (sym (value_at-bind (bind_all env r.vars m.values) r.from (Mailbox m.mailbox) z) ∙ k.1)
 
   pub kept_ascends : AscendsFrom 0 kept_values
   kept_ascends =
       ascends_filter (λ b. is_free p b.0 r.body) 0 all_values
-      (ascends_bind 0 (bind_all env r.vars m.values) r.from (Name m.mailbox) (omega arith) (ascends_bind_all env r.vars m.values known.part.keys))
+      (ascends_bind 0 (bind_all env r.vars m.values) r.from (Mailbox m.mailbox) (omega arith) (ascends_bind_all env r.vars m.values known.part.keys))
 
   -- a variable that has a value before and isn't kept isn't free
   lost : (z : ℕ) (v : Value) → value_at all_values z ≡ Some v → (value_at kept_values z ≡ Some v → ⊥) → is_free p z r.body ≡ false
@@ -158,19 +158,19 @@ module _ (p : Program) (y : Typing) (interfaces : ℕ → ℕ) (n : ℕ) (env : 
   pub still : (z : ℕ) (v : Value) → value_at env z ≡ Some v → value_at all_values z ≡ Some v
   still z v at =
       let q = binders_parts z (known.fresh z v at) in
-      value_at-bind (bind_all env r.vars m.values) r.from (Name m.mailbox) z
-      ∙ cond-false (nat_eq z r.from) (Some (Name m.mailbox)) (value_at (bind_all env r.vars m.values) z) q.1
+      value_at-bind (bind_all env r.vars m.values) r.from (Mailbox m.mailbox) z
+      ∙ cond-false (nat_eq z r.from) (Some (Mailbox m.mailbox)) (value_at (bind_all env r.vars m.values) z) q.1
       ∙ value_off env r.vars m.values z q.0
       ∙ at
 
   -- ---- another mailbox than the message's own, which isn't in the payload
 
-  pub passes_env : (b z : ℕ) → value_at env z ≡ Some (Name b) → nat_eq b m.mailbox ≡ false → PassesTo (y.envs n z) (body z)
+  pub passes_env : (b z : ℕ) → value_at env z ≡ Some (Mailbox b) → nat_eq b m.mailbox ≡ false → PassesTo (y.envs n z) (body z)
   passes_env b z at off =
-      let apart : nat_eq x z ≡ false = ne_eqb x z (λ q. let named = ap (value_at env) q in let same : Some (Name m.mailbox) ≡ Some (Name b) = sym known.guards ∙ named ∙ at in eqb-false b m.mailbox off cc) in
-      subst (λ h. PassesTo h (body z)) (offered_env z (known.fresh z (Name b) at) apart) (known.clause.passes z)
+      let apart : nat_eq x z ≡ false = ne_eqb x z (λ q. let named = ap (value_at env) q in let same : Some (Mailbox m.mailbox) ≡ Some (Mailbox b) = sym known.guards ∙ named ∙ at in eqb-false b m.mailbox off cc) in
+      subst (λ h. PassesTo h (body z)) (offered_env z (known.fresh z (Mailbox b) at) apart) (known.clause.passes z)
 
-  other_new : (b z : ℕ) → nat_eq b m.mailbox ≡ false → list_any (is_name b) m.values ≡ false → value_at env z ≡ Some (Name b) → HeldCases body b kept_values → PassesTo (y.envs n z) (held body b kept_values)
+  other_new : (b z : ℕ) → nat_eq b m.mailbox ≡ false → list_any (is_mailbox b) m.values ≡ false → value_at env z ≡ Some (Mailbox b) → HeldCases body b kept_values → PassesTo (y.envs n z) (held body b kept_values)
   other_new b z off out at (by_variable w found is) = go (body_cases b w found)
     where
       go : BodyCases b w → PassesTo (y.envs n z) (held body b kept_values)
@@ -180,10 +180,10 @@ module _ (p : Program) (y : Typing) (interfaces : ℕ → ℕ) (n : ℕ) (env : 
           let same : w ≡ z = known.part.different w z b at' at in
           subst (λ h. PassesTo (y.envs n z) h) (sym (is ∙ ap body same)) (passes_env b z at off)
   other_new b z off out at (by_none none is) =
-      let gone = lost z (Name b) (still z (Name b) at) (none z) in
+      let gone = lost z (Mailbox b) (still z (Mailbox b) at) (none z) in
       subst (λ h. PassesTo (y.envs n z) h) (sym is) (passes_drop (y.envs n z) (body z) (passes_env b z at off) (known.unused z gone))
 
-  other_none : (b : ℕ) → nat_eq b m.mailbox ≡ false → list_any (is_name b) m.values ≡ false → ((z : ℕ) → value_at env z ≡ Some (Name b) → ⊥) → HeldCases body b kept_values → held body b kept_values ≡ None
+  other_none : (b : ℕ) → nat_eq b m.mailbox ≡ false → list_any (is_mailbox b) m.values ≡ false → ((z : ℕ) → value_at env z ≡ Some (Mailbox b) → ⊥) → HeldCases body b kept_values → held body b kept_values ≡ None
   other_none b off out none (by_none none' is) = is
   other_none b off out none (by_variable w found is) = go (body_cases b w found)
     where
@@ -192,7 +192,7 @@ module _ (p : Program) (y : Typing) (interfaces : ℕ → ℕ) (n : ℕ) (env : 
       go (is_payload found' o among) = absurd (clash found' out)
       go (is_env at' apart) = absurd (none w at')
 
-  other_passes : (b : ℕ) → nat_eq b m.mailbox ≡ false → list_any (is_name b) m.values ≡ false → HeldCases (y.envs n) b env → PassesTo (held (y.envs n) b env) (held body b kept_values)
+  other_passes : (b : ℕ) → nat_eq b m.mailbox ≡ false → list_any (is_mailbox b) m.values ≡ false → HeldCases (y.envs n) b env → PassesTo (held (y.envs n) b env) (held body b kept_values)
   other_passes b off out (by_variable z at is) =
       subst (λ h. PassesTo h (held body b kept_values)) (sym is) (other_new b z off out at (held_cases body b 0 kept_values kept_ascends))
   other_passes b off out (by_none none is) =
@@ -205,7 +205,7 @@ module _ (p : Program) (y : Typing) (interfaces : ℕ → ℕ) (n : ℕ) (env : 
   beside_payload : (b : ℕ) → HasMailboxPayload known.clause.decl → nat_eq b m.mailbox ≡ false → HeldCases (y.envs n) b env → PassesTo (held (y.envs n) b env) None
   beside_payload b has off (by_none none is) = subst (λ h. PassesTo h None) (sym is) tt
   beside_payload b has off (by_variable z at is) =
-      let out = known.fresh z (Name b) at in
+      let out = known.fresh z (Mailbox b) at in
       let off_body : is_some (body z) ≡ false = false_from_ne_true (is_some (body z)) (λ q. clash (known.clause.own_names has z q) out) in
       let none : body z ≡ None = no_some (body z) off_body in
       subst (λ h. PassesTo h None) (sym is) (subst (λ h. PassesTo (y.envs n z) h) none (passes_env b z at off))
@@ -221,22 +221,22 @@ module _ (p : Program) (y : Typing) (interfaces : ℕ → ℕ) (n : ℕ) (env : 
       go (is_from q own) = absurd (clash (eq-eqb b m.mailbox own) off)
       go (is_payload found' o among) =
           subst (λ h. PassesTo (payload_held b types 0 m.values) h) (sym is) (subst (λ h. PassesTo h (body w)) o (known.clause.passes w))
-      go (is_env at' apart) = absurd (clash (known.clause.own_names has w (known.named w b found)) (known.fresh w (Name b) at'))
+      go (is_env at' apart) = absurd (clash (known.clause.own_names has w (known.named w b found)) (known.fresh w (Mailbox b) at'))
   payload_new b off has place (by_none none is) =
       let var_off : nat_eq place.var r.from ≡ false =
       false_from_ne_true (nat_eq place.var r.from) (λ q. clash (subst (λ v. is_among v r.vars ≡ true) (eqb-true place.var r.from q) place.among) known.from_apart) in
-      let at : value_at all_values place.var ≡ Some (Name b) =
-      value_at-bind (bind_all env r.vars m.values) r.from (Name m.mailbox) place.var
-      ∙ cond-false (nat_eq place.var r.from) (Some (Name m.mailbox)) (value_at (bind_all env r.vars m.values) place.var) var_off
+      let at : value_at all_values place.var ≡ Some (Mailbox b) =
+      value_at-bind (bind_all env r.vars m.values) r.from (Mailbox m.mailbox) place.var
+      ∙ cond-false (nat_eq place.var r.from) (Some (Mailbox m.mailbox)) (value_at (bind_all env r.vars m.values) place.var) var_off
       ∙ place.at in
-      let gone = lost place.var (Name b) at (none place.var) in
+      let gone = lost place.var (Mailbox b) at (none place.var) in
       let passes = subst (λ h. PassesTo h (body place.var)) (offered_off place.var var_off ∙ place.is) (known.clause.passes place.var) in
       subst (λ h. PassesTo (payload_held b types 0 m.values) h) (sym is) (passes_drop (payload_held b types 0 m.values) (body place.var) passes (known.unused place.var gone))
 
   pub has_payload : (b k : ℕ) (vs : List Value) → is_some (payload_held b types k vs) ≡ true → HasMailboxPayload known.clause.decl
   has_payload b k [] h = cc
   has_payload b k (v ∷ vs) h =
-      (elim (is_name b v) as (λ t. is_some (if t then types k else payload_held b types (suc k) vs) ≡ true → HasMailboxPayload known.clause.decl) [
+      (elim (is_mailbox b v) as (λ t. is_some (if t then types k else payload_held b types (suc k) vs) ≡ true → HasMailboxPayload known.clause.decl) [
         | true ↦ λ q. (k, q)
         | false ↦ λ q. has_payload b (suc k) vs q
       ]) h
@@ -265,10 +265,10 @@ module _ (p : Program) (y : Typing) (interfaces : ℕ → ℕ) (n : ℕ) (env : 
       go (is_payload found' o among) = absurd (clash found' own_apart)
       go (is_env at' apart) = absurd (clash (eq-eqb x w (known.part.different x w m.mailbox known.guards at')) apart)
   own_new (by_none none is) =
-      let at : value_at all_values r.from ≡ Some (Name m.mailbox) =
-      value_at-bind (bind_all env r.vars m.values) r.from (Name m.mailbox) r.from
-      ∙ cond-true (nat_eq r.from r.from) (Some (Name m.mailbox)) (value_at (bind_all env r.vars m.values) r.from) (eq-eqb r.from r.from refl) in
-      let gone = lost r.from (Name m.mailbox) at (none r.from) in
+      let at : value_at all_values r.from ≡ Some (Mailbox m.mailbox) =
+      value_at-bind (bind_all env r.vars m.values) r.from (Mailbox m.mailbox) r.from
+      ∙ cond-true (nat_eq r.from r.from) (Some (Mailbox m.mailbox)) (value_at (bind_all env r.vars m.values) r.from) (eq-eqb r.from r.from refl) in
+      let gone = lost r.from (Mailbox m.mailbox) at (none r.from) in
       absurd (left_kept (body r.from) from_passes (known.unused r.from gone))
 
   own_refine : (o : Holding) (s : Word) → PassesTo (Some (mailbox_type known.guard.guarded.interface Receiving (residual e r.tag) Returnable)) o → Refines (Some known.guard.guarded ∷ []) (plus (one m.tag) s) (o ∷ []) s
@@ -299,7 +299,7 @@ module _ (p : Program) (y : Typing) (interfaces : ℕ → ℕ) (n : ℕ) (env : 
       let none = payload_none b types 0 m.values out in
       let dropped = drop_second o h ks s (subst (λ w. PassesTo w None) (sym none) tt) bal in
       refine_balance (o ∷ []) (k ∷ []) ks s s (passes_refine o k s (other_passes b off out (held_cases (y.envs n) b 0 env known.part.keys))) dropped)
-      (cases_Bool (list_any (is_name b) m.values))
+      (cases_Bool (list_any (is_mailbox b) m.values))
 
   pub own_balanced : (ks : List Holding) (s : Word) → Balanced (held (y.envs n) m.mailbox env ∷ payload_held m.mailbox types 0 m.values ∷ ks) (plus (one m.tag) s) → Balanced (held body m.mailbox kept_values ∷ ks) s
   own_balanced ks s bal =

@@ -3,10 +3,10 @@ use Rattle.std.proofs.Common.{◌≡◌, ℕ, ◌<◌, true, false, ◌||◌, no
 use Rattle.std.specs.Prelude.{is_some, slice_get, option_map}
 use Rattle.std.specs.List.{IsDistinct, list_any, flat_map}
 use Rattle.std.proofs.lemmas.Bool.{eqb-true, eqb-false, eq-eqb, ne_eqb, cond-true, cond-false, or_cases, or_left, or_right, and_from, false_from_ne_true}
-use Rattle.pat_model.specs.Values.{Value, Name, Kind, Plain, MailboxOf, Env, value_at, bind_all, ValueFits, ValuesFit}
+use Rattle.pat_model.specs.Values.{Value, Mailbox, Kind, Plain, MailboxOf, Env, value_at, bind_all, ValueFits, ValuesFit}
 use Rattle.pat_model.specs.Programs.{Program, TagDecl, Clause, Core, Guard, core_at, tag_at, kind_of, parts, binders, clause_bodies, option_list, is_among, clause_binders, clause_uses, is_free, keep, KindAt, Node}
 use Rattle.pat_model.specs.WellFormed.{WellFormed, VarsHaveKinds, ClauseKinds}
-use Rattle.pat_model.specs.Configs.{Running, Thread, Message, Config, thread_at, is_name, env_refers, control_refers, thread_refers, message_refers, has_pending}
+use Rattle.pat_model.specs.Configs.{Running, Thread, Message, Config, thread_at, is_mailbox, env_refers, control_refers, thread_refers, message_refers, has_pending}
 use Rattle.pat_model.specs.Steps.{ActReceive, step, redex, received, at_node, thread_of}
 use Rattle.pat_steps.proofs.FreeVars.{free_unfolds}
 use Rattle.pat_steps.proofs.Scopes.{free_fresh, guard_apart}
@@ -60,8 +60,8 @@ module _ (p : Program) (y : Typing) (c : Config) (t k : ℕ) (s : Thread) (d : C
   own : q.mailbox ≡ m.mailbox
   own = sym (eqb-true m.mailbox q.mailbox q.on)
 
-  guards : value_at q.env q.var ≡ Some (Name m.mailbox)
-  guards = q.guards ∙ ap (λ a. Some (Name a)) own
+  guards : value_at q.env q.var ≡ Some (Mailbox m.mailbox)
+  guards = q.guards ∙ ap (λ a. Some (Mailbox a)) own
 
   guard : GuardTyped p y (y.envs node) (y.results node) q.var q.pattern q.free q.receives
   guard = facts.term
@@ -84,10 +84,10 @@ module _ (p : Program) (y : Typing) (c : Config) (t k : ℕ) (s : Thread) (d : C
 
   interface_is : typed.interfaces m.mailbox ≡ gi
   interface_is =
-      let known = part.kinds q.var (Name m.mailbox) guards in
+      let known = part.kinds q.var (Mailbox m.mailbox) guards in
       let e : Some known.0 ≡ Some (MailboxOf gi) = sym (kind_same p y node q.var known.0 guard_term facts known.1) ∙ var_kind in
       let same : known.0 ≡ MailboxOf gi = cc in
-      subst (λ w. ValueFits typed.interfaces (Name m.mailbox) w) same known.2
+      subst (λ w. ValueFits typed.interfaces (Mailbox m.mailbox) w) same known.2
 
   abbrev ki : ℕ
   ki = facts.kinds.0
@@ -138,27 +138,27 @@ module _ (p : Program) (y : Typing) (c : Config) (t k : ℕ) (s : Thread) (d : C
   new_kinds : (z : ℕ) (v : Value) → value_at kept_values z ≡ Some v → (w : Kind) × KindAt p r.body z w × ValueFits typed.interfaces v w
   new_kinds z v at =
       let h = kept p r.body all_values z v at in
-      (elim (nat_eq z r.from) as (λ b. nat_eq z r.from ≡ b → (if b then Some (Name m.mailbox) else value_at (bind_all q.env r.vars m.values) z) ≡ Some v → (w : Kind) × KindAt p r.body z w × ValueFits typed.interfaces v w) [
+      (elim (nat_eq z r.from) as (λ b. nat_eq z r.from ≡ b → (if b then Some (Mailbox m.mailbox) else value_at (bind_all q.env r.vars m.values) z) ≡ Some v → (w : Kind) × KindAt p r.body z w × ValueFits typed.interfaces v w) [
         | true ↦ λ e f.
-            let same : Name m.mailbox ≡ v = cc in (
+            let same : Mailbox m.mailbox ≡ v = cc in (
               MailboxOf facts.kinds.0,
               to_body z (MailboxOf facts.kinds.0) (of_vars z (MailboxOf facts.kinds.0) (ap (slice_get vars) (eqb-true z r.from e) ∙ clause_kinds.from)),
               subst (λ u. ValueFits typed.interfaces u (MailboxOf facts.kinds.0)) same (interface_is ∙ sym ki_is),
             )
         | false ↦ λ e f. cases z v (bound_value typed.interfaces vars q.env r.vars m.values (map kind_of clause.decl.payloads) z v vars_kinds values_fit f)
-      ]) refl (sym (value_at-bind (bind_all q.env r.vars m.values) r.from (Name m.mailbox) z) ∙ h.1)
+      ]) refl (sym (value_at-bind (bind_all q.env r.vars m.values) r.from (Mailbox m.mailbox) z) ∙ h.1)
     where
       cases : (z : ℕ) (v : Value) → BoundValue typed.interfaces vars q.env r.vars z v → (w : Kind) × KindAt p r.body z w × ValueFits typed.interfaces v w
       cases z v (was out at) = let a = part.kinds z v at in (a.0, to_body z a.0 a.1, a.2)
       cases z v (of_kind w at fits) = (w, to_body z w (of_vars z w at), fits)
 
-  named : (z b : ℕ) → value_at kept_values z ≡ Some (Name b) → is_some (y.envs r.body z) ≡ true
+  named : (z b : ℕ) → value_at kept_values z ≡ Some (Mailbox b) → is_some (y.envs r.body z) ≡ true
   named z b at =
-      let h = new_kinds z (Name b) at in
-      let f = kept p r.body all_values z (Name b) at in
+      let h = new_kinds z (Mailbox b) at in
+      let f = kept p r.body all_values z (Mailbox b) at in
       of_kind_named h.0 h.1 h.2 f.0
     where
-      of_kind_named : (w : Kind) → KindAt p r.body z w → ValueFits typed.interfaces (Name b) w → is_free p z r.body ≡ true → is_some (y.envs r.body z) ≡ true
+      of_kind_named : (w : Kind) → KindAt p r.body z w → ValueFits typed.interfaces (Mailbox b) w → is_free p z r.body ≡ true → is_some (y.envs r.body z) ≡ true
       of_kind_named (Plain x) kind fits f = absurd fits
       of_kind_named (MailboxOf i) kind fits f = free_named p y wf typed.typing z i r.body body_core.0 body_core.1 kind f
 
@@ -202,28 +202,28 @@ module _ (p : Program) (y : Typing) (c : Config) (t k : ℕ) (s : Thread) (d : C
   Cases b z = BodyCases p y typed.interfaces node q.env q.var q.pattern q.free q.receives r m known b z
 
   -- where a variable that is kept comes from
-  comes_from : (b z : ℕ) → value_at kept_values z ≡ Some (Name b) → Cases b z
+  comes_from : (b z : ℕ) → value_at kept_values z ≡ Some (Mailbox b) → Cases b z
   comes_from b z at = body_cases p y typed.interfaces node q.env q.var q.pattern q.free q.receives r m known b z at
 
   -- the message's own mailbox isn't in its payload
-  own_apart : list_any (is_name m.mailbox) m.values ≡ false
+  own_apart : list_any (is_mailbox m.mailbox) m.values ≡ false
   own_apart = names_head m.mailbox m.values message_fits.different
 
   all_at_var : (z : ℕ) → nat_eq z r.from ≡ false → value_at all_values z ≡ value_at (bind_all q.env r.vars m.values) z
   all_at_var z off =
-      value_at-bind (bind_all q.env r.vars m.values) r.from (Name m.mailbox) z
-      ∙ cond-false (nat_eq z r.from) (Some (Name m.mailbox)) (value_at (bind_all q.env r.vars m.values) z) off
+      value_at-bind (bind_all q.env r.vars m.values) r.from (Mailbox m.mailbox) z
+      ∙ cond-false (nat_eq z r.from) (Some (Mailbox m.mailbox)) (value_at (bind_all q.env r.vars m.values) z) off
 
-  all_at_from : value_at all_values r.from ≡ Some (Name m.mailbox)
+  all_at_from : value_at all_values r.from ≡ Some (Mailbox m.mailbox)
   all_at_from =
-      value_at-bind (bind_all q.env r.vars m.values) r.from (Name m.mailbox) r.from
-      ∙ cond-true (nat_eq r.from r.from) (Some (Name m.mailbox)) (value_at (bind_all q.env r.vars m.values) r.from) (eq-eqb r.from r.from refl)
+      value_at-bind (bind_all q.env r.vars m.values) r.from (Mailbox m.mailbox) r.from
+      ∙ cond-true (nat_eq r.from r.from) (Some (Mailbox m.mailbox)) (value_at (bind_all q.env r.vars m.values) r.from) (eq-eqb r.from r.from refl)
 
   -- a free variable of the body has a value
   has_value : (z : ℕ) → is_free p z r.body ≡ true → (v : Value) × (value_at all_values z ≡ Some v)
   has_value z f =
       (elim (nat_eq z r.from) as (λ b. nat_eq z r.from ≡ b → (v : Value) × (value_at all_values z ≡ Some v)) [
-        | true ↦ λ e. (Name m.mailbox, ap (value_at all_values) (eqb-true z r.from e) ∙ all_at_from)
+        | true ↦ λ e. (Mailbox m.mailbox, ap (value_at all_values) (eqb-true z r.from e) ∙ all_at_from)
         | false ↦ λ e.
             (elim (is_among z r.vars) as (λ b. is_among z r.vars ≡ b → (v : Value) × (value_at all_values z ≡ Some v)) [
               | true ↦ λ a. let h = bound_some q.env r.vars m.values z lengths a in (h.0, all_at_var z e ∙ h.1)
@@ -243,47 +243,47 @@ module _ (p : Program) (y : Typing) (c : Config) (t k : ℕ) (s : Thread) (d : C
             ]) refl
       ]) refl
 
-  payload_of : (b z : ℕ) → list_any (is_name b) m.values ≡ true → is_among z (clause_binders r) ≡ true → nat_eq b m.mailbox ≡ false → value_at kept_values z ≡ Some (Name b) → (is_among z r.vars ≡ true) × (value_at (bind_all q.env r.vars m.values) z ≡ Some (Name b))
+  payload_of : (b z : ℕ) → list_any (is_mailbox b) m.values ≡ true → is_among z (clause_binders r) ≡ true → nat_eq b m.mailbox ≡ false → value_at kept_values z ≡ Some (Mailbox b) → (is_among z r.vars ≡ true) × (value_at (bind_all q.env r.vars m.values) z ≡ Some (Mailbox b))
   payload_of b z found among off at =
-      let f = kept p r.body all_values z (Name b) at in
+      let f = kept p r.body all_values z (Mailbox b) at in
       let not_from : nat_eq z r.from ≡ false =
       false_from_ne_true (nat_eq z r.from) (λ e.
-      let w : Some (Name b) ≡ Some (Name m.mailbox) = sym f.1 ∙ ap (value_at all_values) (eqb-true z r.from e) ∙ all_at_from in
+      let w : Some (Mailbox b) ≡ Some (Mailbox m.mailbox) = sym f.1 ∙ ap (value_at all_values) (eqb-true z r.from e) ∙ all_at_from in
       eqb-false b m.mailbox off cc) in (
         ⊎_elim (λ l. l) (λ l. absurd (clash (⊎_elim (λ w. w) (λ w. cc) (or_cases (nat_eq z r.from) false l)) not_from)) (any-append (nat_eq z) r.vars (r.from ∷ []) among),
         sym (all_at_var z not_from) ∙ f.1,
       )
 
-  apart_own : (b : ℕ) → list_any (is_name b) m.values ≡ true → nat_eq b m.mailbox ≡ false
-  apart_own b found = false_from_ne_true (nat_eq b m.mailbox) (λ e. clash (subst (λ w. list_any (is_name w) m.values ≡ true) (eqb-true b m.mailbox e) found) own_apart)
+  apart_own : (b : ℕ) → list_any (is_mailbox b) m.values ≡ true → nat_eq b m.mailbox ≡ false
+  apart_own b found = false_from_ne_true (nat_eq b m.mailbox) (λ e. clash (subst (λ w. list_any (is_mailbox w) m.values ≡ true) (eqb-true b m.mailbox e) found) own_apart)
 
   -- beside a payload no variable from before is kept
-  no_env : (b z w : ℕ) (a : ℕ) → list_any (is_name b) m.values ≡ true → is_some (payload_held b (payload_type clause.decl) 0 m.values) ≡ true → value_at kept_values z ≡ Some (Name a) → value_at q.env z ≡ Some (Name a) → ⊥
+  no_env : (b z w : ℕ) (a : ℕ) → list_any (is_mailbox b) m.values ≡ true → is_some (payload_held b (payload_type clause.decl) 0 m.values) ≡ true → value_at kept_values z ≡ Some (Mailbox a) → value_at q.env z ≡ Some (Mailbox a) → ⊥
   unfolding known clause
   no_env b z w a found some at before =
       let has = has_payload p y typed.interfaces node q.env q.var q.pattern q.free q.receives r m known b 0 m.values some in
-      clash (clause.own_names has z (named z a at)) (fresh z (Name a) before)
+      clash (clause.own_names has z (named z a at)) (fresh z (Mailbox a) before)
 
-  payload_some_of : (b : ℕ) → list_any (is_name b) m.values ≡ true → is_some (payload_held b (payload_type clause.decl) 0 m.values) ≡ true
+  payload_some_of : (b : ℕ) → list_any (is_mailbox b) m.values ≡ true → is_some (payload_held b (payload_type clause.decl) 0 m.values) ≡ true
   unfolding known clause
   payload_some_of b found =
       (payload_place (y.envs node) (payload_type clause.decl) q.env b 0 r.vars m.values lengths known.vars_distinct known.have_types found).typed
 
   -- different variables name different mailboxes
-  new_different : (z w b : ℕ) → value_at kept_values z ≡ Some (Name b) → value_at kept_values w ≡ Some (Name b) → z ≡ w
+  new_different : (z w b : ℕ) → value_at kept_values z ≡ Some (Mailbox b) → value_at kept_values w ≡ Some (Mailbox b) → z ≡ w
   new_different z w b az aw = go (comes_from b z az) (comes_from b w aw)
     where
       go : Cases b z → Cases b w → z ≡ w
       go (is_from e o) (is_from e' o') = e ∙ sym e'
-      go (is_from e o) (is_payload found off among) = absurd (clash found (ap (λ v. list_any (is_name v) m.values) o ∙ own_apart))
-      go (is_from e o) (is_env at apart) = absurd (clash (eq-eqb q.var w (part.different q.var w m.mailbox guards (at ∙ ap (λ v. Some (Name v)) o))) apart)
-      go (is_payload found off among) (is_from e o) = absurd (clash found (ap (λ v. list_any (is_name v) m.values) o ∙ own_apart))
+      go (is_from e o) (is_payload found off among) = absurd (clash found (ap (λ v. list_any (is_mailbox v) m.values) o ∙ own_apart))
+      go (is_from e o) (is_env at apart) = absurd (clash (eq-eqb q.var w (part.different q.var w m.mailbox guards (at ∙ ap (λ v. Some (Mailbox v)) o))) apart)
+      go (is_payload found off among) (is_from e o) = absurd (clash found (ap (λ v. list_any (is_mailbox v) m.values) o ∙ own_apart))
       go (is_payload found off among) (is_payload found' off' among') =
           let pz = payload_of b z found among (apart_own b found) az in
           let pw = payload_of b w found among' (apart_own b found) aw in
-          bound_different q.env r.vars m.values z w b lengths (names_tail (Name m.mailbox) m.values message_fits.different) pz.0 pw.0 pz.1 pw.1
+          bound_different q.env r.vars m.values z w b lengths (names_tail (Mailbox m.mailbox) m.values message_fits.different) pz.0 pw.0 pz.1 pw.1
       go (is_payload found off among) (is_env at apart) = absurd (no_env b w w b found (payload_some_of b found) aw at)
-      go (is_env at apart) (is_from e o) = absurd (clash (eq-eqb q.var z (part.different q.var z m.mailbox guards (at ∙ ap (λ v. Some (Name v)) o))) apart)
+      go (is_env at apart) (is_from e o) = absurd (clash (eq-eqb q.var z (part.different q.var z m.mailbox guards (at ∙ ap (λ v. Some (Mailbox v)) o))) apart)
       go (is_env at apart) (is_payload found off among) = absurd (no_env b z z b found (payload_some_of b found) az at)
       go (is_env at apart) (is_env at' apart') = part.different z w b at at'
 
@@ -308,7 +308,7 @@ module _ (p : Program) (y : Typing) (c : Config) (t k : ℕ) (s : Thread) (d : C
   unfolding known clause guard
   new_keeps_from b a h u = go (held_cases body b 0 kept_values new_part.keys)
     where
-      passes_env_usage : (z : ℕ) (o : Holding) → y.envs node z ≡ o → value_at q.env z ≡ Some (Name b) → PassesTo o (Some a) → frames_refer b s.frames ≡ false
+      passes_env_usage : (z : ℕ) (o : Holding) → y.envs node z ≡ o → value_at q.env z ≡ Some (Mailbox b) → PassesTo o (Some a) → frames_refer b s.frames ≡ false
       passes_env_usage z None e at w = absurd w
       passes_env_usage z (Some f) e at w = old (held_cases (y.envs node) b 0 q.env part.keys)
         where
@@ -338,9 +338,9 @@ module _ (p : Program) (y : Typing) (c : Config) (t k : ℕ) (s : Thread) (d : C
       from_case z at_body (is_env at apart) =
           passes_env_usage z (y.envs node z) refl at (subst (λ x. PassesTo (y.envs node z) x) at_body (passes_z at))
         where
-          passes_z : value_at q.env z ≡ Some (Name b) → PassesTo (y.envs node z) (body z)
+          passes_z : value_at q.env z ≡ Some (Mailbox b) → PassesTo (y.envs node z) (body z)
           passes_z at = passes_env p y typed.interfaces node q.env q.var q.pattern q.free q.receives r m known b z at
-              (ne_eqb b m.mailbox (λ o. clash (eq-eqb q.var z (part.different q.var z m.mailbox guards (at ∙ ap (λ v. Some (Name v)) o))) apart))
+              (ne_eqb b m.mailbox (λ o. clash (eq-eqb q.var z (part.different q.var z m.mailbox guards (at ∙ ap (λ v. Some (Mailbox v)) o))) apart))
 
       go : HeldCases body b kept_values → frames_refer b s.frames ≡ false
       go (by_none none is) = let e = sym is ∙ h in cc

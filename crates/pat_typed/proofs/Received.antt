@@ -3,15 +3,15 @@ use Rattle.std.proofs.Common.{◌≡◌, ℕ, suc, Bool, true, false, cond, ◌|
 use Rattle.std.specs.Prelude.{is_some, slice_get, option_and_then}
 use Rattle.std.specs.List.{AllByRecursion, IsDistinct, list_any, flat_map}
 use Rattle.std.proofs.lemmas.Bool.{eqb-true, eq-eqb, cond-true, cond-false, or_parts, or_left, or_right}
-use Rattle.pat_model.specs.Values.{Value, Const, Name, Kind, Plain, MailboxOf, Env, value_at, bind, bind_all, ValueFits, ValuesFit}
+use Rattle.pat_model.specs.Values.{Value, Const, Mailbox, Kind, Plain, MailboxOf, Env, value_at, bind, bind_all, ValueFits, ValuesFit}
 use Rattle.pat_model.specs.Programs.{Sort, BaseSort, MailboxSort, TagDecl, Clause, kind_of, is_among, clause_binders, clause_bodies}
 use Rattle.pat_model.specs.WellFormed.{VarsHaveKinds}
-use Rattle.pat_model.specs.Configs.{is_name}
+use Rattle.pat_model.specs.Configs.{is_mailbox}
 use Rattle.pat_model.specs.Steps.{clause_for}
 use Rattle.pat_typing.specs.Types.{Second, MailboxType, TypeEnv, mailbox_type}
 use Rattle.pat_typing.specs.Typings.{payload_type, payload_sort}
 use Rattle.pat_typing.specs.Holdings.{payload_held}
-use Rattle.pat_typing.specs.Typed.{names}
+use Rattle.pat_typing.specs.Typed.{mailboxes_of}
 use Rattle.pat_typed.proofs.Refers.{name_is}
 use Rattle.pat_typed.proofs.Envs.{value_at-bind}
 use Rattle.pat_typed.proofs.Payloads.{HaveTypes, names_head, names_tail}
@@ -66,9 +66,9 @@ pub have_types : (interfaces : ℕ → ℕ) (types : TypeEnv) (k : ℕ) (vs : Li
 have_types f types k [] ss h p = tt
 have_types f types k (v ∷ vs) [] h p = absurd h
 have_types f types k (Const c ∷ vs) (s ∷ ss) h p = have_types f types (suc k) vs ss h.1 p.1
-have_types f types k (Name a ∷ vs) (s ∷ ss) h p = (name_kind (kind_of s) refl h.0, have_types f types (suc k) vs ss h.1 p.1)
+have_types f types k (Mailbox a ∷ vs) (s ∷ ss) h p = (name_kind (kind_of s) refl h.0, have_types f types (suc k) vs ss h.1 p.1)
   where
-    name_kind : (q : Kind) → kind_of s ≡ q → ValueFits f (Name a) q → is_some (types k) ≡ true
+    name_kind : (q : Kind) → kind_of s ≡ q → ValueFits f (Mailbox a) q → is_some (types k) ≡ true
     name_kind (Plain b) e w = absurd w
     name_kind (MailboxOf i) e w = p.0 i e
 
@@ -83,7 +83,7 @@ payload_second (Some (MailboxSort i q (Some e))) a h =
 pub held_second : (decl : TagDecl) (b k : ℕ) (vs : List Value) (a : MailboxType) → payload_held b (payload_type decl) k vs ≡ Some a → a.usage ≡ Second
 held_second decl b k [] a h = cc
 held_second decl b k (v ∷ vs) a h =
-    (elim (is_name b v) as (λ t. (if t then payload_type decl k else payload_held b (payload_type decl) (suc k) vs) ≡ Some a → a.usage ≡ Second) [
+    (elim (is_mailbox b v) as (λ t. (if t then payload_type decl k else payload_held b (payload_type decl) (suc k) vs) ≡ Some a → a.usage ≡ Second) [
       | true ↦ λ q. payload_second (slice_get decl.payloads k) a q
       | false ↦ λ q. held_second decl b (suc k) vs a q
     ]) h
@@ -123,34 +123,34 @@ bound_some env (x ∷ xs) (v ∷ vs) z len h =
     ]) refl h
 
 -- a mailbox is the value of no variable that is bound, where it isn't among the values
-bound_absent : (env : Env) (xs : List ℕ) (vs : List Value) (z b : ℕ) → length xs ≡ length vs → is_among z xs ≡ true → list_any (is_name b) vs ≡ false → value_at (bind_all env xs vs) z ≡ Some (Name b) → ⊥
+bound_absent : (env : Env) (xs : List ℕ) (vs : List Value) (z b : ℕ) → length xs ≡ length vs → is_among z xs ≡ true → list_any (is_mailbox b) vs ≡ false → value_at (bind_all env xs vs) z ≡ Some (Mailbox b) → ⊥
 bound_absent env [] vs z b len h n at = cc
 bound_absent env (x ∷ xs) [] z b len h n at = omega arith
 bound_absent env (x ∷ xs) (v ∷ vs) z b len h n at =
-    let p = or_parts (is_name b v) (list_any (is_name b) vs) n in
-    (elim (nat_eq z x) as (λ t. nat_eq z x ≡ t → (t || is_among z xs) ≡ true → (if t then Some v else value_at (bind_all env xs vs) z) ≡ Some (Name b) → ⊥) [
-      | true ↦ λ q k e. let same : v ≡ Name b = cc in let f : true ≡ false = sym (name_is b) ∙ ap (is_name b) (sym same) ∙ p.0 in cc
+    let p = or_parts (is_mailbox b v) (list_any (is_mailbox b) vs) n in
+    (elim (nat_eq z x) as (λ t. nat_eq z x ≡ t → (t || is_among z xs) ≡ true → (if t then Some v else value_at (bind_all env xs vs) z) ≡ Some (Mailbox b) → ⊥) [
+      | true ↦ λ q k e. let same : v ≡ Mailbox b = cc in let f : true ≡ false = sym (name_is b) ∙ ap (is_mailbox b) (sym same) ∙ p.0 in cc
       | false ↦ λ q k e. bound_absent env xs vs z b (omega arith) k p.1 e
     ]) refl h (sym (value_at-bind (bind_all env xs vs) x v z) ∙ at)
 
 -- different names for different mailboxes
-pub bound_different : (env : Env) (xs : List ℕ) (vs : List Value) (z w b : ℕ) → length xs ≡ length vs → IsDistinct nat_eq (names vs) → is_among z xs ≡ true → is_among w xs ≡ true → value_at (bind_all env xs vs) z ≡ Some (Name b) → value_at (bind_all env xs vs) w ≡ Some (Name b) → z ≡ w
+pub bound_different : (env : Env) (xs : List ℕ) (vs : List Value) (z w b : ℕ) → length xs ≡ length vs → IsDistinct nat_eq (mailboxes_of vs) → is_among z xs ≡ true → is_among w xs ≡ true → value_at (bind_all env xs vs) z ≡ Some (Mailbox b) → value_at (bind_all env xs vs) w ≡ Some (Mailbox b) → z ≡ w
 bound_different env [] vs z w b len d hz hw az aw = cc
 bound_different env (x ∷ xs) [] z w b len d hz hw az aw = absurd (omega arith)
 bound_different env (x ∷ xs) (v ∷ vs) z w b len d hz hw az aw =
-    (elim (nat_eq z x) as (λ t. nat_eq z x ≡ t → (t || is_among z xs) ≡ true → (if t then Some v else value_at (bind_all env xs vs) z) ≡ Some (Name b) → z ≡ w) [
+    (elim (nat_eq z x) as (λ t. nat_eq z x ≡ t → (t || is_among z xs) ≡ true → (if t then Some v else value_at (bind_all env xs vs) z) ≡ Some (Mailbox b) → z ≡ w) [
       | true ↦ λ q k e.
-          let same : v ≡ Name b = cc in
-          let out = names_head b vs (subst (λ (u : Value). IsDistinct nat_eq (names (u ∷ vs))) same d) in
-          (elim (nat_eq w x) as (λ t. nat_eq w x ≡ t → (t || is_among w xs) ≡ true → (if t then Some v else value_at (bind_all env xs vs) w) ≡ Some (Name b) → z ≡ w) [
+          let same : v ≡ Mailbox b = cc in
+          let out = names_head b vs (subst (λ (u : Value). IsDistinct nat_eq (mailboxes_of (u ∷ vs))) same d) in
+          (elim (nat_eq w x) as (λ t. nat_eq w x ≡ t → (t || is_among w xs) ≡ true → (if t then Some v else value_at (bind_all env xs vs) w) ≡ Some (Mailbox b) → z ≡ w) [
             | true ↦ λ r k' e'. eqb-true z x q ∙ sym (eqb-true w x r)
             | false ↦ λ r k' e'. absurd (bound_absent env xs vs w b (omega arith) k' out e')
           ]) refl hw (sym (value_at-bind (bind_all env xs vs) x v w) ∙ aw)
       | false ↦ λ q k e.
-          (elim (nat_eq w x) as (λ t. nat_eq w x ≡ t → (t || is_among w xs) ≡ true → (if t then Some v else value_at (bind_all env xs vs) w) ≡ Some (Name b) → z ≡ w) [
+          (elim (nat_eq w x) as (λ t. nat_eq w x ≡ t → (t || is_among w xs) ≡ true → (if t then Some v else value_at (bind_all env xs vs) w) ≡ Some (Mailbox b) → z ≡ w) [
             | true ↦ λ r k' e'.
-                let same : v ≡ Name b = cc in
-                let out = names_head b vs (subst (λ (u : Value). IsDistinct nat_eq (names (u ∷ vs))) same d) in
+                let same : v ≡ Mailbox b = cc in
+                let out = names_head b vs (subst (λ (u : Value). IsDistinct nat_eq (mailboxes_of (u ∷ vs))) same d) in
                 absurd (bound_absent env xs vs z b (omega arith) k out e)
             | false ↦ λ r k' e'. bound_different env xs vs z w b (omega arith) (names_tail v vs d) k k' e e'
           ]) refl hw (sym (value_at-bind (bind_all env xs vs) x v w) ∙ aw)

@@ -5,27 +5,27 @@ use Rattle.std.specs.List.{AllByRecursion, list_any}
 use Rattle.std.specs.Map.{lookup}
 use Rattle.pat_words.specs.Words.{Word, no_word, plus}
 use Rattle.pat_words.proofs.WordLaws.{plus_none}
-use Rattle.pat_model.specs.Values.{Value, Const, Name, Env, value_at}
+use Rattle.pat_model.specs.Values.{Value, Const, Mailbox, Env, value_at}
 use Rattle.pat_model.specs.Programs.{Program, tag_at}
-use Rattle.pat_model.specs.Configs.{Control, Running, Returned, Frame, Thread, Message, is_name, env_refers, control_refers, thread_refers, message_refers}
+use Rattle.pat_model.specs.Configs.{Control, Running, Returned, Frame, Thread, Message, is_mailbox, env_refers, control_refers, thread_refers, message_refers}
 use Rattle.pat_typing.specs.Types.{TypeEnv}
 use Rattle.pat_typing.specs.Typings.{Typing}
 use Rattle.pat_typing.specs.Holdings.{Holding, receivers, Choice, held, control_held, frame_held, thread_held, threads_held, payload_held, message_held, as_holding, wanted, declared_types}
 
-pub is_name_same : (a : ℕ) (v : Value) → is_name a v ≡ true → v ≡ Name a
-is_name_same a (Const c) h = cc
-is_name_same a (Name b) h = ap (λ x. Name x) (sym (eqb-true a b h))
+pub is_mailbox_same : (a : ℕ) (v : Value) → is_mailbox a v ≡ true → v ≡ Mailbox a
+is_mailbox_same a (Const c) h = cc
+is_mailbox_same a (Mailbox b) h = ap (λ x. Mailbox x) (sym (eqb-true a b h))
 
-pub name_is : (a : ℕ) → is_name a (Name a) ≡ true
+pub name_is : (a : ℕ) → is_mailbox a (Mailbox a) ≡ true
 name_is a = eq-eqb a a refl
 
 -- a variable's mailbox is referred to
-pub value_refers : (env : Env) (x a : ℕ) → value_at env x ≡ Some (Name a) → env_refers a env ≡ true
+pub value_refers : (env : Env) (x a : ℕ) → value_at env x ≡ Some (Mailbox a) → env_refers a env ≡ true
 value_refers [] x a h = cc
 value_refers (e ∷ env) x a h =
-    (elim (nat_eq x e.0) as (λ v. cond v (Some e.1) (lookup (nat_eq x) env) ≡ Some (Name a) → (is_name a e.1 || env_refers a env) ≡ true) [
-      | true ↦ λ k. let same : e.1 ≡ Name a = cc in or_left (is_name a e.1) (env_refers a env) (ap (is_name a) same ∙ name_is a)
-      | false ↦ λ k. or_right (is_name a e.1) (env_refers a env) (value_refers env x a k)
+    (elim (nat_eq x e.0) as (λ v. cond v (Some e.1) (lookup (nat_eq x) env) ≡ Some (Mailbox a) → (is_mailbox a e.1 || env_refers a env) ≡ true) [
+      | true ↦ λ k. let same : e.1 ≡ Mailbox a = cc in or_left (is_mailbox a e.1) (env_refers a env) (ap (is_mailbox a) same ∙ name_is a)
+      | false ↦ λ k. or_right (is_mailbox a e.1) (env_refers a env) (value_refers env x a k)
     ]) h
 
 -- ---- nothing is held of a mailbox that is not referred to
@@ -52,7 +52,7 @@ none_choice (Some h ∷ hs) w a c = cc
 pub held_none : (g : TypeEnv) (b : ℕ) (env : Env) → env_refers b env ≡ false → held g b env ≡ None
 held_none g b [] h = refl
 held_none g b (e ∷ env) h =
-    let p = or_parts (is_name b e.1) (env_refers b env) h in
+    let p = or_parts (is_mailbox b e.1) (env_refers b env) h in
     ap (λ v. if v then g e.0 else held g b env) p.0 ∙ held_none g b env p.1
 
 pub control_none : (p : Program) (y : Typing) (b : ℕ) (k : Control) (fs : List Frame) → control_refers b k ≡ false → control_held p y b k fs ≡ None
@@ -77,10 +77,10 @@ threads_none p y b (e ∷ es) h =
     let q = or_parts (thread_refers b e.1) (list_any (λ e. thread_refers b e.1) es) h in
     none-append (thread_held p y b e.1) (threads_held p y b es) (thread_none p y b e.1 q.0) (threads_none p y b es q.1)
 
-pub payload_none : (b : ℕ) (types : TypeEnv) (k : ℕ) (vs : List Value) → list_any (is_name b) vs ≡ false → payload_held b types k vs ≡ None
+pub payload_none : (b : ℕ) (types : TypeEnv) (k : ℕ) (vs : List Value) → list_any (is_mailbox b) vs ≡ false → payload_held b types k vs ≡ None
 payload_none b types k [] h = refl
 payload_none b types k (v ∷ vs) h =
-    let p = or_parts (is_name b v) (list_any (is_name b) vs) h in
+    let p = or_parts (is_mailbox b v) (list_any (is_mailbox b) vs) h in
     ap (λ t. if t then types k else payload_held b types (suc k) vs) p.0 ∙ payload_none b types (suc k) vs p.1
 
 pub messages_none : (p : Program) (interfaces : ℕ → ℕ) (b : ℕ) (ms : List Message) → list_any (message_refers b) ms ≡ false → AllNone (map (message_held p interfaces b) ms)

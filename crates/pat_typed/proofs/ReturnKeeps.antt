@@ -2,12 +2,12 @@
 use Rattle.std.proofs.Common.{◌≡◌, ℕ, true, false, nat_eq, if◌then◌else◌, List, [], ◌∷◌, ◌++◌, Option, Some, None, refl, sym, ap, ◌∙◌, subst, map, ⊎_elim}
 use Rattle.std.proofs.lemmas.Bool.{or_cases, or_left, or_right, or_parts, eq-eqb, cases_Bool, cond-true, cond-false, false_from_ne_true}
 use Rattle.pat_words.specs.Words.{Word}
-use Rattle.pat_model.specs.Values.{Value, Name, Kind, Env, AscendsFrom, value_at, ValueFits}
+use Rattle.pat_model.specs.Values.{Value, Mailbox, Kind, Env, AscendsFrom, value_at, ValueFits}
 use Rattle.pat_model.specs.Programs.{Program, Core, Let, core_at, is_free, keep, is_among, option_list, KindAt}
 use Rattle.pat_model.specs.WellFormed.{WellFormed, HasKind}
-use Rattle.pat_model.specs.Configs.{Returned, Frame, Thread, Config, thread_at, with_thread, is_name, env_refers, thread_refers, pending}
+use Rattle.pat_model.specs.Configs.{Returned, Frame, Thread, Config, thread_at, with_thread, is_mailbox, env_refers, thread_refers, pending}
 use Rattle.pat_model.specs.Steps.{thread_of, resume, bind_name}
-use Rattle.pat_typing.specs.Types.{Returnable, TypeOf, BaseType, NameType, kind_of_type, mailbox_type, PassesTo}
+use Rattle.pat_typing.specs.Types.{Returnable, TypeOf, BaseTerm, MailboxTerm, kind_of_type, mailbox_type, PassesTo}
 use Rattle.pat_typing.specs.Typings.{Typing, IsTyping, NamePasses, name_type}
 use Rattle.pat_typing.specs.Holdings.{Holding, held, as_holding, type_at, control_held, frame_held, message_held, wanted, holdings, Balanced}
 use Rattle.pat_typing.specs.Typed.{IsTyped, ThreadFits, PartFits, IsFrameOfLet, KeepsFrom, frames_refer}
@@ -15,7 +15,7 @@ use Rattle.pat_typed.proofs.Balance.{refine_balance, passes_refine, drop_second,
 use Rattle.pat_typed.proofs.Threads.{lookup_all, split_thread}
 use Rattle.pat_typed.proofs.Replace.{replace_keeps}
 use Rattle.pat_typed.proofs.Nodes.{NodeFacts, node_facts, part_core}
-use Rattle.pat_typed.proofs.Refers.{is_name_same, name_is, held_none, value_refers}
+use Rattle.pat_typed.proofs.Refers.{is_mailbox_same, name_is, held_none, value_refers}
 use Rattle.pat_typed.proofs.Envs.{value_at-keep, kept, held_cases, HeldCases, by_variable, by_none, ascends_filter}
 use Rattle.pat_typed.proofs.Named.{part_kind}
 use Rattle.pat_typed.proofs.Unused.{unused_drops}
@@ -82,20 +82,20 @@ module _ (p : Program) (y : Typing) (interfaces : ℕ → ℕ) (v : Value) (f : 
   name_term = facts.term.2
 
   -- the returned mailbox isn't in the frames
-  returned_apart : (a : ℕ) → v ≡ Name a → frames_refer a (f ∷ fs) ≡ false
+  returned_apart : (a : ℕ) → v ≡ Mailbox a → frames_refer a (f ∷ fs) ≡ false
   returned_apart a same = go t refl (subst (λ w. ValueFits interfaces w (kind_of_type t)) same value_fits)
     where
-      go : (w : TypeOf) → t ≡ w → ValueFits interfaces (Name a) (kind_of_type t) → frames_refer a (f ∷ fs) ≡ false
-      go (BaseType c) e h = absurd (subst (λ k. ValueFits interfaces (Name a) (kind_of_type k)) e h)
-      go (NameType i q g) e h =
+      go : (w : TypeOf) → t ≡ w → ValueFits interfaces (Mailbox a) (kind_of_type t) → frames_refer a (f ∷ fs) ≡ false
+      go (BaseTerm c) e h = absurd (subst (λ k. ValueFits interfaces (Mailbox a) (kind_of_type k)) e h)
+      go (MailboxTerm i q g) e h =
           fits.control_keeps a (mailbox_type i q g Returnable)
-          (cond-true (is_name a v) (as_holding (wanted p y (f ∷ fs))) None (ap (is_name a) same ∙ name_is a) ∙ ap as_holding (want ∙ e))
+          (cond-true (is_mailbox a v) (as_holding (wanted p y (f ∷ fs))) None (ap (is_mailbox a) same ∙ name_is a) ∙ ap as_holding (want ∙ e))
           refl
 
-  env_apart : (a : ℕ) → v ≡ Name a → env_refers a f.env ≡ false
+  env_apart : (a : ℕ) → v ≡ Mailbox a → env_refers a f.env ≡ false
   env_apart a same = (or_parts (env_refers a f.env) (frames_refer a fs) (returned_apart a same)).0
 
-  not_in_env : (a z : ℕ) → v ≡ Name a → value_at f.env z ≡ Some (Name a) → ⊥
+  not_in_env : (a z : ℕ) → v ≡ Mailbox a → value_at f.env z ≡ Some (Mailbox a) → ⊥
   not_in_env a z same at = clash (value_refers f.env z a at) (env_apart a same)
 
   -- where a value that is kept comes from
@@ -137,7 +137,7 @@ module _ (p : Program) (y : Typing) (interfaces : ℕ → ℕ) (v : Value) (f : 
       )
   new_kinds z w (of_env free out at) = part.kinds z w at
 
-  new_different : (z u a : ℕ) → From z (Name a) → From u (Name a) → z ≡ u
+  new_different : (z u a : ℕ) → From z (Mailbox a) → From u (Mailbox a) → z ≡ u
   new_different z u a (of_name f1 among1 is1) (of_name f2 among2 is2) = only_name x z u among1 among2
   new_different z u a (of_name f1 among1 is1) (of_env f2 out2 at2) = absurd (not_in_env a u is1 at2)
   new_different z u a (of_env f1 out1 at1) (of_name f2 among2 is2) = absurd (not_in_env a z is2 at1)
@@ -157,7 +157,7 @@ module _ (p : Program) (y : Typing) (interfaces : ℕ → ℕ) (v : Value) (f : 
         ]) refl;
     free = λ z w at. ((kept p f.body all z w at).0, refl);
     kinds = λ z w at. new_kinds z w (comes_from z w at);
-    different = λ z u a at at'. new_different z u a (comes_from z (Name a) at) (comes_from u (Name a) at');
+    different = λ z u a at at'. new_different z u a (comes_from z (Mailbox a) at) (comes_from u (Mailbox a) at');
   }
 
   -- ---- holdings
@@ -169,29 +169,29 @@ module _ (p : Program) (y : Typing) (interfaces : ℕ → ℕ) (v : Value) (f : 
   new a = held (y.envs f.body) a env'
 
   -- another mailbox than the returned one is held as before
-  same_held : (a : ℕ) → is_name a v ≡ false → new a ≡ old a
+  same_held : (a : ℕ) → is_mailbox a v ≡ false → new a ≡ old a
   same_held a off = go (held_cases (y.envs f.body) a 0 f.env part.keys) (held_cases (y.envs f.body) a 0 env' keys')
     where
-      env_of : (z : ℕ) → From z (Name a) → value_at f.env z ≡ Some (Name a)
-      env_of z (of_name free among is) = absurd (clash (ap (is_name a) is ∙ name_is a) off)
+      env_of : (z : ℕ) → From z (Mailbox a) → value_at f.env z ≡ Some (Mailbox a)
+      env_of z (of_name free among is) = absurd (clash (ap (is_mailbox a) is ∙ name_is a) off)
       env_of z (of_env free out at) = at
 
       go : HeldCases (y.envs f.body) a f.env → HeldCases (y.envs f.body) a env' → new a ≡ old a
       go (by_variable z at is) (by_variable z' at' is') =
-          is' ∙ ap (y.envs f.body) (part.different z' z a (env_of z' (comes_from z' (Name a) at')) at) ∙ sym is
-      go (by_variable z at is) (by_none none is') = absurd (none z (put_env z (Name a) at))
-      go (by_none none is) (by_variable z' at' is') = absurd (none z' (env_of z' (comes_from z' (Name a) at')))
+          is' ∙ ap (y.envs f.body) (part.different z' z a (env_of z' (comes_from z' (Mailbox a) at')) at) ∙ sym is
+      go (by_variable z at is) (by_none none is') = absurd (none z (put_env z (Mailbox a) at))
+      go (by_none none is) (by_variable z' at' is') = absurd (none z' (env_of z' (comes_from z' (Mailbox a) at')))
       go (by_none none is) (by_none none' is') = is' ∙ sym is
 
   -- the returned one is held under the let's name, or dropped
-  name_held : (a : ℕ) → v ≡ Name a → PassesTo (as_holding t) (new a)
+  name_held : (a : ℕ) → v ≡ Mailbox a → PassesTo (as_holding t) (new a)
   name_held a same = go (held_cases (y.envs f.body) a 0 env' keys')
     where
-      named : (z : ℕ) → From z (Name a) → name_type x (y.envs b) ≡ y.envs b z
+      named : (z : ℕ) → From z (Mailbox a) → name_type x (y.envs b) ≡ y.envs b z
       named z (of_name free among is) = name_here x z (y.envs b) among
       named z (of_env free out at) = absurd (not_in_env a z same at)
 
-      dropped : (o : Option ℕ) → x ≡ o → ((z : ℕ) → value_at env' z ≡ Some (Name a) → ⊥) → PassesTo (as_holding t) None
+      dropped : (o : Option ℕ) → x ≡ o → ((z : ℕ) → value_at env' z ≡ Some (Mailbox a) → ⊥) → PassesTo (as_holding t) None
       dropped None e none = subst (λ w. PassesTo (as_holding t) (name_type w (y.envs b))) e (name_passes t (name_type x (y.envs b)) name_term)
       dropped (Some z) e none =
           let among : is_among z (option_list x) ≡ true = ap (λ w. is_among z (option_list w)) e ∙ or_left (nat_eq z z) false (eq-eqb z z refl) in
@@ -201,7 +201,7 @@ module _ (p : Program) (y : Typing) (interfaces : ℕ → ℕ) (v : Value) (f : 
 
       go : HeldCases (y.envs f.body) a env' → PassesTo (as_holding t) (new a)
       go (by_variable z at is) =
-          subst (λ w. PassesTo (as_holding t) w) (sym (is ∙ sym (named z (comes_from z (Name a) at)))) (name_passes t (name_type x (y.envs b)) name_term)
+          subst (λ w. PassesTo (as_holding t) w) (sym (is ∙ sym (named z (comes_from z (Mailbox a) at)))) (name_passes t (name_type x (y.envs b)) name_term)
       go (by_none none is) = subst (λ w. PassesTo (as_holding t) w) (sym is) (dropped x refl none)
 
   -- the control's and the frame's holdings give way to the new control's
@@ -210,24 +210,24 @@ module _ (p : Program) (y : Typing) (interfaces : ℕ → ℕ) (v : Value) (f : 
       let ch = control_held p y a (Returned v) (f ∷ fs) in
       ⊎_elim
       (λ on.
-      let same = is_name_same a v on in
+      let same = is_mailbox_same a v on in
       let none : old a ≡ None = held_none (y.envs f.body) a f.env (env_apart a same) in
-      let is : ch ≡ as_holding t = cond-true (is_name a v) (as_holding (wanted p y (f ∷ fs))) None on ∙ ap as_holding want in
+      let is : ch ≡ as_holding t = cond-true (is_mailbox a v) (as_holding (wanted p y (f ∷ fs))) None on ∙ ap as_holding want in
       let dropped = drop_second ch (old a) ks r (subst (λ w. PassesTo w None) (sym none) tt) bal in
       let passes = subst (λ w. PassesTo w (new a)) (sym is) (name_held a same) in
       refine_balance (ch ∷ []) (new a ∷ []) ks r r (passes_refine ch (new a) r passes) dropped)
       (λ off.
-      let none : ch ≡ None = cond-false (is_name a v) (as_holding (wanted p y (f ∷ fs))) None off in
+      let none : ch ≡ None = cond-false (is_mailbox a v) (as_holding (wanted p y (f ∷ fs))) None off in
       let dropped = drop_first ch (old a ∷ ks) r (subst (λ w. PassesTo w None) (sym none) tt) bal in
       subst (λ w. Balanced (w ∷ ks) r) (sym (same_held a off)) dropped)
-      (cases_Bool (is_name a v))
+      (cases_Bool (is_mailbox a v))
 
   new_keeps : KeepsFrom new fs
   new_keeps a k h u =
       ⊎_elim
-      (λ on. (or_parts (env_refers a f.env) (frames_refer a fs) (returned_apart a (is_name_same a v on))).1)
+      (λ on. (or_parts (env_refers a f.env) (frames_refer a fs) (returned_apart a (is_mailbox_same a v on))).1)
       (λ off. fits.frames_keep.0 a k (sym (same_held a off) ∙ h) u)
-      (cases_Bool (is_name a v))
+      (cases_Bool (is_mailbox a v))
 
   pub resumed_fits : ThreadFits p y interfaces after
   resumed_fits = record {
@@ -240,13 +240,13 @@ module _ (p : Program) (y : Typing) (interfaces : ℕ → ℕ) (v : Value) (f : 
   pub resumed_refers : (a : ℕ) → thread_refers a after ≡ true → thread_refers a before ≡ true
   resumed_refers a h =
       ⊎_elim
-      (λ l. let r = refers_value a 0 env' keys' l in go r.0 (comes_from r.0 (Name a) r.1))
-      (λ r. or_right (is_name a v) (frames_refer a (f ∷ fs)) (or_right (env_refers a f.env) (frames_refer a fs) r))
+      (λ l. let r = refers_value a 0 env' keys' l in go r.0 (comes_from r.0 (Mailbox a) r.1))
+      (λ r. or_right (is_mailbox a v) (frames_refer a (f ∷ fs)) (or_right (env_refers a f.env) (frames_refer a fs) r))
       (or_cases (env_refers a env') (frames_refer a fs) h)
     where
-      go : (z : ℕ) → From z (Name a) → thread_refers a before ≡ true
-      go z (of_name free among is) = or_left (is_name a v) (frames_refer a (f ∷ fs)) (ap (is_name a) is ∙ name_is a)
-      go z (of_env free out at) = or_right (is_name a v) (frames_refer a (f ∷ fs)) (or_left (env_refers a f.env) (frames_refer a fs) (value_refers f.env z a at))
+      go : (z : ℕ) → From z (Mailbox a) → thread_refers a before ≡ true
+      go z (of_name free among is) = or_left (is_mailbox a v) (frames_refer a (f ∷ fs)) (ap (is_mailbox a) is ∙ name_is a)
+      go z (of_env free out at) = or_right (is_mailbox a v) (frames_refer a (f ∷ fs)) (or_left (env_refers a f.env) (frames_refer a fs) (value_refers f.env z a at))
 
   pub resumed_balanced : (c : Config) (t : ℕ) → thread_at c t ≡ Some before → (a : ℕ) → Balanced (holdings p y interfaces c a) (pending c a) → Balanced (holdings p y interfaces (with_thread c t after) a) (pending c a)
   resumed_balanced c t there a bal =

@@ -6,15 +6,15 @@ use Rattle.std.proofs.lemmas.Bool.{eq-eqb, eqb-true, eqb-false, ne_eqb, or_left,
 use Rattle.pat_words.specs.Words.{Word, no_word, one, plus}
 use Rattle.pat_words.specs.Patterns.{Pat, Tag, Included}
 use Rattle.pat_words.proofs.WordLaws.{word_ext}
-use Rattle.pat_model.specs.Values.{Value, Name, Kind, MailboxOf, value_at, ValueFits}
+use Rattle.pat_model.specs.Values.{Value, Mailbox, Kind, MailboxOf, value_at, ValueFits}
 use Rattle.pat_model.specs.Programs.{Program, Polarity, Sending, Receiving, TagDecl, Core, Send, tag_at, kind_of, is_among}
 use Rattle.pat_model.specs.WellFormed.{WellFormed, IsPayload, HaveKinds}
-use Rattle.pat_model.specs.Configs.{Running, Thread, Message, Config, thread_at, with_thread, is_name, env_refers, control_refers, thread_refers, message_refers, has_pending, pending, pending_in}
+use Rattle.pat_model.specs.Configs.{Running, Thread, Message, Config, thread_at, with_thread, is_mailbox, env_refers, control_refers, thread_refers, message_refers, has_pending, pending, pending_in}
 use Rattle.pat_model.specs.Steps.{ActSend, step, redex, returned_unit}
 use Rattle.pat_typing.specs.Types.{Usage, Second, MailboxType, mailbox_type, TypeEnv, PassesTo}
 use Rattle.pat_typing.specs.Typings.{Typing, payload_type, args_need, mailbox_args}
 use Rattle.pat_typing.specs.Holdings.{Holding, held, control_held, frame_held, payload_held, declared_types, message_held, holdings, Balanced}
-use Rattle.pat_typing.specs.Typed.{IsTyped, ThreadFits, ControlFits, PartFits, MessageFits, NumbersFit, names}
+use Rattle.pat_typing.specs.Typed.{IsTyped, ThreadFits, ControlFits, PartFits, MessageFits, NumbersFit, mailboxes_of}
 use Rattle.pat_typed.proofs.Balance.{Refines, quiet, refine_balance, passes_refine, balance_front, balance_back, choice_one, choice_of_one, nothing_more}
 use Rattle.pat_typed.proofs.Threads.{lookup_all, lookup_any, set_all, set_any, keys_of-set, split_thread}
 use Rattle.pat_steps.proofs.Inversion.{step_of, SendStep, send_step}
@@ -120,7 +120,7 @@ module _ (p : Program) (y : Typing) (c : Config) (t : ℕ) (s : Thread) (d : Con
   have_kinds = subst (λ (w : TagDecl). HaveKinds facts.fits.function.vars q.args (map kind_of w.payloads)) same_decl facts.kinds.1.4
 
   interface_is : typed.interfaces a ≡ i
-  interface_is = fit q.var (Name a) (MailboxOf facts.kinds.1.0) q.target facts.kinds.1.2 ∙ same_interface
+  interface_is = fit q.var (Mailbox a) (MailboxOf facts.kinds.1.0) q.target facts.kinds.1.2 ∙ same_interface
 
   declared : tag_at p (typed.interfaces a) q.tag ≡ Some decl
   declared = ap (λ j. tag_at p j q.tag) interface_is ∙ facts.term.2
@@ -134,9 +134,9 @@ module _ (p : Program) (y : Typing) (c : Config) (t : ℕ) (s : Thread) (d : Con
   distinct_args : IsDistinct nat_eq (mailbox_args types 0 q.args)
   distinct_args = (distinct_parts q.var (mailbox_args types 0 q.args) facts.term.3).1
 
-  message_distinct : IsDistinct nat_eq (a ∷ names q.values)
+  message_distinct : IsDistinct nat_eq (a ∷ mailboxes_of q.values)
   message_distinct =
-      distinct_join a (names q.values)
+      distinct_join a (mailboxes_of q.values)
       (names_apart typed.interfaces facts.fits.function.vars q.env fit part.different a q.var q.target types 0 q.args facts.term.1.payloads q.values have_kinds (payloads_typed p facts.term.1 payloads) q.payload apart_args)
       (names_distinct typed.interfaces facts.fits.function.vars q.env fit part.different types 0 q.args facts.term.1.payloads q.values have_kinds (payloads_typed p facts.term.1 payloads) q.payload distinct_args)
 
@@ -149,7 +149,7 @@ module _ (p : Program) (y : Typing) (c : Config) (t : ℕ) (s : Thread) (d : Con
   }
 
   -- what the environment names is live
-  env_live : (b x : ℕ) → value_at q.env x ≡ Some (Name b) → is_among b c.live ≡ true
+  env_live : (b x : ℕ) → value_at q.env x ≡ Some (Mailbox b) → is_among b c.live ≡ true
   env_live b x at =
       typed.numbers.threads_live b
       (lookup_any (thread_refers b) c.threads t s there
@@ -160,7 +160,7 @@ module _ (p : Program) (y : Typing) (c : Config) (t : ℕ) (s : Thread) (d : Con
       ⊎_elim
       (λ l. typed.numbers.messages_live b (or_left (list_any (message_refers b) c.messages) (has_pending b c.messages) l))
       (λ r.
-      let on : list_any (is_name b) q.values ≡ true = ⊎_elim (λ w. w) (λ w. cc) (or_cases (list_any (is_name b) q.values) false r) in
+      let on : list_any (is_mailbox b) q.values ≡ true = ⊎_elim (λ w. w) (λ w. cc) (or_cases (list_any (is_mailbox b) q.values) false r) in
       let x = args_refer q.env b q.args q.values q.payload on in env_live b x.0 x.1)
       (any-append (message_refers b) c.messages (message ∷ []) h)
 
@@ -170,7 +170,7 @@ module _ (p : Program) (y : Typing) (c : Config) (t : ℕ) (s : Thread) (d : Con
       (λ l. typed.numbers.messages_live b (or_right (list_any (message_refers b) c.messages) (has_pending b c.messages) l))
       (λ r.
       let on : nat_eq a b ≡ true = ⊎_elim (λ w. w) (λ w. cc) (or_cases (nat_eq a b) false r) in
-      env_live b q.var (q.target ∙ ap (λ z. Some (Name z)) (eqb-true a b on)))
+      env_live b q.var (q.target ∙ ap (λ z. Some (Mailbox z)) (eqb-true a b on)))
       (any-append (λ m. nat_eq m.mailbox b) c.messages (message ∷ []) h)
 
   numbers' : NumbersFit after
@@ -208,7 +208,7 @@ module _ (p : Program) (y : Typing) (c : Config) (t : ℕ) (s : Thread) (d : Con
   other_passes b off =
       args_pass typed.interfaces facts.fits.function.vars q.env fit part.keys part.different (y.envs n) types q.args facts.term.1.payloads q.values have_kinds (payloads_typed p facts.term.1 payloads) q.payload b
       (λ x at.
-      let apart : nat_eq q.var x ≡ false = ne_eqb q.var x (λ e. let w : Some (Name a) ≡ Some (Name b) = sym q.target ∙ ap (value_at q.env) e ∙ at in eqb-false b a off cc) in
+      let apart : nat_eq q.var x ≡ false = ne_eqb q.var x (λ e. let w : Some (Mailbox a) ≡ Some (Mailbox b) = sym q.target ∙ ap (value_at q.env) e ∙ at in eqb-false b a off cc) in
       subst (λ o. PassesTo (y.envs n x) o) (cond-false (nat_eq q.var x) (Some target) (args_need types 0 q.args x) apart) (facts.term.4 x))
 
   abbrev rest : (b : ℕ) → List Holding → List Holding → List Holding

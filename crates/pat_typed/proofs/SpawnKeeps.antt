@@ -7,10 +7,10 @@ use Rattle.pat_words.specs.Words.{Word}
 use Rattle.pat_model.specs.Values.{BaseUnit, Env}
 use Rattle.pat_model.specs.Programs.{Program, Spawn, is_free, keep, is_among, core_at, parts}
 use Rattle.pat_model.specs.WellFormed.{WellFormed}
-use Rattle.pat_model.specs.Configs.{Running, Thread, Config, thread_at, env_refers, control_refers, thread_refers, pending, is_name}
+use Rattle.pat_model.specs.Configs.{Running, Thread, Config, thread_at, env_refers, control_refers, thread_refers, pending, is_mailbox}
 use Rattle.pat_model.specs.Steps.{ActSpawn, step, redex, thread_of, at_node, returned_unit}
 use Rattle.pat_steps.proofs.FreeVars.{free_unfolds}
-use Rattle.pat_typing.specs.Types.{BaseType, TypeFits, PassesTo, returnable}
+use Rattle.pat_typing.specs.Types.{BaseTerm, TypeFits, PassesTo, returnable}
 use Rattle.pat_typing.specs.Typings.{Typing}
 use Rattle.pat_typing.specs.Holdings.{Holding, held, control_held, frame_held, message_held, holdings, Balanced}
 use Rattle.pat_typing.specs.Typed.{IsTyped, ThreadFits, ControlFits, PartFits, NumbersFit}
@@ -62,7 +62,7 @@ module _ (p : Program) (y : Typing) (c : Config) (t : ℕ) (s : Thread) (n m : �
 
   made_fits : ThreadFits p y typed.interfaces made
   made_fits = record {
-    control = (made_part, subst (λ w. TypeFits w (BaseType BaseUnit)) (sym facts.term.0) refl);
+    control = (made_part, subst (λ w. TypeFits w (BaseTerm BaseUnit)) (sym facts.term.0) refl);
     frames = tt;
     control_keeps = λ b a h u. refl;
     frames_keep = tt;
@@ -111,7 +111,7 @@ module _ (p : Program) (y : Typing) (c : Config) (t : ℕ) (s : Thread) (n m : �
   held_returnable : (b : ℕ) (env : Env) → held (λ x. returnable (y.envs n x)) b env ≡ returnable (held (y.envs n) b env)
   held_returnable b [] = refl
   held_returnable b (e ∷ env) =
-      elim (is_name b e.1) as (λ v. (if v then returnable (y.envs n e.0) else held (λ x. returnable (y.envs n x)) b env) ≡ returnable (if v then y.envs n e.0 else held (y.envs n) b env)) [
+      elim (is_mailbox b e.1) as (λ v. (if v then returnable (y.envs n e.0) else held (λ x. returnable (y.envs n x)) b env) ≡ returnable (if v then y.envs n e.0 else held (y.envs n) b env)) [
         | true ↦ refl
         | false ↦ held_returnable b env
       ]

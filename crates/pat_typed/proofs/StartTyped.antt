@@ -6,7 +6,7 @@ use Rattle.pat_model.specs.Programs.{Program, Function, BaseSort, function_at, N
 use Rattle.pat_model.specs.WellFormed.{WellFormed, FunctionFits}
 use Rattle.pat_model.specs.Configs.{Running, start, start_of}
 use Rattle.pat_model.specs.Steps.{thread_of}
-use Rattle.pat_typing.specs.Types.{BaseType, TypeFits}
+use Rattle.pat_typing.specs.Types.{BaseTerm, TypeFits}
 use Rattle.pat_typing.specs.Typings.{Typing, IsTyping, FunctionTyped, result_of}
 use Rattle.pat_typing.specs.Typed.{IsTyped, ThreadFits, PartFits}
 use Rattle.pat_steps.proofs.Lists.{one_distinct}
@@ -30,7 +30,7 @@ main_part p g f fits none interfaces = record {
   different = λ x z a h k. cc;
 }
 
-main_result : (p : Program) (y : Typing) (g : Function) (f : ℕ) → FunctionTyped p y f g → g.result ≡ BaseSort BaseUnit → y.results g.body ≡ BaseType BaseUnit
+main_result : (p : Program) (y : Typing) (g : Function) (f : ℕ) → FunctionTyped p y f g → g.result ≡ BaseSort BaseUnit → y.results g.body ≡ BaseTerm BaseUnit
 main_result p y g f typed unit = typed.result ∙ ap (result_of (y.result_patterns f)) unit
 
 typed_main : (p : Program) (y : Typing) (g : Function) → WellFormed p → IsTyping p y → function_at p p.main ≡ Some g → g.params ≡ [] → g.result ≡ BaseSort BaseUnit → IsTyped p y (start_of (Some g))
@@ -39,7 +39,7 @@ typed_main p y g w i at none unit =
     let fits : ThreadFits p y (λ a. 0) s = record {
       control = (
         main_part p g p.main (w.functions p.main g at) none (λ a. 0),
-        subst (λ t. TypeFits t (BaseType BaseUnit)) (sym (main_result p y g p.main (i.functions p.main g at) unit)) refl,
+        subst (λ t. TypeFits t (BaseTerm BaseUnit)) (sym (main_result p y g p.main (i.functions p.main g at) unit)) refl,
       );
       frames = tt;
       control_keeps = λ b a h u. refl;

@@ -11,7 +11,7 @@ use Rattle.pat_model.specs.Values.{Expr, VarExpr, Literal, OpExpr, occurs}
 use Rattle.pat_model.specs.Programs.{Program, Polarity, Sending, Receiving, TagDecl, Clause, Core, Val, Let, Call, If, Print, New, Send, Spawn, Guard, Node, node_at, core_at, parts, binders, option_list, clause_bodies, clause_binders, is_among, is_free, clause_uses, core_uses}
 use Rattle.pat_model.specs.WellFormed.{WellFormed}
 use Rattle.pat_steps.proofs.FreeVars.{free_unfolds, part_after}
-use Rattle.pat_typing.specs.Types.{Returnable, Second, MailboxType, mailbox_type, TypeOf, BaseType, NameType, TypeEnv, PassesTo, DropsAs, Fits, SplitsTo, EnvSplits, PatternJoins, without, returnable}
+use Rattle.pat_typing.specs.Types.{Returnable, Second, MailboxType, mailbox_type, TypeOf, BaseTerm, MailboxTerm, TypeEnv, PassesTo, DropsAs, Fits, SplitsTo, EnvSplits, PatternJoins, without, returnable}
 use Rattle.pat_typing.specs.Typings.{Typing, IsTyping, CoreTyped, ValueTyped, GuardTyped, clause_env, with_payloads, with_option, args_need, without_name, payload_type, param_type}
 use Rattle.pat_typed.proofs.Nodes.{NodeFacts, node_facts, part_core}
 use Rattle.pat_typed.proofs.Payloads.{payloads_off}
@@ -22,11 +22,11 @@ use Rattle.pat_typed.proofs.Passing.{passes_drop}
 -- ---- each kind of condition
 
 value_drops : (t : TypeOf) (e : Expr) (g : TypeEnv) (z : ℕ) → ValueTyped t e g → occurs z e ≡ false → PassesTo (g z) None
-value_drops (BaseType b) e g z h off = h z
-value_drops (NameType i q f) (VarExpr x) g z h off =
+value_drops (BaseTerm b) e g z h off = h z
+value_drops (MailboxTerm i q f) (VarExpr x) g z h off =
     subst (λ o. PassesTo (g z) o) (cond-false (nat_eq x z) (Some (mailbox_type i q f Returnable)) None (ne_turn z x off)) (h z)
-value_drops (NameType i q f) (Literal c) g z h off = absurd h
-value_drops (NameType i q f) (OpExpr op a b) g z h off = absurd h
+value_drops (MailboxTerm i q f) (Literal c) g z h off = absurd h
+value_drops (MailboxTerm i q f) (OpExpr op a b) g z h off = absurd h
 
 option_off : (x : ℕ) (o : Option MailboxType) (g : TypeEnv) (z : ℕ) → nat_eq x z ≡ false → with_option x o g z ≡ g z
 option_off x None g z h = refl

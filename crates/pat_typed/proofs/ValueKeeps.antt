@@ -2,19 +2,19 @@
 use Rattle.std.proofs.Common.{◌≡◌, ℕ, Bool, true, false, cond, nat_eq, if◌then◌else◌, List, [], ◌∷◌, Some, None, refl, sym, ap, ◌∙◌, subst, ⊎_elim}
 use Rattle.std.specs.Map.{lookup, set_value}
 use Rattle.std.proofs.lemmas.Bool.{eq-eqb, ne_eqb, cases_Bool, cond-true, cond-false, false_from_ne_true}
-use Rattle.pat_model.specs.Values.{Value, Name, Expr, VarExpr, Literal, OpExpr, Env, value_at, eval, ValueFits}
+use Rattle.pat_model.specs.Values.{Value, Mailbox, Expr, VarExpr, Literal, OpExpr, Env, value_at, eval, ValueFits}
 use Rattle.pat_model.specs.Programs.{Program, Val}
 use Rattle.pat_model.specs.WellFormed.{WellFormed}
-use Rattle.pat_model.specs.Configs.{Running, Returned, Frame, Thread, Config, thread_at, with_thread, is_name, control_refers}
+use Rattle.pat_model.specs.Configs.{Running, Returned, Frame, Thread, Config, thread_at, with_thread, is_mailbox, control_refers}
 use Rattle.pat_model.specs.Steps.{thread_of, resume}
-use Rattle.pat_typing.specs.Types.{Returnable, TypeOf, BaseType, NameType, kind_of_type, mailbox_type, TypeEnv, PassesTo}
+use Rattle.pat_typing.specs.Types.{Returnable, TypeOf, BaseTerm, MailboxTerm, kind_of_type, mailbox_type, TypeEnv, PassesTo}
 use Rattle.pat_typing.specs.Typings.{Typing, ValueTyped}
 use Rattle.pat_typing.specs.Holdings.{Holding, held, as_holding, control_held, wanted}
 use Rattle.pat_typing.specs.Typed.{IsTyped, ThreadFits, ControlFits}
 use Rattle.pat_typed.proofs.Threads.{lookup_all}
 use Rattle.pat_steps.proofs.Inversion.{StandsAt}
 use Rattle.pat_typed.proofs.Nodes.{NodeFacts, node_facts, fits_kind}
-use Rattle.pat_typed.proofs.Refers.{is_name_same, name_is, value_refers}
+use Rattle.pat_typed.proofs.Refers.{is_mailbox_same, name_is, value_refers}
 use Rattle.pat_typed.proofs.Envs.{held_cases, HeldCases, by_variable, by_none}
 use Rattle.pat_typed.proofs.Named.{env_fits}
 use Rattle.pat_typed.proofs.Moves.{Move, move_keeps}
@@ -25,30 +25,30 @@ use Rattle.pat_typed.proofs.Passing.{passes_twice, type_passes}
 -- ---- a value in place of its expression
 
 -- what is held of a mailbox passes to the type of the expression
-value_held : (t : TypeOf) (e : Expr) (g : TypeEnv) (env : Env) (v : Value) (b : ℕ) → ValueTyped t e g → eval env e ≡ Some v → ((x z : ℕ) → value_at env x ≡ Some (Name b) → value_at env z ≡ Some (Name b) → x ≡ z) → HeldCases g b env → PassesTo (held g b env) (if is_name b v then as_holding t else None)
+value_held : (t : TypeOf) (e : Expr) (g : TypeEnv) (env : Env) (v : Value) (b : ℕ) → ValueTyped t e g → eval env e ≡ Some v → ((x z : ℕ) → value_at env x ≡ Some (Mailbox b) → value_at env z ≡ Some (Mailbox b) → x ≡ z) → HeldCases g b env → PassesTo (held g b env) (if is_mailbox b v then as_holding t else None)
 value_held t e g env v b h at apart (by_none none is) =
-    let off : is_name b v ≡ false =
-    false_from_ne_true (is_name b v) (λ on. let n = eval_name env e b (at ∙ ap (λ u. Some u) (is_name_same b v on)) in none n.0 n.2) in
-    subst (λ w. PassesTo w (if is_name b v then as_holding t else None)) (sym is)
-    (subst (λ w. PassesTo None w) (sym (cond-false (is_name b v) (as_holding t) None off)) tt)
-value_held (BaseType c) e g env v b h at apart (by_variable z zat is) =
-    subst (λ w. PassesTo w (if is_name b v then None else None)) (sym is)
-    (elim (is_name b v) as (λ s. PassesTo (g z) (if s then None else None)) [ true ↦ h z | false ↦ h z ])
-value_held (NameType i q f) (VarExpr x) g env v b h at apart (by_variable z zat is) =
+    let off : is_mailbox b v ≡ false =
+    false_from_ne_true (is_mailbox b v) (λ on. let n = eval_name env e b (at ∙ ap (λ u. Some u) (is_mailbox_same b v on)) in none n.0 n.2) in
+    subst (λ w. PassesTo w (if is_mailbox b v then as_holding t else None)) (sym is)
+    (subst (λ w. PassesTo None w) (sym (cond-false (is_mailbox b v) (as_holding t) None off)) tt)
+value_held (BaseTerm c) e g env v b h at apart (by_variable z zat is) =
+    subst (λ w. PassesTo w (if is_mailbox b v then None else None)) (sym is)
+    (elim (is_mailbox b v) as (λ s. PassesTo (g z) (if s then None else None)) [ true ↦ h z | false ↦ h z ])
+value_held (MailboxTerm i q f) (VarExpr x) g env v b h at apart (by_variable z zat is) =
     let k = mailbox_type i q f Returnable in
-    subst (λ w. PassesTo w (if is_name b v then Some k else None)) (sym is)
+    subst (λ w. PassesTo w (if is_mailbox b v then Some k else None)) (sym is)
     (⊎_elim
     (λ on.
-    let same : x ≡ z = apart x z (at ∙ ap (λ u. Some u) (is_name_same b v on)) zat in
-    subst (λ w. PassesTo (g z) w) (sym (cond-true (is_name b v) (Some k) None on))
+    let same : x ≡ z = apart x z (at ∙ ap (λ u. Some u) (is_mailbox_same b v on)) zat in
+    subst (λ w. PassesTo (g z) w) (sym (cond-true (is_mailbox b v) (Some k) None on))
     (subst (λ w. PassesTo (g z) w) (cond-true (nat_eq x z) (Some k) None (eq-eqb x z same)) (h z)))
     (λ off.
-    let apart' : nat_eq x z ≡ false = ne_eqb x z (λ same. let sees : Some v ≡ Some (Name b) = sym at ∙ ap (value_at env) same ∙ zat in let is_b : v ≡ Name b = cc in let bad : true ≡ false = sym (name_is b) ∙ ap (is_name b) (sym is_b) ∙ off in cc) in
-    subst (λ w. PassesTo (g z) w) (sym (cond-false (is_name b v) (Some k) None off))
+    let apart' : nat_eq x z ≡ false = ne_eqb x z (λ same. let sees : Some v ≡ Some (Mailbox b) = sym at ∙ ap (value_at env) same ∙ zat in let is_b : v ≡ Mailbox b = cc in let bad : true ≡ false = sym (name_is b) ∙ ap (is_mailbox b) (sym is_b) ∙ off in cc) in
+    subst (λ w. PassesTo (g z) w) (sym (cond-false (is_mailbox b v) (Some k) None off))
     (subst (λ w. PassesTo (g z) w) (cond-false (nat_eq x z) (Some k) None apart') (h z)))
-    (cases_Bool (is_name b v)))
-value_held (NameType i q f) (Literal c) g env v b h at apart (by_variable z zat is) = absurd h
-value_held (NameType i q f) (OpExpr op l r) g env v b h at apart (by_variable z zat is) = absurd h
+    (cases_Bool (is_mailbox b v)))
+value_held (MailboxTerm i q f) (Literal c) g env v b h at apart (by_variable z zat is) = absurd h
+value_held (MailboxTerm i q f) (OpExpr op l r) g env v b h at apart (by_variable z zat is) = absurd h
 
 -- if a test passes, one type passes to the other
 if_passes : (t : Bool) (h k : Holding) → PassesTo h k → PassesTo (if t then h else None) (if t then k else None)
@@ -64,12 +64,12 @@ value_move p y f s n e env v facts fits at value =
     let fit = eval_fits f facts.fits.function.vars env (env_fits p y f n (Val e) env facts part) e (kind_of_type t) v facts.kinds value in
     record {
       fits = subst (λ k. ValueFits f v k) (fits_kind t w control.1) fit;
-      passes = λ b. subst (λ k. PassesTo (control_held p y b k s.frames) (if is_name b v then as_holding w else None)) (sym at)
-          (passes_twice (held (y.envs n) b env) (if is_name b v then as_holding t else None) (if is_name b v then as_holding w else None)
+      passes = λ b. subst (λ k. PassesTo (control_held p y b k s.frames) (if is_mailbox b v then as_holding w else None)) (sym at)
+          (passes_twice (held (y.envs n) b env) (if is_mailbox b v then as_holding t else None) (if is_mailbox b v then as_holding w else None)
           (value_held t e (y.envs n) env v b facts.term value (λ x z hx hz. part.different x z b hx hz) (held_cases (y.envs n) b 0 env part.keys))
-          (if_passes (is_name b v) (as_holding t) (as_holding w) (type_passes t w control.1)));
+          (if_passes (is_mailbox b v) (as_holding t) (as_holding w) (type_passes t w control.1)));
       refers = λ a on.
-          let x = eval_name env e a (value ∙ ap (λ u. Some u) (is_name_same a v on)) in
+          let x = eval_name env e a (value ∙ ap (λ u. Some u) (is_mailbox_same a v on)) in
           ap (control_refers a) at ∙ value_refers env x.0 a x.2;
     }
 
