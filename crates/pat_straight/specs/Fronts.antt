@@ -28,6 +28,7 @@ LastAt ts l rest = (front : List Token) × IsLast front l × (ts ≡ front ++ re
 abbrev pub TermAt : List Token → List Binding → Last → List Token → Type 0
 TermAt ts bs l rest = (front : List Token) × IsTerm front bs l × (ts ≡ front ++ rest)
 
+-- the mark of an operator
 abbrev pub operator_token : Operator → Token
 operator_token Sum = MarkToken Plus
 operator_token Difference = MarkToken Minus

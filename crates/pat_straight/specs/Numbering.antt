@@ -13,6 +13,7 @@ abbrev pub variable_of : Scope → List ℕ → Option (ℕ × Base)
 variable_of [] x = None
 variable_of (v ∷ scope) x = if bytes_eq v.0 x then Some (length scope, v.1) else variable_of scope x
 
+-- the operator of the program
 abbrev pub op_of : Operator → Op
 op_of Sum = Add
 op_of Difference = Sub
@@ -32,6 +33,7 @@ unit_only (e, BaseBool) = None
 unit_only (e, BaseInt) = None
 unit_only (e, BaseText) = None
 
+-- an operator between two integers, if both are there
 abbrev pub joined : Operator → Option Expr → Option Expr → Option (Expr × Base)
 joined operator (Some e) (Some f) = Some (OpExpr (op_of operator) e f, BaseInt)
 joined operator _ _ = None
@@ -65,6 +67,7 @@ with_let n x bound body = record {
   vars = Plain bound.1 ∷ body.vars;
 }
 
+-- the body that is a last term alone
 abbrev pub last_body : Node → Body
 last_body d = record { nodes = d ∷ []; vars = [] }
 
@@ -74,9 +77,11 @@ numbered_body n scope [] last = option_map last_body (numbered_last scope last)
 numbered_body n scope (Bind x e ∷ bindings) last =
     option_and_then (λ bound. option_map (with_let n (length scope) bound) (numbered_body (n + 2) ((x, bound.1) ∷ scope) bindings last)) (numbered_expr scope e)
 
+-- the one function, with these variables
 abbrev pub main_of : List Kind → Function
 main_of vars = record { name = codes "main"; params = []; result = BaseSort BaseUnit; vars = vars; body = 0 }
 
+-- the program with this body
 abbrev pub program_of : Body → Program
 program_of body = record { interfaces = []; functions = main_of body.vars ∷ []; main = 0; nodes = body.nodes }
 

@@ -43,6 +43,7 @@ pub data Token : Type 0 where
   WordToken : (word : Reserved) → Token
   MarkToken : (mark : Mark) → Token
 
+-- the letters of a reserved word
 abbrev pub word_spelling : Reserved → List ℕ
 word_spelling InterfaceWord = codes "interface"
 word_spelling DefWord = codes "def"
@@ -81,9 +82,11 @@ mark_spelling Star = 42
 abbrev pub is_blank : ℕ → Bool
 is_blank b = b == 32 || b == 9 || b == 13 || b == 10
 
+-- an ASCII letter
 abbrev pub is_letter : ℕ → Bool
 is_letter b = (nat_le 65 b && nat_le b 90) || (nat_le 97 b && nat_le b 122)
 
+-- an ASCII digit
 abbrev pub is_digit : ℕ → Bool
 is_digit b = nat_le 48 b && nat_le b 57
 

@@ -8,6 +8,7 @@ use Rattle.pat_straight_lexer.specs.declared.token.Mark.TheVariants.{RoundOpen a
 use Rattle.pat_straight_lexer.specs.declared.token.Token.{Token as CodeToken}
 use Rattle.pat_straight_lexer.specs.declared.token.Token.TheVariants.{Name as CodeName, Integer as CodeInteger, Word as CodeWord, Mark as CodeMarkToken}
 
+-- a reserved word
 abbrev pub word_view : CodeReserved → Reserved
 word_view CodeInterface = InterfaceWord
 word_view CodeDef = DefWord
@@ -30,6 +31,7 @@ word_view CodeBool = BoolWord
 word_view CodeInt = IntWord
 word_view CodeString = StringWord
 
+-- a mark
 abbrev pub mark_view : CodeMark → Mark
 mark_view CodeRoundOpen = RoundOpen
 mark_view CodeRoundClose = RoundClose
@@ -41,11 +43,13 @@ mark_view CodePlus = Plus
 mark_view CodeMinus = Minus
 mark_view CodeStar = Star
 
+-- a token
 abbrev pub token_view : CodeToken → Token
 token_view (CodeName x) = NameToken x
 token_view (CodeInteger n) = IntegerToken n
 token_view (CodeWord w) = WordToken (word_view w)
 token_view (CodeMarkToken m) = MarkToken (mark_view m)
 
+-- a list of tokens
 abbrev pub tokens_view : List CodeToken → List Token
 tokens_view ts = map token_view ts

@@ -3,6 +3,8 @@
 
 mod numbering;
 mod reading;
+#[cfg(test)]
+mod tests;
 
 pub use pat_straight_lexer::ReadError;
 pub use reading::read_program;

@@ -74,7 +74,7 @@ fn push_let(
     ensures ok { OnOk result (map node_view nodes.new ≡ map node_view nodes.old ++ node_of (Let (Some variable) (2 * variable + 1) (2 * variable + 2)) BaseUnit ∷ node_of (Val (expr_view bound)) (base_view base) ∷ []) }
 {
     let variable = variable as u32;
-    nodes.push(Node {
+    let binder = Node {
         core: Core::Let {
             var: Some(variable),
             bound: 2 * variable + 1,
@@ -82,12 +82,14 @@ fn push_let(
         },
         kind: Kind::Unit,
         function: 0,
-    })?;
-    nodes.push(Node {
+    };
+    let value = Node {
         core: Core::Value(bound),
         kind: kind_of(base),
         function: 0,
-    })?;
+    };
+    nodes.push(binder)?;
+    nodes.push(value)?;
     Ok(())
 }
 
