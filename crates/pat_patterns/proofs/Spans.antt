@@ -2,12 +2,12 @@
 use Rattle.std.proofs.Common.{◌≡◌, ℕ, zero, suc, ◌≤◌, List, [], ◌∷◌, ◌++◌, length, drop, inl, inr, ⊎_elim, refl, sym, ap, ◌∙◌, subst, arith}
 use Rattle.std.proofs.Math.ListN.{drop_of_length-le}
 use Rattle.pat_words.specs.Words.{Word, no_word, plus, LiesIn}
-use Rattle.pat_words.specs.Patterns.{Language, Times, Pat, Sum, Prod, Star, In}
+use Rattle.pat_words.specs.Patterns.{Language, Times, Pat, Star, In}
 use Rattle.pat_words.proofs.WordLaws.{count_eq, plus_assoc, none_plus, plus_swap}
 use Rattle.pat_words.proofs.FormLaws.{times_mono}
 use Rattle.pat_bags.specs.declared.Bag.{Bag}
 use Rattle.pat_bags.specs.Views.{word_of}
-use Rattle.pat_patterns.specs.Listings.{HasWord, Only, SumOf, Within, multiple, Reached, FiniteSum, ListsWords, PutsWords, JoinsTwo, JoinsOne, EitherOf}
+use Rattle.pat_patterns.specs.Listings.{HasWord, Only, Within, multiple, Reached, FiniteSum, ListsWords, PutsWords, JoinsOne}
 use Rattle.pat_patterns.proofs.Rests.{Same}
 
 -- w is a word of the set and a multiple of each bag's word

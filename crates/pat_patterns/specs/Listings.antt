@@ -1,7 +1,7 @@
 -- Lists of bags, seen as sets of words.
 use Rattle.std.specs.Prelude.{◌≡◌, ℕ, zero, suc, List, [], ◌∷◌, ◌⊎◌, ◌↔◌}
 use Rattle.pat_words.specs.Words.{Word, no_word, plus, LiesIn}
-use Rattle.pat_words.specs.Patterns.{Pat, Zero, One, Tag, Sum, Prod, Star, Var, Language, Times, In}
+use Rattle.pat_words.specs.Patterns.{Pat, Sum, Prod, Star, Language, Times, In}
 use Rattle.pat_bags.specs.declared.Bag.{Bag}
 use Rattle.pat_bags.specs.Views.{word_of}
 

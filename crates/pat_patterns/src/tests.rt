@@ -133,73 +133,130 @@ fn reads(rt: &impl Abort, alloc: Global, text: &str, facts: &Facts) -> Result<()
     Ok(())
 }
 
+/// A pattern, a tag, and what is left.
+const RESIDUALS: &[(&str, u8, &str)] = &[
+    ("mn*.", 0, "n*"),
+    ("mn.*", 0, "nmn.*."),
+    ("mn.", 1, "m"),
+    ("mm.", 0, "m"),
+    ("m*", 0, "m*"),
+    ("mn+", 1, "1"),
+    ("m1+n.", 0, "n"),
+    ("n", 0, "0"),
+    ("$", 0, "0"),
+];
+
+/// A pattern, how often m and n are in a word, and whether it is a word of the pattern.
+const MEMBERS: &[(&str, u32, u32, bool)] = &[
+    ("mn.*", 2, 1, false),
+    ("mn.*", 2, 2, true),
+    ("mn.*", 0, 0, true),
+    ("m1+n.", 0, 1, true),
+    ("m1+n.", 2, 1, false),
+    ("mmm..*", 6, 0, true),
+    ("mmm..*", 5, 0, false),
+    ("mm.mmm..+*", 5, 0, true),
+    ("m*n*.", 3, 4, true),
+    ("0*", 0, 0, true),
+    ("$", 0, 0, false),
+];
+
+/// A pattern, the bits of the received tags, whether free holds, and whether they cover it.
+const COVERS: &[(&str, u32, bool, bool)] = &[
+    ("m1+", 1, false, false),
+    ("m1+", 1, true, true),
+    ("m1+", 2, true, false),
+    ("mn.", 2, false, true),
+    ("mn+", 1, true, false),
+    ("m*", 1, true, true),
+    ("0m.", 0, false, true),
+];
+
+/// A pattern, a value for its variable, and what that gives.
+const VALUES: &[(&str, &str, &str)] = &[
+    ("m$.", "1", "m"),
+    ("m$.", "0", "0"),
+    ("$*", "0", "1"),
+    ("$m+", "m", "m"),
+    ("$n.", "mn+", "mn+n."),
+];
+
+/// A pattern, and what is said of it.
+const FACTS: &[(&str, Facts)] = &[
+    (
+        "m1+",
+        Facts {
+            empty: true,
+            some: true,
+            flat: true,
+            most: 1,
+            nodes: 3,
+            deep: 2,
+        },
+    ),
+    (
+        "mn.0.",
+        Facts {
+            empty: false,
+            some: false,
+            flat: true,
+            most: 2,
+            nodes: 5,
+            deep: 3,
+        },
+    ),
+    (
+        "mn+*m.n.",
+        Facts {
+            empty: false,
+            some: true,
+            flat: true,
+            most: 2,
+            nodes: 8,
+            deep: 5,
+        },
+    ),
+    (
+        "mn.*",
+        Facts {
+            empty: true,
+            some: true,
+            flat: false,
+            most: 0,
+            nodes: 4,
+            deep: 3,
+        },
+    ),
+    (
+        "mm.n+",
+        Facts {
+            empty: false,
+            some: true,
+            flat: true,
+            most: 2,
+            nodes: 5,
+            deep: 3,
+        },
+    ),
+];
+
 #[test]
 fn answers_the_worked_rows(rt: HostRuntime) -> Result<(), Fail> {
     let alloc = rt.alloc();
-    for (text, tag, rest) in [
-        ("mn*.", 0, "n*"),
-        ("mn.*", 0, "nmn.*."),
-        ("mn.", 1, "m"),
-        ("mm.", 0, "m"),
-        ("m*", 0, "m*"),
-        ("mn+", 1, "1"),
-        ("m1+n.", 0, "n"),
-        ("n", 0, "0"),
-        ("$", 0, "0"),
-    ] {
-        leaves(&rt, alloc, text, tag, rest)?;
+    for (text, tag, rest) in RESIDUALS {
+        leaves(&rt, alloc, text, *tag, rest)?;
     }
-    for (text, m, n, want) in [
-        ("mn.*", 2, 1, false),
-        ("mn.*", 2, 2, true),
-        ("mn.*", 0, 0, true),
-        ("m1+n.", 0, 1, true),
-        ("m1+n.", 2, 1, false),
-        ("mmm..*", 6, 0, true),
-        ("mmm..*", 5, 0, false),
-        ("mm.mmm..+*", 5, 0, true),
-        ("m*n*.", 3, 4, true),
-        ("0*", 0, 0, true),
-        ("$", 0, 0, false),
-    ] {
-        has(&rt, alloc, text, &bag(m, n), want)?;
+    for (text, m, n, want) in MEMBERS {
+        has(&rt, alloc, text, &bag(*m, *n), *want)?;
     }
-    for (text, received, free, want) in [
-        ("m1+", 1, false, false),
-        ("m1+", 1, true, true),
-        ("m1+", 2, true, false),
-        ("mn.", 2, false, true),
-        ("mn+", 1, true, false),
-        ("m*", 1, true, true),
-        ("0m.", 0, false, true),
-    ] {
-        covered(&rt, alloc, text, received, free, want)?;
+    for (text, received, free, want) in COVERS {
+        covered(&rt, alloc, text, *received, *free, *want)?;
     }
-    for (text, value, want) in [
-        ("m$.", "1", "m"),
-        ("m$.", "0", "0"),
-        ("$*", "0", "1"),
-        ("$m+", "m", "m"),
-        ("$n.", "mn+", "mn+n."),
-    ] {
+    for (text, value, want) in VALUES {
         becomes(&rt, alloc, text, value, want)?;
     }
-    for (text, empty, some, flat, most, nodes, deep) in [
-        ("m1+", true, true, true, 1, 3, 2),
-        ("mn.0.", false, false, true, 2, 5, 3),
-        ("mn+*m.n.", false, true, true, 2, 8, 5),
-        ("mn.*", true, true, false, 0, 4, 3),
-        ("mm.n+", false, true, true, 2, 5, 3),
-    ] {
-        let facts = Facts {
-            empty,
-            some,
-            flat,
-            most,
-            nodes,
-            deep,
-        };
-        reads(&rt, alloc, text, &facts)?;
+    for (text, facts) in FACTS {
+        reads(&rt, alloc, text, facts)?;
     }
     Ok(())
 }

@@ -1,4 +1,4 @@
-use Rattle.std.proofs.Common.{◌≡◌, ap, sym, subst, ◌∙◌, OnOk}
+use Rattle.std.proofs.Common.{ap, sym, subst, ◌∙◌, OnOk}
 use Rattle.std.proofs.lemmas.Result.{on_ok_weaker}
 use Rattle.pat_words.specs.Patterns.{Star}
 use Rattle.pat_bags.specs.Views.{word_of}
