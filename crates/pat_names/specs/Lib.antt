@@ -1,0 +1,6 @@
+pub mod Scopes
+pub mod Heads
+pub mod Findings
+pub mod Numbering
+pub mod Places
+pub mod Claims

@@ -1,0 +1,33 @@
+// Laws of names and kinds, and examples of each refusal. No code of the product.
+#![tactic(auto)]
+
+ghost use Rattle.std.specs.Prelude.{◌≡◌, [], ◌++◌};
+ghost use Rattle.pat_grammar.specs.Trees.{span};
+ghost use Rattle.pat_names.specs.Findings.{findings, found, UnknownName, Twice, WrongArity, WrongKind, ForeignTag, EmptySending, TooManyTags};
+ghost use Rattle.pat_names.specs.Numbering.{numbered};
+ghost use Rattle.pat_names_laws.specs.Examples as example;
+
+/// Each rule is found where it is broken: in a declaration's head, at `main`, or in a body.
+pub fn refusals()
+    ensures unknown_function { findings 24 example.unknown_function ≡ found UnknownName (span 19 20) }
+    ensures no_main { findings 24 example.no_main ≡ found UnknownName (span 24 24) }
+    ensures own_bound { findings 36 example.own_bound ≡ found UnknownName (span 27 28) }
+    ensures twice { findings 48 example.same_tag ≡ found Twice (span 19 20) }
+    ensures twice_clause { findings 96 example.two_frees ≡ found Twice (span 82 86) }
+    ensures arity { findings 29 example.main_with_parameter ≡ found WrongArity (span 4 8) }
+    ensures last_kind { findings 35 example.wrong_last ≡ found WrongKind (span 32 33) }
+    ensures units_compared { findings 36 example.units_compared ≡ found WrongKind (span 25 27) }
+    ensures second_branch { findings 60 example.second_branch ≡ found WrongKind (span 49 50) }
+    ensures foreign { findings 86 example.foreign_tag ≡ found ForeignTag (span 81 82) }
+    ensures empty { findings 46 example.empty_sending ≡ found EmptySending (span 16 19) }
+    ensures too_many { findings 260 example.many_tags ≡ found TooManyTags (span 229 232) }
+    ensures heads_first { findings 69 example.body_and_head ≡ found UnknownName (span 29 30) ++ found WrongKind (span 15 17) }
+{}
+
+/// Two trees without a finding, and their programs: a call of a function that is declared behind its caller, and a guard.
+pub fn numberings()
+    ensures forward { findings 65 example.forward ≡ [] }
+    ensures forward_program { numbered example.forward ≡ example.forward_program }
+    ensures guarding { findings 123 example.guarding ≡ [] }
+    ensures guarding_program { numbered example.guarding ≡ example.guarding_program }
+{}
