@@ -19,10 +19,10 @@ pub record HasNoMailboxes (p : Program) : Type 0 where
 abbrev pub WithoutMailboxesIsTypable : Type 0
 WithoutMailboxesIsTypable = (p : Program) → WellFormed p → HasNoMailboxes p → IsTypable p
 
--- in each configuration that a run of a safe program without mailboxes reaches, a step is enabled as long as there are threads
+-- in each configuration that a run of a well-formed program without mailboxes reaches, a step is enabled as long as there are threads
 abbrev pub WithoutMailboxesGoesOn : Type 0
 WithoutMailboxesGoesOn =
-    (p : Program) (ks : List Step) (c : Config) → WellFormed p → HasNoMailboxes p → IsSafe p → run p ks ≡ Some c → IsTrue (has_threads c.threads) → IsTrue (can_step p c)
+    (p : Program) (ks : List Step) (c : Config) → WellFormed p → HasNoMailboxes p → run p ks ≡ Some c → IsTrue (has_threads c.threads) → IsTrue (can_step p c)
 
 -- a spelled program is well formed
 abbrev pub SpelledIsWellFormed : Type 0
