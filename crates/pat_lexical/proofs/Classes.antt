@@ -71,6 +71,10 @@ class_digit b h =
 pub class_name : (b : ℕ) → is_name_front b ≡ true → class b ≡ Names
 class_name b h = if_true (is_name_front b) _ _ h
 
+pub class_other : (b : ℕ) → is_name_front b ≡ false → is_blank b ≡ false → is_digit b ≡ false → (b == 34) ≡ false → (b == 47) ≡ false → class b ≡ Marks
+class_other b n s d q l =
+    if_false (is_name_front b) _ _ n ∙ if_false (is_blank b) _ _ s ∙ if_false (is_digit b) _ _ d ∙ if_false (b == 34) _ _ q ∙ if_false (b == 47) _ _ l
+
 pub word_front : (w : Reserved) → Fronts (word_bytes w) Names
 word_front Interface = record { front = _; tail = _; is = refl; kind = refl }
 word_front Def = record { front = _; tail = _; is = refl; kind = refl }
@@ -123,6 +127,9 @@ ascii_start b low s = let same = is_xid_start-ascii b low in grind (arith, nat_t
 
 high_front : (b : ℕ) → 128 ≤ b → is_name_front b ≡ true
 high_front b h = grind (arith, nat_tests)
+
+pub high_class : (b : ℕ) → 128 ≤ b → class b ≡ Names
+high_class b h = class_name b (high_front b h)
 
 -- a text that begins with a character that a name may begin with
 pub start_front : (c : ℕ) (rest bytes : List ℕ) → starts_name c ≡ true → bytes ≡ encode_utf8 c ++ rest → Fronts bytes Names

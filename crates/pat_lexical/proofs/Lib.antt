@@ -4,3 +4,11 @@ pub mod Spellings
 pub mod Classes
 pub mod Unique
 pub mod Reaching
+pub mod Texts
+pub mod ByClass
+pub mod Strings
+pub mod Beginnings
+pub mod MarkBeginnings
+pub mod NameBeginnings
+pub mod Faults
+pub mod Broken

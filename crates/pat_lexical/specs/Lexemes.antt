@@ -1,7 +1,7 @@
 -- What may stand at a place of a text: a blank, a comment, a token, or an integer too wide to be one.
-use Rattle.std.specs.Prelude.{◌≡◌, ◌≢◌, ℕ, ◌≤◌, ◌<◌, List, [], ◌∷◌, ◌++◌, length, pos, true, IsUtf8}
+use Rattle.std.specs.Prelude.{◌≡◌, ◌≢◌, ℕ, ◌≤◌, ◌<◌, ◌==◌, List, [], ◌∷◌, ◌++◌, length, pos, true, IsUtf8}
 use Rattle.pat_lexical.specs.Words.{Reserved, word_bytes}
-use Rattle.pat_lexical.specs.Marks.{mark_bytes}
+use Rattle.pat_lexical.specs.Marks.{Mark as MarkKind, mark_bytes, Equals, Minus}
 use Rattle.pat_lexical.specs.Tokens.{Token, Name, Integer, Str, Word, Mark}
 use Rattle.pat_lexical.specs.Characters.{is_digit, is_blank, is_in_line, Each, FrontFails, number_after, IsNameText, Quotes}
 
@@ -34,6 +34,12 @@ Fits Blank own rest = (b : ℕ) × (own ≡ b ∷ []) × (is_blank b ≡ true)
 Fits Comment own rest = (body : List ℕ) × (own ≡ 47 ∷ 47 ∷ body) × IsUtf8 body × Each is_in_line body × FrontFails is_in_line rest
 Fits (Whole t) own rest = Spells t own rest
 Fits TooWide own rest = IsRun own rest × (greatest < number_after 0 own)
+
+-- bytes that follow a mark and don't make it a longer one
+abbrev pub NoLonger : MarkKind → List ℕ → Type 0
+NoLonger Equals rest = FrontFails (λ b. b == 61) rest
+NoLonger Minus rest = FrontFails (λ b. b == 62) rest
+NoLonger _ rest = Unit {0}
 
 -- a text begins with the lexeme in these bytes, the longest that fits at its front
 pub record Begins (lexeme : Lexeme) (own rest : List ℕ) : Type 0 where

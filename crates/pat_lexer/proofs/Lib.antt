@@ -1,0 +1,9 @@
+mod Standing
+mod Between
+mod Inside
+mod Slices
+mod Characters
+mod WordOr
+mod Endings
+mod Cuts
+mod Histories

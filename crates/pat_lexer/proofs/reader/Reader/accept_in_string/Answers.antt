@@ -1,0 +1,13 @@
+use Rattle.std.proofs.Common.{ℕ, List, ◌++◌, ap, ◌∙◌}
+use Rattle.pat_lexer.specs.Progress.{Progress}
+use Rattle.pat_lexer.specs.Reads.{progress}
+use Rattle.pat_lexer.proofs.Slices.{moved}
+use Rattle.pat_lexer.proofs.Characters.{string_goes_on}
+use Rattle.pat_lexer.proofs.reader.Reader.accept_in_string.Goals as goal
+
+pub returns-clause-taken : goal.returns-clause-taken
+returns-clause-taken c = λ f text more j.
+    let p = progress c.args.self.now in
+    let first : List ℕ → Progress = λ l. record p { text = l; character = c.clear.new.self.items } in
+    let second : List ℕ → Progress = λ l. record p { text = p.text ++ p.character; character = l } in
+    moved _ _ text more (ap first (c.in_ok-extend_from_slice.ensures.items ∙ ap (λ l. p.text ++ l) c.as_slice.ensures.value) ∙ ap second c.clear.ensures.items) (string_goes_on p text more c.args.character c.requires.kind f.0 f.1 j)
