@@ -76,17 +76,18 @@ abbrev pub made : Head → List tree.Expr → ℕ → tree.Term
 made (ToCall f) es t = tree.CallTerm f es (span f.span.from t)
 made (ToSend x y) es t = tree.SendTerm x y es (span x.span.from t)
 
--- a guard, the clauses read so far, and what was open before its brace
+-- a guard, the clauses read so far, how many brackets were open before its brace and are inside, and how many statements
 pub record Guarding : Type 0 where
   pub mailbox : tree.Name
   pub pattern : tree.Pattern
   pub from : ℕ
   pub opened : ℕ
+  pub inside : ℕ
   pub statements : ℕ
   pub clauses : List tree.Clause
 
 abbrev pub with_clause : Guarding → tree.Clause → Guarding
-with_clause g c = record { mailbox = g.mailbox; pattern = g.pattern; from = g.from; opened = g.opened; statements = g.statements; clauses = g.clauses ++ c ∷ [] }
+with_clause g c = record { mailbox = g.mailbox; pattern = g.pattern; from = g.from; opened = g.opened; inside = g.inside; statements = g.statements; clauses = g.clauses ++ c ∷ [] }
 
 abbrev pub guard_term : Guarding → ℕ → tree.Term
 guard_term g t = tree.GuardTerm g.mailbox g.pattern (listed g.clauses) (span g.from t)
@@ -311,7 +312,7 @@ pattern_comma _ o q t = Refused
 
 abbrev pub pattern_open : List Frame → ℕ → ℕ → tree.Pattern → ℕ → Move
 pattern_open (InTyped x r ∷ fs) o s q t = type_open fs o (typed_by x r q t)
-pattern_open (InGuarded x f ∷ fs) o s q t = Opens o 0 (state (AtClause true (record { mailbox = x; pattern = q; from = f; opened = o; statements = s; clauses = [] })) fs (suc o) 0 s)
+pattern_open (InGuarded x f ∷ fs) o s q t = Opens o 0 (state (AtClause true (record { mailbox = x; pattern = q; from = f; opened = o; inside = suc o; statements = s; clauses = [] })) fs (suc o) 0 s)
 pattern_open _ o s q t = Refused
 
 -- behind a factor
@@ -344,9 +345,9 @@ guard_end false fs g w = Goes (state (Done (guard_term g w.to) g.from) fs g.open
 
 -- where a clause may begin, and the guard may end if this isn't its first clause
 abbrev pub clause_step : Bool → List Frame → Guarding → Token → tree.Span → Move
-clause_step first fs g (Word word.Fail) w = Goes (state (AtClause false (with_clause g (tree.FailClause w))) fs (suc g.opened) 0 g.statements)
-clause_step first fs g (Word word.Free) w = Goes (state (AfterFreeWord g w) fs (suc g.opened) 0 g.statements)
-clause_step first fs g (Word word.Receive) w = Goes (state (WantName (ReceiveName g w)) fs (suc g.opened) 0 g.statements)
+clause_step first fs g (Word word.Fail) w = Goes (state (AtClause false (with_clause g (tree.FailClause w))) fs g.inside 0 g.statements)
+clause_step first fs g (Word word.Free) w = Goes (state (AfterFreeWord g w) fs g.inside 0 g.statements)
+clause_step first fs g (Word word.Receive) w = Goes (state (WantName (ReceiveName g w)) fs g.inside 0 g.statements)
 clause_step first fs g (Mark mark.CurlyClose) w = guard_end first fs g w
 clause_step first fs g _ w = Refused
 
@@ -524,7 +525,7 @@ after_free_word fs o s g a _ w = Refused
 
 abbrev pub first_binder : List Frame → ℕ → ℕ → ClauseHead → Token → tree.Span → Move
 first_binder fs o s r (Name x) w = Goes (state (GotName (BinderName r) (name_at x w)) fs o 0 s)
-first_binder fs o s r (Mark mark.RoundClose) w = Goes (state (AfterBinders r) fs (suc r.guard.opened) 0 s)
+first_binder fs o s r (Mark mark.RoundClose) w = Goes (state (AfterBinders r) fs r.guard.inside 0 s)
 first_binder fs o s r _ w = Refused
 
 abbrev pub after_binders : List Frame → ℕ → ℕ → ClauseHead → Token → tree.Span → Move
@@ -600,7 +601,7 @@ receive_named fs o s g a x _ w = Refused
 
 abbrev pub binder_named : List Frame → ℕ → ℕ → ClauseHead → tree.Name → Token → tree.Span → Move
 binder_named fs o s r x (Mark mark.Comma) w = Goes (state (WantName (BinderName (with_name r x))) fs o 0 s)
-binder_named fs o s r x (Mark mark.RoundClose) w = Goes (state (AfterBinders (with_name r x)) fs (suc r.guard.opened) 0 s)
+binder_named fs o s r x (Mark mark.RoundClose) w = Goes (state (AfterBinders (with_name r x)) fs r.guard.inside 0 s)
 binder_named fs o s r x _ w = Refused
 
 abbrev pub from_named : List Frame → ℕ → ℕ → ClauseHead → tree.Name → Token → tree.Span → Move

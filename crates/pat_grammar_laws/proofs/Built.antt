@@ -123,8 +123,8 @@ mutual
     in_yes : {fs : List Frame} {o s t : ℕ} {w v : At} {all ts us : List Item} {a : Operand} → Under lim ForSimple fs o 0 s all ((Word word.If, w) ∷ ts) → Expr lim o 0 Whole ts a t ((Mark mark.CurlyOpen, v) ∷ us) → Room lim v o 0 → Under lim ForAny (InYes a.0 w.from o s ∷ fs) (suc o) 0 s all us
     in_no : {fs : List Frame} {o s t f : ℕ} {w v c l d : At} {all ts us vs : List Item} {a : Operand} {m : tree.Term} → Under lim ForSimple fs o 0 s all ((Word word.If, w) ∷ ts) → Expr lim o 0 Whole ts a t ((Mark mark.CurlyOpen, v) ∷ us) → Room lim v o 0 → Term lim (suc o) s Any us m f ((Mark mark.CurlyClose, c) ∷ (Word word.Else, l) ∷ (Mark mark.CurlyOpen, d) ∷ vs) → Room lim d o 0 → Under lim ForAny (InNo a.0 m w.from o s ∷ fs) (suc o) 0 s all vs
     in_spawn : {fs : List Frame} {o s : ℕ} {w v : At} {all ts : List Item} → Under lim ForSimple fs o 0 s all ((Word word.Spawn, w) ∷ (Mark mark.CurlyOpen, v) ∷ ts) → Room lim v o 0 → Under lim ForAny (InSpawn w.from o s ∷ fs) (suc o) 0 s all ts
-    in_free : {b : Bool} {g : Guarding} {fs : List Frame} {w a : At} {all ts : List Item} → GuardRead lim b g fs all ((Word word.Free, w) ∷ (Mark mark.Arrow, a) ∷ ts) → Under lim ForAny (InFree g (place_of w) ∷ fs) (suc g.opened) 0 g.statements all ts
-    in_receive : {b : Bool} {g : Guarding} {fs : List Frame} {x y : List ℕ} {ns : List tree.Name} {w n v z r h a : At} {all us ts : List Item} → GuardRead lim b g fs all ((Word word.Receive, w) ∷ (Name x, n) ∷ (Mark mark.RoundOpen, v) ∷ us) → Room lim v (suc g.opened) 0 → Optional Binder us ns ((Mark mark.RoundClose, z) ∷ (Word word.From, r) ∷ (Name y, h) ∷ (Mark mark.Arrow, a) ∷ ts) → Under lim ForAny (InReceive (head g (place_of w) (named x n) ns) (named y h) ∷ fs) (suc g.opened) 0 g.statements all ts
+    in_free : {b : Bool} {g : Guarding} {fs : List Frame} {w a : At} {all ts : List Item} → GuardRead lim b g fs all ((Word word.Free, w) ∷ (Mark mark.Arrow, a) ∷ ts) → Under lim ForAny (InFree g (place_of w) ∷ fs) g.inside 0 g.statements all ts
+    in_receive : {b : Bool} {g : Guarding} {fs : List Frame} {x y : List ℕ} {ns : List tree.Name} {w n v z r h a : At} {all us ts : List Item} → GuardRead lim b g fs all ((Word word.Receive, w) ∷ (Name x, n) ∷ (Mark mark.RoundOpen, v) ∷ us) → Room lim v g.inside 0 → Optional Binder us ns ((Mark mark.RoundClose, z) ∷ (Word word.From, r) ∷ (Name y, h) ∷ (Mark mark.Arrow, a) ∷ ts) → Under lim ForAny (InReceive (head g (place_of w) (named x n) ns) (named y h) ∷ fs) g.inside 0 g.statements all ts
     in_def : {d : Defining} {r : tree.WrittenType} {c v : At} {all us ts : List Item} → DefHead lim d all ((Mark mark.Colon, c) ∷ us) → WrittenType lim 0 false us r ((Mark mark.CurlyOpen, v) ∷ ts) → Room lim v 0 0 → Under lim ForAny (InDef d r ∷ []) 1 0 0 all ts
 
   -- a guard with its clauses so far
@@ -133,11 +133,11 @@ mutual
 
 -- the head of a receive clause, with names so far
 pub data ReceiveBegun (lim : Limits) : ClauseHead → List Frame → List Item → List Item → Type 0 where
-  receive_begun : {b : Bool} {g : Guarding} {fs : List Frame} {x : List ℕ} {ns : List tree.Name} {w n v : At} {all us ts : List Item} → GuardRead lim b g fs all ((Word word.Receive, w) ∷ (Name x, n) ∷ (Mark mark.RoundOpen, v) ∷ us) → Room lim v (suc g.opened) 0 → Followed Binder us ns ts → ReceiveBegun lim (head g (place_of w) (named x n) ns) fs all ts
+  receive_begun : {b : Bool} {g : Guarding} {fs : List Frame} {x : List ℕ} {ns : List tree.Name} {w n v : At} {all us ts : List Item} → GuardRead lim b g fs all ((Word word.Receive, w) ∷ (Name x, n) ∷ (Mark mark.RoundOpen, v) ∷ us) → Room lim v g.inside 0 → Followed Binder us ns ts → ReceiveBegun lim (head g (place_of w) (named x n) ns) fs all ts
 
 -- the head of a receive clause, up to its bracket
 pub data ReceiveRead (lim : Limits) : ClauseHead → List Frame → List Item → List Item → Type 0 where
-  receive_read : {b : Bool} {g : Guarding} {fs : List Frame} {x : List ℕ} {ns : List tree.Name} {w n v z : At} {all us ts : List Item} → GuardRead lim b g fs all ((Word word.Receive, w) ∷ (Name x, n) ∷ (Mark mark.RoundOpen, v) ∷ us) → Room lim v (suc g.opened) 0 → Optional Binder us ns ((Mark mark.RoundClose, z) ∷ ts) → ReceiveRead lim (head g (place_of w) (named x n) ns) fs all ts
+  receive_read : {b : Bool} {g : Guarding} {fs : List Frame} {x : List ℕ} {ns : List tree.Name} {w n v z : At} {all us ts : List Item} → GuardRead lim b g fs all ((Word word.Receive, w) ∷ (Name x, n) ∷ (Mark mark.RoundOpen, v) ∷ us) → Room lim v g.inside 0 → Optional Binder us ns ((Mark mark.RoundClose, z) ∷ ts) → ReceiveRead lim (head g (place_of w) (named x n) ns) fs all ts
 
 -- what was read before a name
 pub data Wants (lim : Limits) : Naming → List Frame → ℕ → ℕ → List Item → List Item → Type 0 where
@@ -150,9 +150,9 @@ pub data Wants (lim : Limits) : Naming → List Frame → ℕ → ℕ → List I
   for_free : {fs : List Frame} {o s : ℕ} {w v : At} {all ts : List Item} → Under lim ForSimple fs o 0 s all ((Word word.Free, w) ∷ (Mark mark.RoundOpen, v) ∷ ts) → Room lim v o 0 → Wants lim (FreeName w.from o) fs (suc o) s all ts
   for_guard : {fs : List Frame} {o s : ℕ} {w : At} {all ts : List Item} → Under lim ForSimple fs o 0 s all ((Word word.Guard, w) ∷ ts) → Wants lim (GuardName w.from) fs o s all ts
   for_tag : {fs : List Frame} {o s : ℕ} {x : List ℕ} {a b : At} {all ts : List Item} → Under lim ForSimple fs o 0 s all ((Name x, a) ∷ (Mark mark.Bang, b) ∷ ts) → Wants lim (TagName (named x a)) fs o s all ts
-  for_receive : {b : Bool} {g : Guarding} {fs : List Frame} {w : At} {all ts : List Item} → GuardRead lim b g fs all ((Word word.Receive, w) ∷ ts) → Wants lim (ReceiveName g (place_of w)) fs (suc g.opened) g.statements all ts
-  for_binder : {r : ClauseHead} {fs : List Frame} {all ts : List Item} → ReceiveBegun lim r fs all ts → Wants lim (BinderName r) fs (suc (suc r.guard.opened)) r.guard.statements all ts
-  for_from : {r : ClauseHead} {fs : List Frame} {q : At} {all ts : List Item} → ReceiveRead lim r fs all ((Word word.From, q) ∷ ts) → Wants lim (FromName r) fs (suc r.guard.opened) r.guard.statements all ts
+  for_receive : {b : Bool} {g : Guarding} {fs : List Frame} {w : At} {all ts : List Item} → GuardRead lim b g fs all ((Word word.Receive, w) ∷ ts) → Wants lim (ReceiveName g (place_of w)) fs g.inside g.statements all ts
+  for_binder : {r : ClauseHead} {fs : List Frame} {all ts : List Item} → ReceiveBegun lim r fs all ts → Wants lim (BinderName r) fs (suc r.guard.inside) r.guard.statements all ts
+  for_from : {r : ClauseHead} {fs : List Frame} {q : At} {all ts : List Item} → ReceiveRead lim r fs all ((Word word.From, q) ∷ ts) → Wants lim (FromName r) fs r.guard.inside r.guard.statements all ts
 
 -- ---- the state
 
@@ -179,10 +179,10 @@ pub data Built (lim : Limits) : State → List Item → List Item → Type 0 whe
   at_free : {fs : List Frame} {o s : ℕ} {w : At} {all us : List Item} → Under lim ForSimple fs o 0 s all ((Word word.Free, w) ∷ us) → Built lim (state (AfterFree w.from) fs o 0 s) all us
   at_yes : {fs : List Frame} {o s t f : ℕ} {w v c : At} {all ts us vs : List Item} {a : Operand} {m : tree.Term} → Under lim ForSimple fs o 0 s all ((Word word.If, w) ∷ ts) → Expr lim o 0 Whole ts a t ((Mark mark.CurlyOpen, v) ∷ us) → Room lim v o 0 → Term lim (suc o) s Any us m f ((Mark mark.CurlyClose, c) ∷ vs) → Built lim (state (AfterYes a.0 m w.from) fs o 0 s) all vs
   at_else : {fs : List Frame} {o s t f : ℕ} {w v c l : At} {all ts us vs : List Item} {a : Operand} {m : tree.Term} → Under lim ForSimple fs o 0 s all ((Word word.If, w) ∷ ts) → Expr lim o 0 Whole ts a t ((Mark mark.CurlyOpen, v) ∷ us) → Room lim v o 0 → Term lim (suc o) s Any us m f ((Mark mark.CurlyClose, c) ∷ (Word word.Else, l) ∷ vs) → Built lim (state (AfterElse a.0 m w.from) fs o 0 s) all vs
-  at_clause : {b : Bool} {g : Guarding} {fs : List Frame} {all us : List Item} → GuardRead lim b g fs all us → Built lim (state (AtClause (not b) g) fs (suc g.opened) 0 g.statements) all us
-  at_free_word : {b : Bool} {g : Guarding} {fs : List Frame} {w : At} {all us : List Item} → GuardRead lim b g fs all ((Word word.Free, w) ∷ us) → Built lim (state (AfterFreeWord g (place_of w)) fs (suc g.opened) 0 g.statements) all us
-  at_first_binder : {b : Bool} {g : Guarding} {fs : List Frame} {x : List ℕ} {w n v : At} {all us : List Item} → GuardRead lim b g fs all ((Word word.Receive, w) ∷ (Name x, n) ∷ (Mark mark.RoundOpen, v) ∷ us) → Room lim v (suc g.opened) 0 → Built lim (state (FirstBinder (head g (place_of w) (named x n) [])) fs (suc (suc g.opened)) 0 g.statements) all us
-  at_after_binders : {r : ClauseHead} {fs : List Frame} {all us : List Item} → ReceiveRead lim r fs all us → Built lim (state (AfterBinders r) fs (suc r.guard.opened) 0 r.guard.statements) all us
+  at_clause : {b : Bool} {g : Guarding} {fs : List Frame} {all us : List Item} → GuardRead lim b g fs all us → Built lim (state (AtClause (not b) g) fs g.inside 0 g.statements) all us
+  at_free_word : {b : Bool} {g : Guarding} {fs : List Frame} {w : At} {all us : List Item} → GuardRead lim b g fs all ((Word word.Free, w) ∷ us) → Built lim (state (AfterFreeWord g (place_of w)) fs g.inside 0 g.statements) all us
+  at_first_binder : {b : Bool} {g : Guarding} {fs : List Frame} {x : List ℕ} {w n v : At} {all us : List Item} → GuardRead lim b g fs all ((Word word.Receive, w) ∷ (Name x, n) ∷ (Mark mark.RoundOpen, v) ∷ us) → Room lim v g.inside 0 → Built lim (state (FirstBinder (head g (place_of w) (named x n) [])) fs (suc g.inside) 0 g.statements) all us
+  at_after_binders : {r : ClauseHead} {fs : List Frame} {all us : List Item} → ReceiveRead lim r fs all us → Built lim (state (AfterBinders r) fs r.guard.inside 0 r.guard.statements) all us
   at_first_arg : {fs : List Frame} {o s : ℕ} {h : Head} {v : At} {all ts us : List Item} → Under lim ForSimple fs o 0 s all ts → HeadRead h ts ((Mark mark.RoundOpen, v) ∷ us) → Room lim v o 0 → Built lim (state FirstArg (InArgs h [] o ∷ fs) (suc o) 0 s) all us
   at_opened : {fs : List Frame} {o k0 k s : ℕ} {p : Pending} {w : At} {all ts us : List Item} → Under lim ForExpr fs o k0 s all ts → Pends lim o k0 p ts ((Mark mark.RoundOpen, w) ∷ us) k → Room lim w o k → Built lim (state Opened (InBracket p w.from o ∷ fs) (suc o) k s) all us
   at_want : {fs : List Frame} {o k0 k s : ℕ} {p : Pending} {all ts us : List Item} → Under lim ForExpr fs o k0 s all ts → Pends lim o k0 p ts us k → Built lim (state (Want p) fs o k s) all us

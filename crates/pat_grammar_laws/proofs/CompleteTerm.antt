@@ -164,11 +164,11 @@ binders_run lim g a x fs o s (more {w = v} {xs = ns} d (binder {x = y} {w = w} {
     (ns, named y w, h.2 ∙ ap (λ (q : List tree.Name). run lim (state (WantName (BinderName (head g a x q))) fs o 0 s) ((Name y, w) ∷ us)) h.3, refl)
 
 binders_close : (lim : Limits) (g : Guarding) (a : tree.Span) (x : tree.Name) (fs : List Frame) (o s : ℕ) {ts us : List Item} {ns : List tree.Name} (z : At) → s ≡ g.statements → Optional Binder ts ns ((Mark mark.RoundClose, z) ∷ us)
-    → run lim (state (FirstBinder (head g a x [])) fs o 0 s) ts ≡ run lim (state (AfterBinders (head g a x ns)) fs (suc g.opened) 0 s) us
+    → run lim (state (FirstBinder (head g a x [])) fs o 0 s) ts ≡ run lim (state (AfterBinders (head g a x ns)) fs g.inside 0 s) us
 binders_close lim g a x fs o s z is none = refl
 binders_close lim g a x fs o s {us = us} z is (some d) =
     let h = binders_run lim g a x fs o s d in
-    h.2 ∙ ap (λ (q : List tree.Name). run lim (state (AfterBinders (head g a x q)) fs (suc g.opened) 0 s) us) h.3
+    h.2 ∙ ap (λ (q : List tree.Name). run lim (state (AfterBinders (head g a x q)) fs g.inside 0 s) us) h.3
 
 -- ---- terms
 
@@ -189,7 +189,7 @@ ReadsTerm lim o s Simple ts m f us = (fs : List Frame) (b : Bool) → (c : Contr
 ReadsTerm lim o s Any ts m f us = (fs : List Frame) → takes_next fs ≡ true → Reached lim fs o s ts m us
 
 abbrev pub guarding : tree.Name → tree.Pattern → ℕ → ℕ → ℕ → List tree.Clause → Guarding
-guarding x p f o s cs = record { mailbox = x; pattern = p; from = f; opened = o; statements = s; clauses = cs }
+guarding x p f o s cs = record { mailbox = x; pattern = p; from = f; opened = o; inside = suc o; statements = s; clauses = cs }
 
 abbrev pub ends_clause : Token → Bool
 ends_clause (Mark mark.CurlyClose) = true
