@@ -3,6 +3,7 @@
 
 mod executable;
 mod expression;
+mod free_variables;
 mod program;
 
 pub use executable::Executable;

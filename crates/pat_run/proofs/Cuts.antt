@@ -7,20 +7,12 @@ use Rattle.pat_model.specs.Programs.{Program}
 use Rattle.pat_model.specs.Configs.{Config}
 use Rattle.pat_model.specs.Steps.{Act, Step, step}
 use Rattle.pat_model.specs.Runs.{Entry, Outcome, EndDone, EndWaiting, EndBudget, outcome, has_threads, is_at_limit, can_step, can_step_without_sending, run_from, shared_step, entry_steps, entry_from, replay_from, step_count}
+use Rattle.pat_steps.proofs.Replays.{runs_join}
 use Rattle.pat_run.specs.Jobs.{IsJob, Jobs, Ends, local_of}
-
-then_append : (p : Program) (ks js : List Step) (o : Option Config) → ((d : Config) → run_from p d (ks ++ js) ≡ option_and_then (λ e. run_from p e js) (run_from p d ks)) → option_and_then (λ d. run_from p d (ks ++ js)) o ≡ option_and_then (λ d. run_from p d js) (option_and_then (λ d. run_from p d ks) o)
-then_append p ks js None each = refl
-then_append p ks js (Some d) each = each d
-
--- a run of two lists of steps is the run of one and then of the other
-run_append : (p : Program) (c : Config) (ks js : List Step) → run_from p c (ks ++ js) ≡ option_and_then (λ d. run_from p d js) (run_from p c ks)
-run_append p c [] js = refl
-run_append p c (k ∷ ks) js = then_append p ks js (step p c k) (λ d. run_append p d ks js)
 
 -- a run and then a run
 run_then : (p : Program) (c d e : Config) (ks js : List Step) → run_from p c ks ≡ Some d → run_from p d js ≡ Some e → run_from p c (ks ++ js) ≡ Some e
-run_then p c d e ks js first second = run_append p c ks js ∙ ap (option_and_then (λ d. run_from p d js)) first ∙ second
+run_then p c d e ks js first second = runs_join p c ks js ∙ ap (option_and_then (λ d. run_from p d js)) first ∙ second
 
 one_step : (p : Program) (d e : Config) (s : Step) → step p d s ≡ Some e → run_from p d (s ∷ []) ≡ Some e
 one_step p d e s h = ap (option_and_then (λ d. run_from p d [])) h

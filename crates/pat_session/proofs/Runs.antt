@@ -1,11 +1,12 @@
 -- What a finished run says of the program's runs.
-use Rattle.std.proofs.Common.{◌≡◌, ℕ, ◌-◌, Bool, true, false, not, nat_eq, List, [], ◌∷◌, ◌++◌, length, Option, Some, None, refl, sym, ap, ◌∙◌, subst, map}
-use Rattle.std.specs.Prelude.{option_and_then, if◌then◌else◌, ◌&&◌}
-use Rattle.std.specs.List.{flat_map, AllByRecursion}
+use Rattle.std.proofs.Common.{◌≡◌, ℕ, ◌-◌, Bool, true, false, not, nat_eq, List, [], ◌∷◌, length, Some, None, refl, sym, ap, ◌∙◌, subst, map}
+use Rattle.std.specs.Prelude.{if◌then◌else◌, ◌&&◌}
+use Rattle.std.specs.List.{AllByRecursion}
 use Rattle.pat_model.specs.Programs.{Program}
 use Rattle.pat_model.specs.Configs.{Config, start}
-use Rattle.pat_model.specs.Steps.{Step, step}
-use Rattle.pat_model.specs.Runs.{Entry, Outcome, EndDone, EndWaiting, EndFull, EndBudget, outcome, has_threads, is_at_limit, can_step, can_step_without_sending, run_from, entry_steps, entry_from, replay_from, replay, step_count}
+use Rattle.pat_model.specs.Runs.{Entry, Outcome, EndDone, EndWaiting, EndFull, EndBudget, outcome, has_threads, is_at_limit, can_step, can_step_without_sending, entry_steps, replay, step_count}
+use Rattle.pat_steps.specs.Laws.{history_steps}
+use Rattle.pat_steps.proofs.Replays.{replay_runs}
 use Rattle.pat_run.specs.Jobs.{Jobs}
 use Rattle.pat_run.specs.declared.finished.Finished.{Finished}
 use Rattle.pat_run.specs.Finished.{IsRun}
@@ -14,33 +15,6 @@ use Rattle.pat_reduce.specs.Views.{config_view, entry_view, outcome_view}
 use Rattle.pat_lines.specs.RunText.{run_text}
 use Rattle.pat_session.specs.declared.status.Status.{Status}
 use Rattle.pat_session.specs.Allowed.{NeverWaits, EndsWith, RunShows}
-
--- a run of two lists of steps is the run of one and then of the other
-then_append : (p : Program) (ks js : List Step) (o : Option Config) → ((d : Config) → run_from p d (ks ++ js) ≡ option_and_then (λ e. run_from p e js) (run_from p d ks)) → option_and_then (λ d. run_from p d (ks ++ js)) o ≡ option_and_then (λ d. run_from p d js) (option_and_then (λ d. run_from p d ks) o)
-then_append p ks js None each = refl
-then_append p ks js (Some d) each = each d
-
-run_append : (p : Program) (c : Config) (ks js : List Step) → run_from p c (ks ++ js) ≡ option_and_then (λ d. run_from p d js) (run_from p c ks)
-run_append p c [] js = refl
-run_append p c (k ∷ ks) js = then_append p ks js (step p c k) (λ d. run_append p d ks js)
-
--- an entry that leads somewhere is a run of its steps
-entry_run : (p : Program) (c d : Config) (ks : List Step) → entry_from p c ks ≡ Some d → run_from p c ks ≡ Some d
-entry_run p c d [] h = cc
-entry_run p c d (k ∷ ks) h = h
-
-then_replay : (p : Program) (es : List Entry) (o : Option Config) (d : Config) → option_and_then (λ c. replay_from p c es) o ≡ Some d → (m : Config) × (o ≡ Some m) × (replay_from p m es ≡ Some d)
-then_replay p es None d h = cc
-then_replay p es (Some m) d h = (m, refl, h)
-
--- a history that replays is a run of its entries' steps
-replay_run : (p : Program) (c : Config) (es : List Entry) (d : Config) → replay_from p c es ≡ Some d → run_from p c (flat_map entry_steps es) ≡ Some d
-replay_run p c [] d h = h
-replay_run p c (e ∷ es) d h =
-    let m = then_replay p es (entry_from p c (entry_steps e)) d h in
-    run_append p c (entry_steps e) (flat_map entry_steps es)
-    ∙ ap (option_and_then (λ k. run_from p k (flat_map entry_steps es))) (entry_run p c m.0 (entry_steps e) m.1)
-    ∙ replay_run p m.0 es d m.2
 
 waits : (threads can full spent : Bool) → (if not threads then Some EndDone else if not can then Some EndWaiting else if full then Some EndFull else if spent then Some EndBudget else None) ≡ Some EndWaiting → (threads ≡ true) × (can ≡ false)
 waits false can full spent h = cc
@@ -53,7 +27,7 @@ waits true true false false h = cc
 pub never_waits : (p : Program) (es : List Entry) (c : Config) (n b : ℕ) (o : Outcome) → NeverWaits p → replay p es ≡ Some c → outcome p c n b None ≡ Some o → o ≡ EndWaiting → ⊥
 never_waits p es c n b o never replayed ends is =
     let w = waits (has_threads c.threads) (can_step p c) (is_at_limit None (length c.messages) && not (can_step_without_sending p c)) (nat_eq n b) (ends ∙ ap Some is) in
-    let goes = never (flat_map entry_steps es) c (replay_run p (start p) es c replayed) w.0 in
+    let goes = never (history_steps es) c (replay_runs p (start p) c es replayed).1 w.0 in
     let clash : true ≡ false = sym goes ∙ w.1 in
     cc
 
