@@ -31,7 +31,8 @@ impl Model for Lexer {
 impl Lexer {
     /// A lexer that has read nothing. It takes no memory.
     pub fn new(alloc: Global) -> Lexer
-        ensures { HasRead [] result }
+        ensures read { HasRead [] result }
+        ensures fresh { result.refusal ≡ None }
     {
         Lexer {
             reader: Reader::new(alloc),
