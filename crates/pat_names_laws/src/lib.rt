@@ -5,7 +5,18 @@ ghost use Rattle.std.specs.Prelude.{◌≡◌, [], ◌++◌};
 ghost use Rattle.pat_grammar.specs.Trees.{span};
 ghost use Rattle.pat_names.specs.Findings.{findings, found, UnknownName, Twice, WrongArity, WrongKind, ForeignTag, EmptySending, TooManyTags};
 ghost use Rattle.pat_names.specs.Numbering.{numbered};
+ghost use Rattle.pat_names_laws.specs.Laws.{ResolvedIsWellFormed, ResolvedIsNamed, StringsAreKept, ResolvedIsSpelled, NumberedIsPlaced};
 ghost use Rattle.pat_names_laws.specs.Examples as example;
+
+/// A tree that breaks no rule has a well-formed program, with names for interfaces and tags, the tree's string literals, and
+/// a place for each part.
+pub fn resolution_laws()
+    ensures well_formed { ResolvedIsWellFormed }
+    ensures named { ResolvedIsNamed }
+    ensures strings { StringsAreKept }
+    ensures spelled { ResolvedIsSpelled }
+    ensures placed { NumberedIsPlaced }
+{}
 
 /// Each rule is found where it is broken: in a declaration's head, at `main`, or in a body.
 pub fn refusals()

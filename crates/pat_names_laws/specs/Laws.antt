@@ -1,0 +1,35 @@
+-- What holds of every tree that breaks no rule, and of its program.
+use Rattle.std.specs.Prelude.{◌≡◌, ℕ, Some, length, slice_get}
+use Rattle.std.specs.List.{AllByRecursion}
+use Rattle.pat_model.specs.Programs.{Function, Program, function_at}
+use Rattle.pat_model.specs.WellFormed.{WellFormed}
+use Rattle.pat_grammar.specs.Trees.{Tree}
+use Rattle.pat_names.specs.Numbering.{numbered}
+use Rattle.pat_names.specs.Places.{FunctionPlaces, places}
+use Rattle.pat_names.specs.Claims.{Resolves, IsWritten, IsNamed, program_strings, tree_strings, IsSpelled}
+
+-- the program of a tree that breaks no rule, and that is as the grammar has it, is well formed
+abbrev pub ResolvedIsWellFormed : Type 0
+ResolvedIsWellFormed = (end : ℕ) (t : Tree) (p : Program) → IsWritten t → Resolves end t p → WellFormed p
+
+-- and its interfaces and their tags have names
+abbrev pub ResolvedIsNamed : Type 0
+ResolvedIsNamed = (end : ℕ) (t : Tree) (p : Program) → IsWritten t → Resolves end t p → IsNamed p
+
+-- the string literals of a tree's program are the tree's, in order
+abbrev pub StringsAreKept : Type 0
+StringsAreKept = (t : Tree) → program_strings (numbered t) ≡ tree_strings t
+
+-- so they are ones that a string token spells, if the tree's are
+abbrev pub ResolvedIsSpelled : Type 0
+ResolvedIsSpelled = (end : ℕ) (t : Tree) (p : Program) → AllByRecursion IsSpelled (tree_strings t) → Resolves end t p → AllByRecursion IsSpelled (program_strings p)
+
+-- each function, each of its parameters and variables, and each node of a tree's program has a place
+pub record IsPlaced (t : Tree) : Type 0 where
+  pub nodes : length (places t).nodes ≡ length (numbered t).nodes
+  pub functions : length (places t).functions ≡ length (numbered t).functions
+  pub parts : (f : ℕ) (g : Function) (q : FunctionPlaces) → function_at (numbered t) f ≡ Some g → slice_get (places t).functions f ≡ Some q → (length q.vars ≡ length g.vars) × (length q.params ≡ length g.params)
+
+-- of every tree
+abbrev pub NumberedIsPlaced : Type 0
+NumberedIsPlaced = (t : Tree) → IsPlaced t
