@@ -4,6 +4,7 @@
 ghost use Rattle.std.specs.Prelude.{◌≡◌, ◌<◌, ◌^◌, ℕ, List, length, map, IfOk, IfErr};
 ghost use Rattle.pat_lexical.specs.Divisions.{Divides};
 ghost use Rattle.pat_syntax.specs.Views.{token_view};
+ghost use Rattle.pat_lexer.specs.Lexed.{HasRead};
 ghost use Rattle.pat_lexer.specs.Reads.{IsAnswer};
 
 #[cfg(test)]
@@ -13,11 +14,11 @@ use pat_lexer::{LexError, Lexer};
 use pat_syntax::Token;
 use std::alloc::Global;
 
-/// The tokens of a text that is fed in pieces of `size` bytes, or its refusal.
-pub fn tokens_of(alloc: Global, text: &[u8], size: usize) -> Result<Vec<Token>, LexError>
+/// A lexer that was fed a text in pieces of `size` bytes, or the text's refusal.
+pub fn lexer_behind(alloc: Global, text: &[u8], size: usize) -> Result<Lexer, LexError>
     requires small { length text.now < 2 ^ 32 }
     requires some { 0 < size }
-    ensures divided { IfOk result (λ tokens. Divides text.now (map token_view tokens.items)) }
+    ensures read { IfOk result (λ lexer. HasRead text.now lexer) }
     ensures refused { IfErr result (λ e. IsAnswer text.now e) }
 {
     let mut lexer = Lexer::new(alloc);
@@ -27,5 +28,16 @@ pub fn tokens_of(alloc: Global, text: &[u8], size: usize) -> Result<Vec<Token>, 
         lexer.feed(&text[at..end])?;
         at = end;
     }
+    Ok(lexer)
+}
+
+/// The tokens of a text that is fed in pieces of `size` bytes, or its refusal.
+pub fn tokens_of(alloc: Global, text: &[u8], size: usize) -> Result<Vec<Token>, LexError>
+    requires small { length text.now < 2 ^ 32 }
+    requires some { 0 < size }
+    ensures divided { IfOk result (λ tokens. Divides text.now (map token_view tokens.items)) }
+    ensures refused { IfErr result (λ e. IsAnswer text.now e) }
+{
+    let lexer = lexer_behind(alloc, text, size)?;
     lexer.finish()
 }

@@ -1,4 +1,4 @@
-use super::tokens_of;
+use super::{lexer_behind, tokens_of};
 use pat_lexer::LexError;
 use pat_syntax::{Token, TokenKind};
 use std::alloc::{AllocError, Global};
@@ -64,6 +64,39 @@ fn cuts_change_nothing(rt: HostRuntime) -> Result<(), Fail> {
             let got = summary(rt.alloc(), text, size)?;
             assert_eq!(rt; got.as_str(), expected);
         }
+    }
+    Ok(())
+}
+
+/// The bytes that the lexer holds behind the text.
+fn held_behind(alloc: Global, text: &[u8], size: usize) -> Result<Vec<u8>, AllocError> {
+    if text.len() > 1_000_000 || size == 0 {
+        return Vec::from_slice(alloc, b"too long");
+    }
+    match lexer_behind(alloc, text, size) {
+        Ok(lexer) => Vec::from_slice(alloc, lexer.held()),
+        Err(_) => Vec::from_slice(alloc, b"refused"),
+    }
+}
+
+#[test]
+fn the_unfinished_piece_is_held(rt: HostRuntime) -> Result<(), Fail> {
+    let mut comment = Vec::from_slice(rt.alloc(), b"// ")?;
+    for _ in 0..100_000 {
+        comment.push(b'x')?;
+    }
+    let mut cut = Vec::from_slice(rt.alloc(), comment.as_slice())?;
+    cut.push(0xC3)?;
+    // Pieces of the given size cut the text right behind `let xy`, and before the last byte.
+    let cases: [(&[u8], usize, &[u8]); 4] = [
+        (b"let xy", 6, b"xy"),
+        (b"let xyz ", 6, b""),
+        (comment.as_slice(), 100_003, b""),
+        (cut.as_slice(), 100_003, b"\xC3"),
+    ];
+    for (text, size, expected) in cases {
+        let got = held_behind(rt.alloc(), text, size)?;
+        assert_eq!(rt; got.as_slice(), expected);
     }
     Ok(())
 }

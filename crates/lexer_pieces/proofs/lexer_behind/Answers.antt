@@ -4,7 +4,7 @@ use Rattle.std.proofs.lemmas.Result.{err_from_is_err_and}
 use lib.Seq.{take-add}
 use Rattle.pat_lexer.specs.Lexed.{HasRead}
 use Rattle.pat_lexer.specs.Reads.{IsAnswer}
-use Rattle.lexer_pieces.proofs.tokens_of.Goals as goal
+use Rattle.lexer_pieces.proofs.lexer_behind.Goals as goal
 
 -- a piece behind what was read
 read_on : (text : List ℕ) (at n : ℕ) → take at text ++ take (at + n - at) (drop at text) ≡ take (at + n) text

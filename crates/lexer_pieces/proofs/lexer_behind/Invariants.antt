@@ -1,6 +1,6 @@
 use Rattle.std.proofs.Common.{◌≡◌, ◌≤◌, ◌-◌, length, take, None}
 use Rattle.pat_lexer.specs.Lexed.{HasRead}
-use Rattle.lexer_pieces.proofs.tokens_of.Given as goal
+use Rattle.lexer_pieces.proofs.lexer_behind.Given as goal
 
 abbrev pub invariant-loop-at : goal.invariant-loop-at
 invariant-loop-at l = record {
