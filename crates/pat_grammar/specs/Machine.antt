@@ -136,26 +136,51 @@ pub data Naming : Type 0 where
   FromName : (r : ClauseHead) → Naming
 
 -- what is owed; opened and statements are what was open before
+
+-- where a type stands: in a message, in a parameter, or behind the parameters
+pub data TypeFrame : Type 0 where
+  InMessage : (i : Interfacing) → (name : tree.Name) → (payloads : List tree.WrittenType) → TypeFrame
+  InParam : (d : Defining) → (name : tree.Name) → TypeFrame
+  InResult : (d : Defining) → TypeFrame
+
+-- where a pattern stands: in a type, in a guard, or in a bracket
+pub data PatternFrame : Type 0 where
+  InTyped : (name : tree.Name) → (polarity : Polarity) → PatternFrame
+  InGuarded : (mailbox : tree.Name) → (from : ℕ) → PatternFrame
+  InPatternBracket : (p : Before) → (opened : ℕ) → PatternFrame
+
+-- where an expression stands: in a bracket, in a print, among arguments, or as a test
+pub data ExprFrame : Type 0 where
+  InBracket : (p : Pending) → (from opened : ℕ) → ExprFrame
+  InPrint : (from opened : ℕ) → ExprFrame
+  InArgs : (h : Head) → (args : List tree.Expr) → (opened : ℕ) → ExprFrame
+  InTest : (from : ℕ) → ExprFrame
+
+-- a term that is being bound, or the body that follows one
+pub data LetFrame : Type 0 where
+  InBound : (name : tree.Name) → (from : ℕ) → LetFrame
+  InBody : (name : Option tree.Name) → (bound : tree.Term) → (from : ℕ) → LetFrame
+
+-- a term in braces
+pub data BlockFrame : Type 0 where
+  InBlock : (from opened statements : ℕ) → BlockFrame
+  InYes : (test : tree.Expr) → (from opened statements : ℕ) → BlockFrame
+  InNo : (test : tree.Expr) → (yes : tree.Term) → (from opened statements : ℕ) → BlockFrame
+  InSpawn : (from opened statements : ℕ) → BlockFrame
+  InDef : (d : Defining) → (result : tree.WrittenType) → BlockFrame
+
+-- the body of a clause
+pub data ClauseFrame : Type 0 where
+  InFree : (g : Guarding) → (word : tree.Span) → ClauseFrame
+  InReceive : (r : ClauseHead) → (from : tree.Name) → ClauseFrame
+
 pub data Frame : Type 0 where
-  InMessage : (i : Interfacing) → (name : tree.Name) → (payloads : List tree.WrittenType) → Frame
-  InParam : (d : Defining) → (name : tree.Name) → Frame
-  InResult : (d : Defining) → Frame
-  InTyped : (name : tree.Name) → (polarity : Polarity) → Frame
-  InGuarded : (mailbox : tree.Name) → (from : ℕ) → Frame
-  InPatternBracket : (p : Before) → (opened : ℕ) → Frame
-  InBracket : (p : Pending) → (from opened : ℕ) → Frame
-  InPrint : (from opened : ℕ) → Frame
-  InArgs : (h : Head) → (args : List tree.Expr) → (opened : ℕ) → Frame
-  InTest : (from : ℕ) → Frame
-  InBound : (name : tree.Name) → (from : ℕ) → Frame
-  InBody : (name : Option tree.Name) → (bound : tree.Term) → (from : ℕ) → Frame
-  InBlock : (from opened statements : ℕ) → Frame
-  InYes : (test : tree.Expr) → (from opened statements : ℕ) → Frame
-  InNo : (test : tree.Expr) → (yes : tree.Term) → (from opened statements : ℕ) → Frame
-  InSpawn : (from opened statements : ℕ) → Frame
-  InFree : (g : Guarding) → (word : tree.Span) → Frame
-  InReceive : (r : ClauseHead) → (from : tree.Name) → Frame
-  InDef : (d : Defining) → (result : tree.WrittenType) → Frame
+  AtType : (frame : TypeFrame) → Frame
+  AtPattern : (frame : PatternFrame) → Frame
+  AtExpr : (frame : ExprFrame) → Frame
+  AtLet : (frame : LetFrame) → Frame
+  AtBlock : (frame : BlockFrame) → Frame
+  AtGuard : (frame : ClauseFrame) → Frame
 
 -- what may come next
 pub data Control : Type 0 where
@@ -233,17 +258,17 @@ name_at x w = record { text = x; span = w }
 -- ---- types
 
 abbrev pub type_comma : List Frame → ℕ → tree.WrittenType → Move
-type_comma (InMessage i x ps ∷ fs) o a = Goes (state WantType (InMessage i x (ps ++ a ∷ []) ∷ fs) o 0 0)
-type_comma (InParam d x ∷ fs) o a = Goes (state (WantName (ParamName (with_param d x a))) fs o 0 0)
+type_comma (AtType (InMessage i x ps) ∷ fs) o a = Goes (state WantType (AtType (InMessage i x (ps ++ a ∷ [])) ∷ fs) o 0 0)
+type_comma (AtType (InParam d x) ∷ fs) o a = Goes (state (WantName (ParamName (with_param d x a))) fs o 0 0)
 type_comma _ o a = Refused
 
 abbrev pub type_close : List Frame → tree.WrittenType → Move
-type_close (InMessage i x ps ∷ fs) a = Goes (state (AfterMessage (with_message i x (ps ++ a ∷ []))) fs 1 0 0)
-type_close (InParam d x ∷ fs) a = Goes (state (AfterParams (with_param d x a)) fs 0 0 0)
+type_close (AtType (InMessage i x ps) ∷ fs) a = Goes (state (AfterMessage (with_message i x (ps ++ a ∷ []))) fs 1 0 0)
+type_close (AtType (InParam d x) ∷ fs) a = Goes (state (AfterParams (with_param d x a)) fs 0 0 0)
 type_close _ a = Refused
 
 abbrev pub type_open : List Frame → ℕ → tree.WrittenType → Move
-type_open (InResult d ∷ fs) o a = Opens o 0 (state (Start true) (InDef d a ∷ fs) (suc o) 0 0)
+type_open (AtType (InResult d) ∷ fs) o a = Opens o 0 (state (Start true) (AtBlock (InDef d a) ∷ fs) (suc o) 0 0)
 type_open _ o a = Refused
 
 -- behind a type
@@ -264,11 +289,11 @@ want_type fs o c w = base_step fs o (base_named c) w
 
 -- whether the type is a payload's
 abbrev pub is_payload : List Frame → Bool
-is_payload (InMessage i x ps ∷ fs) = true
+is_payload (AtType (InMessage i x ps) ∷ fs) = true
 is_payload _ = false
 
 abbrev pub polarized : Bool → List Frame → ℕ → tree.Name → Polarity → tree.Span → Move
-polarized true fs o x q w = Goes (state (WantPattern none_before) (InTyped x q ∷ fs) o 0 0)
+polarized true fs o x q w = Goes (state (WantPattern none_before) (AtPattern (InTyped x q) ∷ fs) o 0 0)
 polarized false fs o x q w = Goes (state (AfterPolarity x q w.to) fs o 0 0)
 
 abbrev pub after_type_name : List Frame → ℕ → tree.Name → Token → tree.Span → Move
@@ -277,7 +302,7 @@ after_type_name fs o x (Mark mark.Question) w = polarized (is_payload fs) fs o x
 after_type_name fs o x _ w = Refused
 
 abbrev pub payload_none : List Frame → Move
-payload_none (InMessage i x ps ∷ fs) = Goes (state (AfterMessage (with_message i x ps)) fs 1 0 0)
+payload_none (AtType (InMessage i x ps) ∷ fs) = Goes (state (AfterMessage (with_message i x ps)) fs 1 0 0)
 payload_none _ = Refused
 
 abbrev pub first_payload : List Frame → ℕ → Token → tree.Span → Move
@@ -295,24 +320,24 @@ abbrev pub want_pattern : List Frame → ℕ → ℕ → ℕ → Before → Toke
 want_pattern fs o k s p (Name x) w = Goes (state (HavePattern p (tree.TagPattern (name_at x w)) w.to) fs o k s)
 want_pattern fs o k s p (Integer n) w = number_step fs o k s p (constant n w) w
 want_pattern fs o k s p (Mark mark.Star) w = Opens o k (state (WantPattern (record { added = p.added; multiplied = p.multiplied; stars = suc p.stars })) fs o (suc k) s)
-want_pattern fs o k s p (Mark mark.RoundOpen) w = Opens o k (state (WantPattern none_before) (InPatternBracket p o ∷ fs) (suc o) k s)
+want_pattern fs o k s p (Mark mark.RoundOpen) w = Opens o k (state (WantPattern none_before) (AtPattern (InPatternBracket p o) ∷ fs) (suc o) k s)
 want_pattern fs o k s p _ w = Refused
 
 abbrev pub typed_by : tree.Name → Polarity → tree.Pattern → ℕ → tree.WrittenType
 typed_by x q p t = tree.MailboxType x q (Some p) (span x.span.from t)
 
 abbrev pub pattern_close : List Frame → ℕ → ℕ → tree.Pattern → ℕ → tree.Span → Move
-pattern_close (InPatternBracket p o ∷ fs) k s q t w = Goes (state (HavePattern p q w.to) fs o k s)
-pattern_close (InTyped x r ∷ fs) k s q t w = type_close fs (typed_by x r q t)
+pattern_close (AtPattern (InPatternBracket p o) ∷ fs) k s q t w = Goes (state (HavePattern p q w.to) fs o k s)
+pattern_close (AtPattern (InTyped x r) ∷ fs) k s q t w = type_close fs (typed_by x r q t)
 pattern_close _ k s q t w = Refused
 
 abbrev pub pattern_comma : List Frame → ℕ → tree.Pattern → ℕ → Move
-pattern_comma (InTyped x r ∷ fs) o q t = type_comma fs o (typed_by x r q t)
+pattern_comma (AtPattern (InTyped x r) ∷ fs) o q t = type_comma fs o (typed_by x r q t)
 pattern_comma _ o q t = Refused
 
 abbrev pub pattern_open : List Frame → ℕ → ℕ → tree.Pattern → ℕ → Move
-pattern_open (InTyped x r ∷ fs) o s q t = type_open fs o (typed_by x r q t)
-pattern_open (InGuarded x f ∷ fs) o s q t = Opens o 0 (state (AtClause true (record { mailbox = x; pattern = q; from = f; opened = o; inside = suc o; statements = s; clauses = [] })) fs (suc o) 0 s)
+pattern_open (AtPattern (InTyped x r) ∷ fs) o s q t = type_open fs o (typed_by x r q t)
+pattern_open (AtPattern (InGuarded x f) ∷ fs) o s q t = Opens o 0 (state (AtClause true (record { mailbox = x; pattern = q; from = f; opened = o; inside = suc o; statements = s; clauses = [] })) fs (suc o) 0 s)
 pattern_open _ o s q t = Refused
 
 -- behind a factor
@@ -329,14 +354,14 @@ abbrev pub after_polarity : List Frame → ℕ → tree.Name → Polarity → �
 after_polarity fs o x q t (Mark mark.Comma) w = type_comma fs o (tree.MailboxType x q None (span x.span.from t))
 after_polarity fs o x q t (Mark mark.RoundClose) w = type_close fs (tree.MailboxType x q None (span x.span.from t))
 after_polarity fs o x q t (Mark mark.CurlyOpen) w = type_open fs o (tree.MailboxType x q None (span x.span.from t))
-after_polarity fs o x q t c w = want_pattern (InTyped x q ∷ fs) o 0 0 none_before c w
+after_polarity fs o x q t c w = want_pattern (AtPattern (InTyped x q) ∷ fs) o 0 0 none_before c w
 
 -- ---- behind a simple term
 
 -- a term with the bodies that it ends, and what stands below them
 abbrev pub bodies : List Frame → tree.Term → List Frame × tree.Term
 bodies [] m = ([], m)
-bodies (InBody x n f ∷ fs) m = bodies fs (tree.LetTerm x n m (span f (term_at m).to))
+bodies (AtLet (InBody x n f) ∷ fs) m = bodies fs (tree.LetTerm x n m (span f (term_at m).to))
 bodies (g ∷ fs) m = (g ∷ fs, m)
 
 abbrev pub guard_end : Bool → List Frame → Guarding → tree.Span → Move
@@ -359,39 +384,34 @@ receive_of r x m = with_clause r.guard (tree.ReceiveClause r.word r.tag r.names 
 
 -- the body of a clause ends where the next clause begins
 abbrev pub next_clause : List Frame → tree.Term → Token → tree.Span → Move
-next_clause (InFree g a ∷ fs) m c w = clause_step false fs (free_of g a m) c w
-next_clause (InReceive r x ∷ fs) m c w = clause_step false fs (receive_of r x m) c w
+next_clause (AtGuard (InFree g a) ∷ fs) m c w = clause_step false fs (free_of g a m) c w
+next_clause (AtGuard (InReceive r x) ∷ fs) m c w = clause_step false fs (receive_of r x m) c w
 next_clause _ m c w = Refused
 
 -- a closing brace
 abbrev pub block_end : List Frame → tree.Term → tree.Span → Move
-block_end (InBlock f o s ∷ fs) m w = Goes (state (Done m f) fs o 0 s)
-block_end (InYes e f o s ∷ fs) m w = Goes (state (AfterYes e m f) fs o 0 s)
-block_end (InNo e n f o s ∷ fs) m w = Goes (state (Done (tree.IfTerm e n m (span f w.to)) f) fs o 0 s)
-block_end (InSpawn f o s ∷ fs) m w = Goes (state (Done (tree.SpawnTerm m (span f w.to)) f) fs o 0 s)
-block_end (InFree g a ∷ fs) m w = guard_end false fs (free_of g a m) w
-block_end (InReceive r x ∷ fs) m w = guard_end false fs (receive_of r x m) w
-block_end (InDef d a ∷ fs) m w = Goes (state (AtDecl false (d.decls ++ tree.DefDecl d.name d.params a m ∷ [])) fs 0 0 0)
+block_end (AtBlock (InBlock f o s) ∷ fs) m w = Goes (state (Done m f) fs o 0 s)
+block_end (AtBlock (InYes e f o s) ∷ fs) m w = Goes (state (AfterYes e m f) fs o 0 s)
+block_end (AtBlock (InNo e n f o s) ∷ fs) m w = Goes (state (Done (tree.IfTerm e n m (span f w.to)) f) fs o 0 s)
+block_end (AtBlock (InSpawn f o s) ∷ fs) m w = Goes (state (Done (tree.SpawnTerm m (span f w.to)) f) fs o 0 s)
+block_end (AtGuard (InFree g a) ∷ fs) m w = guard_end false fs (free_of g a m) w
+block_end (AtGuard (InReceive r x) ∷ fs) m w = guard_end false fs (receive_of r x m) w
+block_end (AtBlock (InDef d a) ∷ fs) m w = Goes (state (AtDecl false (d.decls ++ tree.DefDecl d.name d.params a m ∷ [])) fs 0 0 0)
 block_end _ m w = Refused
 
 -- a simple term may be followed by a semicolon
 abbrev pub takes_next : List Frame → Bool
-takes_next (InBody x m f ∷ fs) = true
-takes_next (InBlock f o s ∷ fs) = true
-takes_next (InYes e f o s ∷ fs) = true
-takes_next (InNo e m f o s ∷ fs) = true
-takes_next (InSpawn f o s ∷ fs) = true
-takes_next (InFree g a ∷ fs) = true
-takes_next (InReceive r x ∷ fs) = true
-takes_next (InDef d a ∷ fs) = true
+takes_next (AtLet (InBody x m f) ∷ fs) = true
+takes_next (AtBlock b ∷ fs) = true
+takes_next (AtGuard c ∷ fs) = true
 takes_next _ = false
 
 abbrev pub then_next : Bool → List Frame → ℕ → ℕ → tree.Term → ℕ → Move
-then_next true fs o s m f = Starts s (state (Start true) (InBody None m f ∷ fs) o 0 (suc s))
+then_next true fs o s m f = Starts s (state (Start true) (AtLet (InBody None m f) ∷ fs) o 0 (suc s))
 then_next false fs o s m f = Refused
 
 abbrev pub then_in : List Frame → ℕ → ℕ → tree.Term → Move
-then_in (InBound x f ∷ fs) o s m = Starts s (state (Start true) (InBody (Some x) m f ∷ fs) o 0 (suc s))
+then_in (AtLet (InBound x f) ∷ fs) o s m = Starts s (state (Start true) (AtLet (InBody (Some x) m f) ∷ fs) o 0 (suc s))
 then_in _ o s m = Refused
 
 abbrev pub done_step : List Frame → ℕ → ℕ → tree.Term → ℕ → Token → tree.Span → Move
@@ -406,17 +426,17 @@ done_step fs o s m f _ w = Refused
 -- ---- expressions
 
 abbrev pub end_close : List Frame → ℕ → ℕ → Operand → tree.Span → Move
-end_close (InBracket p f o ∷ fs) k s a w = Goes (state (Have p (a.0, f) w.to) fs o k s)
-end_close (InPrint f o ∷ fs) k s a w = Goes (state (Done (tree.PrintTerm a.0 (span f w.to)) f) fs o 0 s)
-end_close (InArgs h es o ∷ fs) k s a w = Goes (state (Done (made h (es ++ a.0 ∷ []) w.to) (head_from h)) fs o 0 s)
+end_close (AtExpr (InBracket p f o) ∷ fs) k s a w = Goes (state (Have p (a.0, f) w.to) fs o k s)
+end_close (AtExpr (InPrint f o) ∷ fs) k s a w = Goes (state (Done (tree.PrintTerm a.0 (span f w.to)) f) fs o 0 s)
+end_close (AtExpr (InArgs h es o) ∷ fs) k s a w = Goes (state (Done (made h (es ++ a.0 ∷ []) w.to) (head_from h)) fs o 0 s)
 end_close _ k s a w = Refused
 
 abbrev pub end_comma : List Frame → ℕ → ℕ → Operand → Move
-end_comma (InArgs h es o1 ∷ fs) o s a = Goes (state (Want nothing) (InArgs h (es ++ a.0 ∷ []) o1 ∷ fs) o 0 s)
+end_comma (AtExpr (InArgs h es o1) ∷ fs) o s a = Goes (state (Want nothing) (AtExpr (InArgs h (es ++ a.0 ∷ []) o1) ∷ fs) o 0 s)
 end_comma _ o s a = Refused
 
 abbrev pub end_open : List Frame → ℕ → ℕ → Operand → Move
-end_open (InTest f ∷ fs) o s a = Opens o 0 (state (Start true) (InYes a.0 f o s ∷ fs) (suc o) 0 s)
+end_open (AtExpr (InTest f) ∷ fs) o s a = Opens o 0 (state (Start true) (AtBlock (InYes a.0 f o s) ∷ fs) (suc o) 0 s)
 end_open _ o s a = Refused
 
 -- behind an expression
@@ -451,11 +471,11 @@ leaf_step fs o k s p None w = Refused
 
 -- where an operand is wanted
 abbrev pub want_step : List Frame → ℕ → ℕ → ℕ → Pending → Token → tree.Span → Move
-want_step fs o k s p (Mark mark.RoundOpen) w = Opens o k (state Opened (InBracket p w.from o ∷ fs) (suc o) k s)
+want_step fs o k s p (Mark mark.RoundOpen) w = Opens o k (state Opened (AtExpr (InBracket p w.from o) ∷ fs) (suc o) k s)
 want_step fs o k s p c w = leaf_step fs o k s p (literal c w) w
 
 abbrev pub opened_close : List Frame → ℕ → ℕ → tree.Span → Move
-opened_close (InBracket p f o ∷ fs) k s w = Goes (state (Have p (tree.UnitExpr (span f w.to), f) w.to) fs o k s)
+opened_close (AtExpr (InBracket p f o) ∷ fs) k s w = Goes (state (Have p (tree.UnitExpr (span f w.to), f) w.to) fs o k s)
 opened_close _ k s w = Refused
 
 abbrev pub opened_step : List Frame → ℕ → ℕ → ℕ → Token → tree.Span → Move
@@ -463,7 +483,7 @@ opened_step fs o k s (Mark mark.RoundClose) w = opened_close fs k s w
 opened_step fs o k s c w = want_step fs o k s nothing c w
 
 abbrev pub first_close : List Frame → ℕ → tree.Span → Move
-first_close (InArgs h es o ∷ fs) s w = Goes (state (Done (made h es w.to) (head_from h)) fs o 0 s)
+first_close (AtExpr (InArgs h es o) ∷ fs) s w = Goes (state (Done (made h es w.to) (head_from h)) fs o 0 s)
 first_close _ s w = Refused
 
 abbrev pub first_step : List Frame → ℕ → ℕ → ℕ → Token → tree.Span → Move
@@ -484,19 +504,19 @@ start_step fs o k s b (Word word.Print) w = Goes (state (AfterPrint w.from) fs o
 start_step fs o k s b (Word word.New) w = Goes (state (AfterNew w.from) fs o 0 s)
 start_step fs o k s b (Word word.Spawn) w = Goes (state (AfterSpawn w.from) fs o 0 s)
 start_step fs o k s b (Word word.Free) w = Goes (state (AfterFree w.from) fs o 0 s)
-start_step fs o k s b (Word word.If) w = Goes (state (Want nothing) (InTest w.from ∷ fs) o 0 s)
+start_step fs o k s b (Word word.If) w = Goes (state (Want nothing) (AtExpr (InTest w.from) ∷ fs) o 0 s)
 start_step fs o k s b (Word word.Guard) w = Goes (state (WantName (GuardName w.from)) fs o 0 s)
-start_step fs o k s b (Mark mark.CurlyOpen) w = Opens o k (state (Start true) (InBlock w.from o s ∷ fs) (suc o) 0 s)
+start_step fs o k s b (Mark mark.CurlyOpen) w = Opens o k (state (Start true) (AtBlock (InBlock w.from o s) ∷ fs) (suc o) 0 s)
 start_step fs o k s b c w = want_step fs o k s nothing c w
 
 -- a name where a term begins
 abbrev pub named_step : List Frame → ℕ → ℕ → ℕ → tree.Name → Token → tree.Span → Move
 named_step fs o k s x (Mark mark.Bang) w = Goes (state (WantName (TagName x)) fs o 0 s)
-named_step fs o k s x (Mark mark.RoundOpen) w = Opens o k (state FirstArg (InArgs (ToCall x) [] o ∷ fs) (suc o) 0 s)
+named_step fs o k s x (Mark mark.RoundOpen) w = Opens o k (state FirstArg (AtExpr (InArgs (ToCall x) [] o) ∷ fs) (suc o) 0 s)
 named_step fs o k s x c w = have_step fs o k s nothing (tree.VarExpr x.text x.span, x.span.from) x.span.to c w
 
 abbrev pub after_print : List Frame → ℕ → ℕ → ℕ → Token → tree.Span → Move
-after_print fs o s f (Mark mark.RoundOpen) w = Opens o 0 (state (Want nothing) (InPrint f o ∷ fs) (suc o) 0 s)
+after_print fs o s f (Mark mark.RoundOpen) w = Opens o 0 (state (Want nothing) (AtExpr (InPrint f o) ∷ fs) (suc o) 0 s)
 after_print fs o s f _ w = Refused
 
 abbrev pub after_new : List Frame → ℕ → ℕ → ℕ → Token → tree.Span → Move
@@ -504,7 +524,7 @@ after_new fs o s f (Mark mark.SquareOpen) w = Opens o 0 (state (WantName (NewNam
 after_new fs o s f _ w = Refused
 
 abbrev pub after_spawn : List Frame → ℕ → ℕ → ℕ → Token → tree.Span → Move
-after_spawn fs o s f (Mark mark.CurlyOpen) w = Opens o 0 (state (Start true) (InSpawn f o s ∷ fs) (suc o) 0 s)
+after_spawn fs o s f (Mark mark.CurlyOpen) w = Opens o 0 (state (Start true) (AtBlock (InSpawn f o s) ∷ fs) (suc o) 0 s)
 after_spawn fs o s f _ w = Refused
 
 abbrev pub after_free : List Frame → ℕ → ℕ → ℕ → Token → tree.Span → Move
@@ -516,11 +536,11 @@ after_yes fs o s e m f (Word word.Else) w = Goes (state (AfterElse e m f) fs o 0
 after_yes fs o s e m f _ w = Refused
 
 abbrev pub after_else : List Frame → ℕ → ℕ → tree.Expr → tree.Term → ℕ → Token → tree.Span → Move
-after_else fs o s e m f (Mark mark.CurlyOpen) w = Opens o 0 (state (Start true) (InNo e m f o s ∷ fs) (suc o) 0 s)
+after_else fs o s e m f (Mark mark.CurlyOpen) w = Opens o 0 (state (Start true) (AtBlock (InNo e m f o s) ∷ fs) (suc o) 0 s)
 after_else fs o s e m f _ w = Refused
 
 abbrev pub after_free_word : List Frame → ℕ → ℕ → Guarding → tree.Span → Token → tree.Span → Move
-after_free_word fs o s g a (Mark mark.Arrow) w = Goes (state (Start true) (InFree g a ∷ fs) o 0 s)
+after_free_word fs o s g a (Mark mark.Arrow) w = Goes (state (Start true) (AtGuard (InFree g a) ∷ fs) o 0 s)
 after_free_word fs o s g a _ w = Refused
 
 abbrev pub first_binder : List Frame → ℕ → ℕ → ClauseHead → Token → tree.Span → Move
@@ -550,7 +570,7 @@ first_param fs o d (Mark mark.RoundClose) w = Goes (state (AfterParams d) fs 0 0
 first_param fs o d _ w = Refused
 
 abbrev pub after_params : List Frame → ℕ → Defining → Token → tree.Span → Move
-after_params fs o d (Mark mark.Colon) w = Goes (state WantType (InResult d ∷ fs) o 0 0)
+after_params fs o d (Mark mark.Colon) w = Goes (state WantType (AtType (InResult d) ∷ fs) o 0 0)
 after_params fs o d _ w = Refused
 
 -- ---- names
@@ -564,7 +584,7 @@ interface_named fs o ds x (Mark mark.CurlyOpen) w = Opens o 0 (state (WantName (
 interface_named fs o ds x _ w = Refused
 
 abbrev pub message_named : List Frame → ℕ → Interfacing → tree.Name → Token → tree.Span → Move
-message_named fs o i x (Mark mark.RoundOpen) w = Opens o 0 (state FirstPayload (InMessage i x [] ∷ fs) (suc o) 0 0)
+message_named fs o i x (Mark mark.RoundOpen) w = Opens o 0 (state FirstPayload (AtType (InMessage i x []) ∷ fs) (suc o) 0 0)
 message_named fs o i x _ w = Refused
 
 abbrev pub function_named : List Frame → ℕ → List tree.Decl → tree.Name → Token → tree.Span → Move
@@ -572,11 +592,11 @@ function_named fs o ds x (Mark mark.RoundOpen) w = Opens o 0 (state (FirstParam 
 function_named fs o ds x _ w = Refused
 
 abbrev pub param_named : List Frame → ℕ → Defining → tree.Name → Token → tree.Span → Move
-param_named fs o d x (Mark mark.Colon) w = Goes (state WantType (InParam d x ∷ fs) o 0 0)
+param_named fs o d x (Mark mark.Colon) w = Goes (state WantType (AtType (InParam d x) ∷ fs) o 0 0)
 param_named fs o d x _ w = Refused
 
 abbrev pub let_named : List Frame → ℕ → ℕ → ℕ → tree.Name → Token → tree.Span → Move
-let_named fs o s f x (Mark mark.Equals) w = Goes (state (Start false) (InBound x f ∷ fs) o 0 s)
+let_named fs o s f x (Mark mark.Equals) w = Goes (state (Start false) (AtLet (InBound x f) ∷ fs) o 0 s)
 let_named fs o s f x _ w = Refused
 
 abbrev pub new_named : List Frame → ℕ → ℕ → ℕ → tree.Name → Token → tree.Span → Move
@@ -588,11 +608,11 @@ free_named fs s f o x (Mark mark.RoundClose) w = Goes (state (Done (tree.FreeTer
 free_named fs s f o x _ w = Refused
 
 abbrev pub guard_named : List Frame → ℕ → ℕ → ℕ → tree.Name → Token → tree.Span → Move
-guard_named fs o s f x (Mark mark.Colon) w = Goes (state (WantPattern none_before) (InGuarded x f ∷ fs) o 0 s)
+guard_named fs o s f x (Mark mark.Colon) w = Goes (state (WantPattern none_before) (AtPattern (InGuarded x f) ∷ fs) o 0 s)
 guard_named fs o s f x _ w = Refused
 
 abbrev pub tag_named : List Frame → ℕ → ℕ → tree.Name → tree.Name → Token → tree.Span → Move
-tag_named fs o s x y (Mark mark.RoundOpen) w = Opens o 0 (state FirstArg (InArgs (ToSend x y) [] o ∷ fs) (suc o) 0 s)
+tag_named fs o s x y (Mark mark.RoundOpen) w = Opens o 0 (state FirstArg (AtExpr (InArgs (ToSend x y) [] o) ∷ fs) (suc o) 0 s)
 tag_named fs o s x y _ w = Refused
 
 abbrev pub receive_named : List Frame → ℕ → ℕ → Guarding → tree.Span → tree.Name → Token → tree.Span → Move
@@ -605,7 +625,7 @@ binder_named fs o s r x (Mark mark.RoundClose) w = Goes (state (AfterBinders (wi
 binder_named fs o s r x _ w = Refused
 
 abbrev pub from_named : List Frame → ℕ → ℕ → ClauseHead → tree.Name → Token → tree.Span → Move
-from_named fs o s r x (Mark mark.Arrow) w = Goes (state (Start true) (InReceive r x ∷ fs) o 0 s)
+from_named fs o s r x (Mark mark.Arrow) w = Goes (state (Start true) (AtGuard (InReceive r x) ∷ fs) o 0 s)
 from_named fs o s r x _ w = Refused
 
 -- behind a name that was wanted

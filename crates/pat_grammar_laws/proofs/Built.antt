@@ -10,7 +10,7 @@ use Rattle.pat_grammar.specs.Trees as tree
 use Rattle.pat_grammar.specs.Trees.{span, operators, pattern_operators}
 use Rattle.pat_grammar.specs.Items.{At, Item, place_of, named, Limits, Room, RoomBelow, additive, comparison, polarity_of}
 use Rattle.pat_grammar.specs.Grammar.{Level, Atom, Product, Sum, Whole, Operand, Expr, Pattern, Separated, Optional, Arg, Binder, Simple, Any, Term, Clauses, WrittenType, Message, Param, Decls}
-use Rattle.pat_grammar.specs.Machine.{Pending, Before, Head, ToCall, ToSend, Guarding, ClauseHead, Interfacing, Defining, Naming, InterfaceName, MessageName, FunctionName, ParamName, LetName, NewName, FreeName, GuardName, TagName, ReceiveName, BinderName, FromName, Frame, InMessage, InParam, InResult, InTyped, InGuarded, InPatternBracket, InBracket, InPrint, InArgs, InTest, InBound, InBody, InBlock, InYes, InNo, InSpawn, InFree, InReceive, InDef, AtDecl, WantName, GotName, FirstPayload, AfterMessage, FirstParam, AfterParams, WantType, AfterTypeName, AfterPolarity, HaveType, WantPattern, HavePattern, Start, Named, AfterPrint, AfterNew, AfterSpawn, AfterFree, AfterYes, AfterElse, AtClause, AfterFreeWord, FirstBinder, AfterBinders, FirstArg, Opened, Want, Have, Done, State, state}
+use Rattle.pat_grammar.specs.Machine.{Pending, Before, Head, ToCall, ToSend, Guarding, ClauseHead, Interfacing, Defining, Naming, InterfaceName, MessageName, FunctionName, ParamName, LetName, NewName, FreeName, GuardName, TagName, ReceiveName, BinderName, FromName, Frame, AtType, AtPattern, AtExpr, AtLet, AtBlock, AtGuard, InMessage, InParam, InResult, InTyped, InGuarded, InPatternBracket, InBracket, InPrint, InArgs, InTest, InBound, InBody, InBlock, InYes, InNo, InSpawn, InFree, InReceive, InDef, AtDecl, WantName, GotName, FirstPayload, AfterMessage, FirstParam, AfterParams, WantType, AfterTypeName, AfterPolarity, HaveType, WantPattern, HavePattern, Start, Named, AfterPrint, AfterNew, AfterSpawn, AfterFree, AfterYes, AfterElse, AtClause, AfterFreeWord, FirstBinder, AfterBinders, FirstArg, Opened, Want, Have, Done, State, state}
 use Rattle.pat_grammar_laws.proofs.CompleteTerm.{guarding, head}
 use Rattle.pat_grammar_laws.proofs.CompleteDecl.{interfacing, defining}
 
@@ -104,28 +104,28 @@ pub data Kind : Type 0 where
 mutual
   -- with these frames, brackets, operators and statements open, a part of the kind is wanted
   pub data Under (lim : Limits) : Kind → List Frame → ℕ → ℕ → ℕ → List Item → List Item → Type 0 where
-    in_message : {i : Interfacing} {x : List ℕ} {w v : At} {all us ts : List Item} {ps : List tree.WrittenType} → InterfaceBegun lim i all ((Name x, w) ∷ (Mark mark.RoundOpen, v) ∷ us) → Room lim v 1 0 → Followed (WrittenType lim 2 true) us ps ts → Under lim (ForType true) (InMessage i (named x w) ps ∷ []) 2 0 0 all ts
-    in_param : {d : Defining} {x : List ℕ} {w c : At} {all ts : List Item} → DefBegun lim d all ((Name x, w) ∷ (Mark mark.Colon, c) ∷ ts) → Under lim (ForType false) (InParam d (named x w) ∷ []) 1 0 0 all ts
-    in_result : {d : Defining} {c : At} {all ts : List Item} → DefHead lim d all ((Mark mark.Colon, c) ∷ ts) → Under lim (ForType false) (InResult d ∷ []) 0 0 0 all ts
-    in_typed : {b : Bool} {fs : List Frame} {o : ℕ} {x : List ℕ} {c : Token} {q : Polarity} {w v : At} {all ts : List Item} → Under lim (ForType b) fs o 0 0 all ((Name x, w) ∷ (c, v) ∷ ts) → polarity_of c ≡ Some q → Under lim ForPattern (InTyped (named x w) q ∷ fs) o 0 0 all ts
-    in_guarded : {fs : List Frame} {o s : ℕ} {x : List ℕ} {w n c : At} {all ts : List Item} → Under lim ForSimple fs o 0 s all ((Word word.Guard, w) ∷ (Name x, n) ∷ (Mark mark.Colon, c) ∷ ts) → Under lim ForPattern (InGuarded (named x n) w.from ∷ fs) o 0 s all ts
-    in_pattern_bracket : {fs : List Frame} {o k0 k s : ℕ} {p : Before} {w : At} {all ts us : List Item} → Under lim ForPattern fs o k0 s all ts → PatternPends lim o k0 p ts ((Mark mark.RoundOpen, w) ∷ us) k → Room lim w o k → Under lim ForPattern (InPatternBracket p o ∷ fs) (suc o) k s all us
-    in_bracket : {fs : List Frame} {o k0 k s : ℕ} {p : Pending} {w : At} {all ts us : List Item} → Under lim ForExpr fs o k0 s all ts → Pends lim o k0 p ts ((Mark mark.RoundOpen, w) ∷ us) k → Room lim w o k → Under lim ForExpr (InBracket p w.from o ∷ fs) (suc o) k s all us
-    in_print : {fs : List Frame} {o s : ℕ} {w v : At} {all ts : List Item} → Under lim ForSimple fs o 0 s all ((Word word.Print, w) ∷ (Mark mark.RoundOpen, v) ∷ ts) → Room lim v o 0 → Under lim ForExpr (InPrint w.from o ∷ fs) (suc o) 0 s all ts
-    in_args : {fs : List Frame} {o s : ℕ} {h : Head} {es : List tree.Expr} {v : At} {all ts us vs : List Item} → Under lim ForSimple fs o 0 s all ts → HeadRead h ts ((Mark mark.RoundOpen, v) ∷ us) → Room lim v o 0 → Followed (Arg lim (suc o)) us es vs → Under lim ForExpr (InArgs h es o ∷ fs) (suc o) 0 s all vs
-    in_test : {fs : List Frame} {o s : ℕ} {w : At} {all ts : List Item} → Under lim ForSimple fs o 0 s all ((Word word.If, w) ∷ ts) → Under lim ForExpr (InTest w.from ∷ fs) o 0 s all ts
+    in_message : {i : Interfacing} {x : List ℕ} {w v : At} {all us ts : List Item} {ps : List tree.WrittenType} → InterfaceBegun lim i all ((Name x, w) ∷ (Mark mark.RoundOpen, v) ∷ us) → Room lim v 1 0 → Followed (WrittenType lim 2 true) us ps ts → Under lim (ForType true) (AtType (InMessage i (named x w) ps) ∷ []) 2 0 0 all ts
+    in_param : {d : Defining} {x : List ℕ} {w c : At} {all ts : List Item} → DefBegun lim d all ((Name x, w) ∷ (Mark mark.Colon, c) ∷ ts) → Under lim (ForType false) (AtType (InParam d (named x w)) ∷ []) 1 0 0 all ts
+    in_result : {d : Defining} {c : At} {all ts : List Item} → DefHead lim d all ((Mark mark.Colon, c) ∷ ts) → Under lim (ForType false) (AtType (InResult d) ∷ []) 0 0 0 all ts
+    in_typed : {b : Bool} {fs : List Frame} {o : ℕ} {x : List ℕ} {c : Token} {q : Polarity} {w v : At} {all ts : List Item} → Under lim (ForType b) fs o 0 0 all ((Name x, w) ∷ (c, v) ∷ ts) → polarity_of c ≡ Some q → Under lim ForPattern (AtPattern (InTyped (named x w) q) ∷ fs) o 0 0 all ts
+    in_guarded : {fs : List Frame} {o s : ℕ} {x : List ℕ} {w n c : At} {all ts : List Item} → Under lim ForSimple fs o 0 s all ((Word word.Guard, w) ∷ (Name x, n) ∷ (Mark mark.Colon, c) ∷ ts) → Under lim ForPattern (AtPattern (InGuarded (named x n) w.from) ∷ fs) o 0 s all ts
+    in_pattern_bracket : {fs : List Frame} {o k0 k s : ℕ} {p : Before} {w : At} {all ts us : List Item} → Under lim ForPattern fs o k0 s all ts → PatternPends lim o k0 p ts ((Mark mark.RoundOpen, w) ∷ us) k → Room lim w o k → Under lim ForPattern (AtPattern (InPatternBracket p o) ∷ fs) (suc o) k s all us
+    in_bracket : {fs : List Frame} {o k0 k s : ℕ} {p : Pending} {w : At} {all ts us : List Item} → Under lim ForExpr fs o k0 s all ts → Pends lim o k0 p ts ((Mark mark.RoundOpen, w) ∷ us) k → Room lim w o k → Under lim ForExpr (AtExpr (InBracket p w.from o) ∷ fs) (suc o) k s all us
+    in_print : {fs : List Frame} {o s : ℕ} {w v : At} {all ts : List Item} → Under lim ForSimple fs o 0 s all ((Word word.Print, w) ∷ (Mark mark.RoundOpen, v) ∷ ts) → Room lim v o 0 → Under lim ForExpr (AtExpr (InPrint w.from o) ∷ fs) (suc o) 0 s all ts
+    in_args : {fs : List Frame} {o s : ℕ} {h : Head} {es : List tree.Expr} {v : At} {all ts us vs : List Item} → Under lim ForSimple fs o 0 s all ts → HeadRead h ts ((Mark mark.RoundOpen, v) ∷ us) → Room lim v o 0 → Followed (Arg lim (suc o)) us es vs → Under lim ForExpr (AtExpr (InArgs h es o) ∷ fs) (suc o) 0 s all vs
+    in_test : {fs : List Frame} {o s : ℕ} {w : At} {all ts : List Item} → Under lim ForSimple fs o 0 s all ((Word word.If, w) ∷ ts) → Under lim ForExpr (AtExpr (InTest w.from) ∷ fs) o 0 s all ts
     as_value : {fs : List Frame} {o s : ℕ} {all ts : List Item} → Under lim ForSimple fs o 0 s all ts → Under lim ForExpr fs o 0 s all ts
-    in_bound : {fs : List Frame} {o s : ℕ} {x : List ℕ} {w n c : At} {all ts : List Item} → Under lim ForAny fs o 0 s all ((Word word.Let, w) ∷ (Name x, n) ∷ (Mark mark.Equals, c) ∷ ts) → Under lim ForSimple (InBound (named x n) w.from ∷ fs) o 0 s all ts
+    in_bound : {fs : List Frame} {o s : ℕ} {x : List ℕ} {w n c : At} {all ts : List Item} → Under lim ForAny fs o 0 s all ((Word word.Let, w) ∷ (Name x, n) ∷ (Mark mark.Equals, c) ∷ ts) → Under lim ForSimple (AtLet (InBound (named x n) w.from) ∷ fs) o 0 s all ts
     as_simple : {fs : List Frame} {o s : ℕ} {all ts : List Item} → Under lim ForAny fs o 0 s all ts → Under lim ForSimple fs o 0 s all ts
-    in_then : {fs : List Frame} {o s f : ℕ} {w : At} {all ts us : List Item} {m : tree.Term} → Under lim ForAny fs o 0 s all ts → Term lim o s Simple ts m f ((Mark mark.Semicolon, w) ∷ us) → RoomBelow lim w s → Under lim ForAny (InBody None m f ∷ fs) o 0 (suc s) all us
-    in_body : {fs : List Frame} {o s f : ℕ} {x : List ℕ} {w n c i : At} {all ts us : List Item} {m : tree.Term} → Under lim ForAny fs o 0 s all ((Word word.Let, w) ∷ (Name x, n) ∷ (Mark mark.Equals, c) ∷ ts) → Term lim o s Simple ts m f ((Word word.In, i) ∷ us) → RoomBelow lim i s → Under lim ForAny (InBody (Some (named x n)) m w.from ∷ fs) o 0 (suc s) all us
-    in_block : {fs : List Frame} {o s : ℕ} {w : At} {all ts : List Item} → Under lim ForSimple fs o 0 s all ((Mark mark.CurlyOpen, w) ∷ ts) → Room lim w o 0 → Under lim ForAny (InBlock w.from o s ∷ fs) (suc o) 0 s all ts
-    in_yes : {fs : List Frame} {o s t : ℕ} {w v : At} {all ts us : List Item} {a : Operand} → Under lim ForSimple fs o 0 s all ((Word word.If, w) ∷ ts) → Expr lim o 0 Whole ts a t ((Mark mark.CurlyOpen, v) ∷ us) → Room lim v o 0 → Under lim ForAny (InYes a.0 w.from o s ∷ fs) (suc o) 0 s all us
-    in_no : {fs : List Frame} {o s t f : ℕ} {w v c l d : At} {all ts us vs : List Item} {a : Operand} {m : tree.Term} → Under lim ForSimple fs o 0 s all ((Word word.If, w) ∷ ts) → Expr lim o 0 Whole ts a t ((Mark mark.CurlyOpen, v) ∷ us) → Room lim v o 0 → Term lim (suc o) s Any us m f ((Mark mark.CurlyClose, c) ∷ (Word word.Else, l) ∷ (Mark mark.CurlyOpen, d) ∷ vs) → Room lim d o 0 → Under lim ForAny (InNo a.0 m w.from o s ∷ fs) (suc o) 0 s all vs
-    in_spawn : {fs : List Frame} {o s : ℕ} {w v : At} {all ts : List Item} → Under lim ForSimple fs o 0 s all ((Word word.Spawn, w) ∷ (Mark mark.CurlyOpen, v) ∷ ts) → Room lim v o 0 → Under lim ForAny (InSpawn w.from o s ∷ fs) (suc o) 0 s all ts
-    in_free : {b : Bool} {g : Guarding} {fs : List Frame} {w a : At} {all ts : List Item} → GuardRead lim b g fs all ((Word word.Free, w) ∷ (Mark mark.Arrow, a) ∷ ts) → Under lim ForAny (InFree g (place_of w) ∷ fs) g.inside 0 g.statements all ts
-    in_receive : {b : Bool} {g : Guarding} {fs : List Frame} {x y : List ℕ} {ns : List tree.Name} {w n v z r h a : At} {all us ts : List Item} → GuardRead lim b g fs all ((Word word.Receive, w) ∷ (Name x, n) ∷ (Mark mark.RoundOpen, v) ∷ us) → Room lim v g.inside 0 → Optional Binder us ns ((Mark mark.RoundClose, z) ∷ (Word word.From, r) ∷ (Name y, h) ∷ (Mark mark.Arrow, a) ∷ ts) → Under lim ForAny (InReceive (head g (place_of w) (named x n) ns) (named y h) ∷ fs) g.inside 0 g.statements all ts
-    in_def : {d : Defining} {r : tree.WrittenType} {c v : At} {all us ts : List Item} → DefHead lim d all ((Mark mark.Colon, c) ∷ us) → WrittenType lim 0 false us r ((Mark mark.CurlyOpen, v) ∷ ts) → Room lim v 0 0 → Under lim ForAny (InDef d r ∷ []) 1 0 0 all ts
+    in_then : {fs : List Frame} {o s f : ℕ} {w : At} {all ts us : List Item} {m : tree.Term} → Under lim ForAny fs o 0 s all ts → Term lim o s Simple ts m f ((Mark mark.Semicolon, w) ∷ us) → RoomBelow lim w s → Under lim ForAny (AtLet (InBody None m f) ∷ fs) o 0 (suc s) all us
+    in_body : {fs : List Frame} {o s f : ℕ} {x : List ℕ} {w n c i : At} {all ts us : List Item} {m : tree.Term} → Under lim ForAny fs o 0 s all ((Word word.Let, w) ∷ (Name x, n) ∷ (Mark mark.Equals, c) ∷ ts) → Term lim o s Simple ts m f ((Word word.In, i) ∷ us) → RoomBelow lim i s → Under lim ForAny (AtLet (InBody (Some (named x n)) m w.from) ∷ fs) o 0 (suc s) all us
+    in_block : {fs : List Frame} {o s : ℕ} {w : At} {all ts : List Item} → Under lim ForSimple fs o 0 s all ((Mark mark.CurlyOpen, w) ∷ ts) → Room lim w o 0 → Under lim ForAny (AtBlock (InBlock w.from o s) ∷ fs) (suc o) 0 s all ts
+    in_yes : {fs : List Frame} {o s t : ℕ} {w v : At} {all ts us : List Item} {a : Operand} → Under lim ForSimple fs o 0 s all ((Word word.If, w) ∷ ts) → Expr lim o 0 Whole ts a t ((Mark mark.CurlyOpen, v) ∷ us) → Room lim v o 0 → Under lim ForAny (AtBlock (InYes a.0 w.from o s) ∷ fs) (suc o) 0 s all us
+    in_no : {fs : List Frame} {o s t f : ℕ} {w v c l d : At} {all ts us vs : List Item} {a : Operand} {m : tree.Term} → Under lim ForSimple fs o 0 s all ((Word word.If, w) ∷ ts) → Expr lim o 0 Whole ts a t ((Mark mark.CurlyOpen, v) ∷ us) → Room lim v o 0 → Term lim (suc o) s Any us m f ((Mark mark.CurlyClose, c) ∷ (Word word.Else, l) ∷ (Mark mark.CurlyOpen, d) ∷ vs) → Room lim d o 0 → Under lim ForAny (AtBlock (InNo a.0 m w.from o s) ∷ fs) (suc o) 0 s all vs
+    in_spawn : {fs : List Frame} {o s : ℕ} {w v : At} {all ts : List Item} → Under lim ForSimple fs o 0 s all ((Word word.Spawn, w) ∷ (Mark mark.CurlyOpen, v) ∷ ts) → Room lim v o 0 → Under lim ForAny (AtBlock (InSpawn w.from o s) ∷ fs) (suc o) 0 s all ts
+    in_free : {b : Bool} {g : Guarding} {fs : List Frame} {w a : At} {all ts : List Item} → GuardRead lim b g fs all ((Word word.Free, w) ∷ (Mark mark.Arrow, a) ∷ ts) → Under lim ForAny (AtGuard (InFree g (place_of w)) ∷ fs) g.inside 0 g.statements all ts
+    in_receive : {b : Bool} {g : Guarding} {fs : List Frame} {x y : List ℕ} {ns : List tree.Name} {w n v z r h a : At} {all us ts : List Item} → GuardRead lim b g fs all ((Word word.Receive, w) ∷ (Name x, n) ∷ (Mark mark.RoundOpen, v) ∷ us) → Room lim v g.inside 0 → Optional Binder us ns ((Mark mark.RoundClose, z) ∷ (Word word.From, r) ∷ (Name y, h) ∷ (Mark mark.Arrow, a) ∷ ts) → Under lim ForAny (AtGuard (InReceive (head g (place_of w) (named x n) ns) (named y h)) ∷ fs) g.inside 0 g.statements all ts
+    in_def : {d : Defining} {r : tree.WrittenType} {c v : At} {all us ts : List Item} → DefHead lim d all ((Mark mark.Colon, c) ∷ us) → WrittenType lim 0 false us r ((Mark mark.CurlyOpen, v) ∷ ts) → Room lim v 0 0 → Under lim ForAny (AtBlock (InDef d r) ∷ []) 1 0 0 all ts
 
   -- a guard with its clauses so far
   pub data GuardRead (lim : Limits) : Bool → Guarding → List Frame → List Item → List Item → Type 0 where
@@ -160,7 +160,7 @@ pub data Built (lim : Limits) : State → List Item → List Item → Type 0 whe
   at_decl : {b : Bool} {all us : List Item} {ds : List tree.Decl} → Decls lim b all ds us → Built lim (state (AtDecl (not b) ds) [] 0 0 0) all us
   at_want_name : {what : Naming} {fs : List Frame} {o s : ℕ} {all us : List Item} → Wants lim what fs o s all us → Built lim (state (WantName what) fs o 0 s) all us
   at_got_name : {what : Naming} {fs : List Frame} {o s : ℕ} {x : List ℕ} {n : At} {all us : List Item} → Wants lim what fs o s all ((Name x, n) ∷ us) → Built lim (state (GotName what (named x n)) fs o 0 s) all us
-  at_first_payload : {i : Interfacing} {x : List ℕ} {w v : At} {all us : List Item} → InterfaceBegun lim i all ((Name x, w) ∷ (Mark mark.RoundOpen, v) ∷ us) → Room lim v 1 0 → Built lim (state FirstPayload (InMessage i (named x w) [] ∷ []) 2 0 0) all us
+  at_first_payload : {i : Interfacing} {x : List ℕ} {w v : At} {all us : List Item} → InterfaceBegun lim i all ((Name x, w) ∷ (Mark mark.RoundOpen, v) ∷ us) → Room lim v 1 0 → Built lim (state FirstPayload (AtType (InMessage i (named x w) []) ∷ []) 2 0 0) all us
   at_after_message : {i : Interfacing} {all us : List Item} → InterfaceRead lim i all us → Built lim (state (AfterMessage i) [] 1 0 0) all us
   at_first_param : {b : Bool} {x : List ℕ} {w n v : At} {all us : List Item} {ds : List tree.Decl} → Decls lim b all ds ((Word word.Def, w) ∷ (Name x, n) ∷ (Mark mark.RoundOpen, v) ∷ us) → Room lim v 0 0 → Built lim (state (FirstParam (defining ds (named x n) [])) [] 1 0 0) all us
   at_after_params : {d : Defining} {all us : List Item} → DefHead lim d all us → Built lim (state (AfterParams d) [] 0 0 0) all us
@@ -183,8 +183,8 @@ pub data Built (lim : Limits) : State → List Item → List Item → Type 0 whe
   at_free_word : {b : Bool} {g : Guarding} {fs : List Frame} {w : At} {all us : List Item} → GuardRead lim b g fs all ((Word word.Free, w) ∷ us) → Built lim (state (AfterFreeWord g (place_of w)) fs g.inside 0 g.statements) all us
   at_first_binder : {b : Bool} {g : Guarding} {fs : List Frame} {x : List ℕ} {w n v : At} {all us : List Item} → GuardRead lim b g fs all ((Word word.Receive, w) ∷ (Name x, n) ∷ (Mark mark.RoundOpen, v) ∷ us) → Room lim v g.inside 0 → Built lim (state (FirstBinder (head g (place_of w) (named x n) [])) fs (suc g.inside) 0 g.statements) all us
   at_after_binders : {r : ClauseHead} {fs : List Frame} {all us : List Item} → ReceiveRead lim r fs all us → Built lim (state (AfterBinders r) fs r.guard.inside 0 r.guard.statements) all us
-  at_first_arg : {fs : List Frame} {o s : ℕ} {h : Head} {v : At} {all ts us : List Item} → Under lim ForSimple fs o 0 s all ts → HeadRead h ts ((Mark mark.RoundOpen, v) ∷ us) → Room lim v o 0 → Built lim (state FirstArg (InArgs h [] o ∷ fs) (suc o) 0 s) all us
-  at_opened : {fs : List Frame} {o k0 k s : ℕ} {p : Pending} {w : At} {all ts us : List Item} → Under lim ForExpr fs o k0 s all ts → Pends lim o k0 p ts ((Mark mark.RoundOpen, w) ∷ us) k → Room lim w o k → Built lim (state Opened (InBracket p w.from o ∷ fs) (suc o) k s) all us
+  at_first_arg : {fs : List Frame} {o s : ℕ} {h : Head} {v : At} {all ts us : List Item} → Under lim ForSimple fs o 0 s all ts → HeadRead h ts ((Mark mark.RoundOpen, v) ∷ us) → Room lim v o 0 → Built lim (state FirstArg (AtExpr (InArgs h [] o) ∷ fs) (suc o) 0 s) all us
+  at_opened : {fs : List Frame} {o k0 k s : ℕ} {p : Pending} {w : At} {all ts us : List Item} → Under lim ForExpr fs o k0 s all ts → Pends lim o k0 p ts ((Mark mark.RoundOpen, w) ∷ us) k → Room lim w o k → Built lim (state Opened (AtExpr (InBracket p w.from o) ∷ fs) (suc o) k s) all us
   at_want : {fs : List Frame} {o k0 k s : ℕ} {p : Pending} {all ts us : List Item} → Under lim ForExpr fs o k0 s all ts → Pends lim o k0 p ts us k → Built lim (state (Want p) fs o k s) all us
   at_have : {fs : List Frame} {o k0 k1 k s t : ℕ} {p : Pending} {a : Operand} {all ts us vs : List Item} → Under lim ForExpr fs o k0 s all ts → Pends lim o k0 p ts us k1 → Is lim o k1 Atom us a t vs k → Built lim (state (Have p a t) fs o k s) all vs
   at_done : {fs : List Frame} {o s f : ℕ} {all ts us : List Item} {m : tree.Term} → Under lim ForSimple fs o 0 s all ts → Term lim o s Simple ts m f us → Built lim (state (Done m f) fs o 0 s) all us

@@ -10,7 +10,7 @@ use Rattle.pat_grammar.specs.Trees.{span, pattern_operators}
 use Rattle.pat_grammar.specs.Items.{At, Item, place_of, named, Limits, base_named, polarity_of}
 use Rattle.pat_grammar.specs.Grammar.{Level, Whole, Pattern, Separated, one, more, Optional, none, some, WrittenType, base, mailbox, short, Message, message, Param, param, Decls, no_decl, interface, function, Spells}
 use Rattle.pat_grammar.specs.Grammar as grammar
-use Rattle.pat_grammar.specs.Machine.{Before, none_before, whole_in, Interfacing, with_message, Defining, with_param, InterfaceName, MessageName, FunctionName, ParamName, Frame, InMessage, InParam, InResult, InTyped, InDef, AtDecl, WantName, GotName, FirstPayload, AfterMessage, FirstParam, AfterParams, WantType, AfterTypeName, AfterPolarity, HaveType, WantPattern, HavePattern, Start, State, state, Next, settle, type_step, type_comma, type_close, type_open, base_step, want_type, is_payload, polarized, after_type_name, step, run, begin, finish}
+use Rattle.pat_grammar.specs.Machine.{Before, none_before, whole_in, Interfacing, with_message, Defining, with_param, InterfaceName, MessageName, FunctionName, ParamName, Frame, AtType, AtPattern, AtBlock, InMessage, InParam, InResult, InTyped, InDef, AtDecl, WantName, GotName, FirstPayload, AfterMessage, FirstParam, AfterParams, WantType, AfterTypeName, AfterPolarity, HaveType, WantPattern, HavePattern, Start, State, state, Next, settle, type_step, type_comma, type_close, type_open, base_step, want_type, is_payload, polarized, after_type_name, step, run, begin, finish}
 use Rattle.pat_grammar_laws.proofs.Runs.{run_step, open_run}
 use Rattle.pat_grammar_laws.proofs.CompletePattern.{patterns}
 use Rattle.pat_grammar_laws.proofs.CompleteTerm.{terms, closed}
@@ -52,14 +52,14 @@ pattern_begins (grammar.Pattern.dot d room f) = pattern_begins d
 pattern_begins (grammar.Pattern.product d) = pattern_begins d
 pattern_begins (grammar.Pattern.plus d room f) = pattern_begins d
 
-polarity_run : (lim : Limits) (fs : List Frame) (o : ℕ) (x : tree.Name) (q : Polarity) (t : ℕ) (ts : List Item) → begins_pattern ts ≡ true → run lim (state (AfterPolarity x q t) fs o 0 0) ts ≡ run lim (state (WantPattern none_before) (InTyped x q ∷ fs) o 0 0) ts
+polarity_run : (lim : Limits) (fs : List Frame) (o : ℕ) (x : tree.Name) (q : Polarity) (t : ℕ) (ts : List Item) → begins_pattern ts ≡ true → run lim (state (AfterPolarity x q t) fs o 0 0) ts ≡ run lim (state (WantPattern none_before) (AtPattern (InTyped x q) ∷ fs) o 0 0) ts
 polarity_run lim fs o x q t [] h = absurd cc
 polarity_run lim fs o x q t ((Mark mark.Comma, w) ∷ ts) h = absurd cc
 polarity_run lim fs o x q t ((Mark mark.RoundClose, w) ∷ ts) h = absurd cc
 polarity_run lim fs o x q t ((Mark mark.CurlyOpen, w) ∷ ts) h = absurd cc
 polarity_run lim fs o x q t ((_, w) ∷ ts) h = refl
 
-polarized_run : (lim : Limits) (b : Bool) (fs : List Frame) (o : ℕ) (x : tree.Name) (c : Token) (q : Polarity) (w : At) (ts : List Item) → polarity_of c ≡ Some q → is_payload fs ≡ b → begins_pattern ts ≡ true → run lim (state (AfterTypeName x) fs o 0 0) ((c, w) ∷ ts) ≡ run lim (state (WantPattern none_before) (InTyped x q ∷ fs) o 0 0) ts
+polarized_run : (lim : Limits) (b : Bool) (fs : List Frame) (o : ℕ) (x : tree.Name) (c : Token) (q : Polarity) (w : At) (ts : List Item) → polarity_of c ≡ Some q → is_payload fs ≡ b → begins_pattern ts ≡ true → run lim (state (AfterTypeName x) fs o 0 0) ((c, w) ∷ ts) ≡ run lim (state (WantPattern none_before) (AtPattern (InTyped x q) ∷ fs) o 0 0) ts
 polarized_run lim true fs o x c q w ts is h g = run_step lim (state (AfterTypeName x) fs o 0 0) _ (c, w) ts (ap (settle lim w.free) (polarity_is fs o x c (place_of w) q is ∙ ap (λ (b : Bool). polarized b fs o x q (place_of w)) h))
 polarized_run lim false fs o x c q w ts is h g = run_step lim (state (AfterTypeName x) fs o 0 0) (state (AfterPolarity x q w.to) fs o 0 0) (c, w) ts (ap (settle lim w.free) (polarity_is fs o x c (place_of w) q is ∙ ap (λ (b : Bool). polarized b fs o x q (place_of w)) h)) ∙ polarity_run lim fs o x q w.to ts g
 
@@ -72,7 +72,7 @@ short_goes lim fs o x q t (Mark mark.RoundClose) w h = refl
 short_goes lim fs o x q t (Mark mark.CurlyOpen) w h = refl
 short_goes lim fs o x q t _ w h = absurd cc
 
-pub pattern_goes : (lim : Limits) (fs : List Frame) (o k s : ℕ) (x : tree.Name) (q : Polarity) (p : tree.Pattern) (b : Before) (y : tree.Pattern) (t : ℕ) → whole_in b y ≡ p → BehindType lim (state (HavePattern b y t) (InTyped x q ∷ fs) o k s) fs o (tree.MailboxType x q (Some p) (span x.span.from t))
+pub pattern_goes : (lim : Limits) (fs : List Frame) (o k s : ℕ) (x : tree.Name) (q : Polarity) (p : tree.Pattern) (b : Before) (y : tree.Pattern) (t : ℕ) → whole_in b y ≡ p → BehindType lim (state (HavePattern b y t) (AtPattern (InTyped x q) ∷ fs) o k s) fs o (tree.MailboxType x q (Some p) (span x.span.from t))
 pattern_goes lim fs o k s x q p b y t is (Mark mark.Comma) w h = ap (λ (v : tree.Pattern). settle lim w.free (type_comma fs o (tree.MailboxType x q (Some v) (span x.span.from t)))) is
 pattern_goes lim fs o k s x q p b y t is (Mark mark.RoundClose) w h = ap (λ (v : tree.Pattern). settle lim w.free (type_close fs (tree.MailboxType x q (Some v) (span x.span.from t)))) is
 pattern_goes lim fs o k s x q p b y t is (Mark mark.CurlyOpen) w h = ap (λ (v : tree.Pattern). settle lim w.free (type_open fs o (tree.MailboxType x q (Some v) (span x.span.from t)))) is
@@ -83,8 +83,8 @@ types lim {o = o} (base {c = c} {b = b} {w = w} {us = us} is) fs h =
     let a = tree.BaseType b (place_of w) in
     (state (HaveType a) fs o 0 0, run_step lim (state WantType fs o 0 0) (state (HaveType a) fs o 0 0) (c, w) us (ap (settle lim w.free) (base_is fs o c (place_of w) b is ∙ ap (λ (v : Option Base). base_step fs o v (place_of w)) is)), base_goes lim fs o a)
 types lim {o = o} {b = b} (mailbox {x = x} {c = c} {q = q} {t = t} {w = w} {v = v} {ts = ts} {p = p} is d) fs h =
-    let r = patterns lim d (InTyped (named x w) q ∷ fs) 0 in (
-      state (HavePattern r.0 r.1 t) (InTyped (named x w) q ∷ fs) o (0 + pattern_operators p) 0,
+    let r = patterns lim d (AtPattern (InTyped (named x w) q) ∷ fs) 0 in (
+      state (HavePattern r.0 r.1 t) (AtPattern (InTyped (named x w) q) ∷ fs) o (0 + pattern_operators p) 0,
       polarized_run lim b fs o (named x w) c q v ts is h (pattern_begins d) ∙ r.2,
       pattern_goes lim fs o (0 + pattern_operators p) 0 (named x w) q p r.0 r.1 t r.3,
     )
@@ -120,18 +120,18 @@ payload_run lim fs o ((Str x, w) ∷ ts) h = refl
 payload_run lim fs o ((Word x, w) ∷ ts) h = refl
 
 payloads_run : (lim : Limits) (i : Interfacing) (x : tree.Name) (fs : List Frame) {o : ℕ} {ts us : List Item} {as1 : List tree.WrittenType} → Separated (WrittenType lim o true) ts as1 us
-    → (ps : List tree.WrittenType) × (a : tree.WrittenType) × (y : State) × (run lim (state FirstPayload (InMessage i x [] ∷ fs) o 0 0) ts ≡ run lim y us) × BehindType lim y (InMessage i x ps ∷ fs) o a × (ps ++ a ∷ [] ≡ as1)
+    → (ps : List tree.WrittenType) × (a : tree.WrittenType) × (y : State) × (run lim (state FirstPayload (AtType (InMessage i x []) ∷ fs) o 0 0) ts ≡ run lim y us) × BehindType lim y (AtType (InMessage i x ps) ∷ fs) o a × (ps ++ a ∷ [] ≡ as1)
 payloads_run lim i x fs {o = o} {ts = ts} (one {a = a} d) =
-    let r = types lim d (InMessage i x [] ∷ fs) refl in
-    ([], a, r.0, payload_run lim (InMessage i x [] ∷ fs) o ts (type_begins d) ∙ r.1, r.2, refl)
+    let r = types lim d (AtType (InMessage i x []) ∷ fs) refl in
+    ([], a, r.0, payload_run lim (AtType (InMessage i x []) ∷ fs) o ts (type_begins d) ∙ r.1, r.2, refl)
 payloads_run lim i x fs {o = o} (more {w = w} {us = us} {xs = ps} {a = a} d f) =
     let h = payloads_run lim i x fs d in
-    let r = types lim f (InMessage i x ps ∷ fs) refl in
-    let y = state WantType (InMessage i x ps ∷ fs) o 0 0 in
-    (ps, a, r.0, h.3 ∙ run_step lim h.2 y (Mark mark.Comma, w) us (h.4 (Mark mark.Comma) w refl ∙ ap (λ (q : List tree.WrittenType). Ok (state WantType (InMessage i x q ∷ fs) o 0 0)) h.5) ∙ r.1, r.2, refl)
+    let r = types lim f (AtType (InMessage i x ps) ∷ fs) refl in
+    let y = state WantType (AtType (InMessage i x ps) ∷ fs) o 0 0 in
+    (ps, a, r.0, h.3 ∙ run_step lim h.2 y (Mark mark.Comma, w) us (h.4 (Mark mark.Comma) w refl ∙ ap (λ (q : List tree.WrittenType). Ok (state WantType (AtType (InMessage i x q) ∷ fs) o 0 0)) h.5) ∙ r.1, r.2, refl)
 
 payloads_close : (lim : Limits) (i : Interfacing) (x : tree.Name) (fs : List Frame) {o : ℕ} {ts us : List Item} {ps : List tree.WrittenType} (z : At) → Optional (WrittenType lim o true) ts ps ((Mark mark.RoundClose, z) ∷ us)
-    → run lim (state FirstPayload (InMessage i x [] ∷ fs) o 0 0) ts ≡ run lim (state (AfterMessage (with_message i x ps)) fs 1 0 0) us
+    → run lim (state FirstPayload (AtType (InMessage i x []) ∷ fs) o 0 0) ts ≡ run lim (state (AfterMessage (with_message i x ps)) fs 1 0 0) us
 payloads_close lim i x fs z none = refl
 payloads_close lim i x fs {us = us} {ps = ps} z (some d) =
     let h = payloads_run lim i x fs d in
@@ -140,7 +140,7 @@ payloads_close lim i x fs {us = us} {ps = ps} z (some d) =
 message_run : (lim : Limits) (i : Interfacing) (fs : List Frame) {ts us : List Item} {m : tree.Message} → Message lim ts m us
     → run lim (state (WantName (MessageName i)) fs 1 0 0) ts ≡ run lim (state (AfterMessage (with_message i m.name m.payloads)) fs 1 0 0) us
 message_run lim i fs (message {x = x} {w = w} {v = v} {z = z} {ts = ts} {us = us} room d) =
-    open_run lim (state (GotName (MessageName i) (named x w)) fs 1 0 0) (state FirstPayload (InMessage i (named x w) [] ∷ fs) 2 0 0) (Mark mark.RoundOpen, v) v 1 0 ts refl room ∙ payloads_close lim i (named x w) fs z d
+    open_run lim (state (GotName (MessageName i) (named x w)) fs 1 0 0) (state FirstPayload (AtType (InMessage i (named x w) []) ∷ fs) 2 0 0) (Mark mark.RoundOpen, v) v 1 0 ts refl room ∙ payloads_close lim i (named x w) fs z d
 
 abbrev pub interfacing : List tree.Decl → tree.Name → List tree.Message → Interfacing
 interfacing ds x ms = record { decls = ds; name = x; messages = ms }
@@ -157,13 +157,13 @@ abbrev pub defining : List tree.Decl → tree.Name → List tree.Param → Defin
 defining ds x ps = record { decls = ds; name = x; params = ps }
 
 params_run : (lim : Limits) (ds : List tree.Decl) (x : tree.Name) (fs : List Frame) {ts us : List Item} {ps : List tree.Param} → Separated (Param lim) ts ps us
-    → (qs : List tree.Param) × (n : tree.Name) × (a : tree.WrittenType) × (y : State) × (run lim (state (FirstParam (defining ds x [])) fs 1 0 0) ts ≡ run lim y us) × BehindType lim y (InParam (defining ds x qs) n ∷ fs) 1 a × (with_param (defining ds x qs) n a ≡ defining ds x ps)
+    → (qs : List tree.Param) × (n : tree.Name) × (a : tree.WrittenType) × (y : State) × (run lim (state (FirstParam (defining ds x [])) fs 1 0 0) ts ≡ run lim y us) × BehindType lim y (AtType (InParam (defining ds x qs) n) ∷ fs) 1 a × (with_param (defining ds x qs) n a ≡ defining ds x ps)
 params_run lim ds x fs (one (param {x = n} {w = w} {c = c} {ts = ts} {us = us} {a = a} d)) =
-    let r = types lim d (InParam (defining ds x []) (named n w) ∷ fs) refl in
+    let r = types lim d (AtType (InParam (defining ds x []) (named n w)) ∷ fs) refl in
     ([], named n w, a, r.0, r.1, r.2, refl)
 params_run lim ds x fs (more {w = v} {xs = ps} d (param {x = n} {w = w} {c = c} {ts = ts} {us = us} {a = a} f)) =
     let h = params_run lim ds x fs d in
-    let r = types lim f (InParam (defining ds x ps) (named n w) ∷ fs) refl in
+    let r = types lim f (AtType (InParam (defining ds x ps) (named n w)) ∷ fs) refl in
     let y = state (WantName (ParamName (defining ds x ps))) fs 1 0 0 in
     (ps, named n w, a, r.0, h.4 ∙ run_step lim h.3 y (Mark mark.Comma, v) ((Name n, w) ∷ (Mark mark.Colon, c) ∷ ts) (h.5 (Mark mark.Comma) v refl ∙ ap (λ (q : Defining). Ok (state (WantName (ParamName q)) fs 1 0 0)) h.6) ∙ r.1, r.2, refl)
 
@@ -181,8 +181,8 @@ decls lim (interface {b = b} {x = x} {w = w} {n = n} {v = v} {z = z} {us = us} {
     ∙ messages_run lim ds (named x n) [] e
 decls lim (function {b = b} {x = x} {w = w} {n = n} {v = v} {z = z} {c = c} {d = q} {e = e} {us = us} {vs = vs} {xs = xs} {ys = ys} {ds = ds} {ps = ps} {r = r} {m = m} d room i t more_room body) =
     let h = defining ds (named x n) ps in
-    let y = types lim t (InResult h ∷ []) refl in
-    let gs = InDef h r ∷ [] in
+    let y = types lim t (AtType (InResult h) ∷ []) refl in
+    let gs = AtBlock (InDef h r) ∷ [] in
     decls lim d ∙ open_run lim (state (GotName (FunctionName ds) (named x n)) [] 0 0 0) (state (FirstParam (defining ds (named x n) [])) [] 1 0 0) (Mark mark.RoundOpen, v) v 0 0 us refl room
     ∙ params_close lim ds (named x n) [] z i
     ∙ y.1 ∙ open_run lim y.0 (state (Start true) gs 1 0 0) (Mark mark.CurlyOpen, q) q 0 0 xs (y.2 (Mark mark.CurlyOpen) q refl) more_room

@@ -8,7 +8,7 @@ use Rattle.pat_grammar.specs.Trees as tree
 use Rattle.pat_grammar.specs.Trees.{span, operators}
 use Rattle.pat_grammar.specs.Items.{At, Item, place_of, Limits, literal, additive, comparison}
 use Rattle.pat_grammar.specs.Grammar.{Level, Atom, Product, Sum, Whole, Operand, combined, Expr, leaf, unit, bracket, atom, times, product, plus, sum, compare}
-use Rattle.pat_grammar.specs.Machine.{Pending, nothing, product_of, joined, whole_of, Frame, InBracket, Opened, Want, Have, state, settle, add_step, compare_step, have_step, leaf_step, want_step, run}
+use Rattle.pat_grammar.specs.Machine.{Pending, nothing, product_of, joined, whole_of, Frame, AtExpr, InBracket, Opened, Want, Have, state, settle, add_step, compare_step, have_step, leaf_step, want_step, run}
 use Rattle.pat_grammar_laws.proofs.Runs.{run_step, open_run, recount, count_none, count_zero, count_both}
 
 abbrev pub pend : Option (Op × Operand) → Option (Op × Operand) → Option Operand → Pending
@@ -80,10 +80,10 @@ comparison_step fs o k s p x t _ w q h = absurd cc
 pub exprs : (lim : Limits) {o k t : ℕ} {l : Level} {ts us : List Item} {a : Operand} → Expr lim o k l ts a t us → Runs lim o k l ts a t us
 exprs lim {o = o} {k = k} (leaf {c = c} {w = w} {us = us} {e = e} h) = λ fs s p. leaf_run lim fs o k s p c w e us h
 exprs lim {o = o} {k = k} (unit {w = w} {z = z} {us = us} room) = λ fs s p.
-    open_run lim (state (Want p) fs o k s) (state Opened (InBracket p w.from o ∷ fs) (suc o) k s) (Mark mark.RoundOpen, w) w o k ((Mark mark.RoundClose, z) ∷ us) refl room
+    open_run lim (state (Want p) fs o k s) (state Opened (AtExpr (InBracket p w.from o) ∷ fs) (suc o) k s) (Mark mark.RoundOpen, w) w o k ((Mark mark.RoundClose, z) ∷ us) refl room
     ∙ recount lim (Have p (tree.UnitExpr (span w.from z.to), w.from) z.to) fs o k (k + 0) s us (count_none k)
 exprs lim {o = o} {k = k} (bracket {t = t} {w = w} {z = z} {ts = ts} {us = us} {a = a} room d) = λ fs s p.
-    let gs = InBracket p w.from o ∷ fs in
+    let gs = AtExpr (InBracket p w.from o) ∷ fs in
     let h = exprs lim d gs s in
     open_run lim (state (Want p) fs o k s) (state Opened gs (suc o) k s) (Mark mark.RoundOpen, w) w o k ts refl room
     ∙ opened_run lim gs (suc o) k s ts (expr_starts d) ∙ h.2

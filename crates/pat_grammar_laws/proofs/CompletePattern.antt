@@ -8,7 +8,7 @@ use Rattle.pat_grammar.specs.Trees as tree
 use Rattle.pat_grammar.specs.Trees.{span, pattern_operators}
 use Rattle.pat_grammar.specs.Items.{Item, place_of, named, Limits, constant}
 use Rattle.pat_grammar.specs.Grammar.{Level, Atom, Product, Sum, Whole, Pattern, number, tag, bracket, star, factor, dot, product, plus}
-use Rattle.pat_grammar.specs.Machine.{Before, none_before, starred, times_pattern, whole_in, Frame, InPatternBracket, WantPattern, HavePattern, state, settle, number_step, run}
+use Rattle.pat_grammar.specs.Machine.{Before, none_before, starred, times_pattern, whole_in, Frame, AtPattern, InPatternBracket, WantPattern, HavePattern, state, settle, number_step, run}
 use Rattle.pat_grammar_laws.proofs.Runs.{run_step, open_run, recount, count_none, count_zero, count_one, count_both}
 
 abbrev pub before : Option tree.Pattern → Option tree.Pattern → ℕ → Before
@@ -43,7 +43,7 @@ patterns lim {o = o} {k = k} (tag {x = x} {w = w} {us = us}) = λ fs s a m i.
     (i, tree.TagPattern (named x w), recount lim (HavePattern (before a m i) (tree.TagPattern (named x w)) w.to) fs o k (k + 0) s us (count_none k), refl)
 patterns lim {o = o} {k = k} (bracket {t = t} {w = w} {z = z} {ts = ts} {us = us} {p = e} room d) = λ fs s a m i.
     let p = before a m i in
-    let gs = InPatternBracket p o ∷ fs in
+    let gs = AtPattern (InPatternBracket p o) ∷ fs in
     let h = patterns lim d gs s in (
       i,
       e,

@@ -10,7 +10,7 @@ use Rattle.pat_grammar.specs.Items.{At, Item, place_of, named, Limits, literal, 
 use Rattle.pat_grammar.specs.Grammar.{Level, Atom, Product, Sum, Whole, Operand, combined, Separated, one, more, Optional, none, some, Arg, Binder, binder, Part, Simple, Any, Term, value, print, new, spawn, free, send, call, branch, guard, block, simple, then, bind, Clauses, no_clause, fail_clause, free_clause, receive_clause}
 use Rattle.pat_grammar.specs.Grammar as grammar
 use Rattle.pat_grammar.specs.Grammar.{Expr}
-use Rattle.pat_grammar.specs.Machine.{Pending, nothing, whole_of, whole_in, Head, ToCall, ToSend, head_from, made, Guarding, ClauseHead, NewName, FreeName, TagName, ReceiveName, BinderName, Frame, InPrint, InArgs, InTest, InGuarded, InBound, InBody, InBlock, InYes, InNo, InSpawn, InFree, InReceive, Control, WantName, GotName, HavePattern, Start, Named, AfterPrint, AfterNew, AfterSpawn, AfterFree, AfterYes, AfterElse, AtClause, AfterFreeWord, FirstBinder, AfterBinders, FirstArg, Want, Have, Done, State, state, settle, bodies, clause_step, free_of, receive_of, next_clause, block_end, takes_next, then_next, done_step, move, step, run}
+use Rattle.pat_grammar.specs.Machine.{Pending, nothing, whole_of, whole_in, Head, ToCall, ToSend, head_from, made, Guarding, ClauseHead, NewName, FreeName, TagName, ReceiveName, BinderName, Frame, AtPattern, AtExpr, AtLet, AtBlock, AtGuard, InPrint, InArgs, InTest, InGuarded, InBound, InBody, InBlock, InYes, InNo, InSpawn, InFree, InReceive, Control, WantName, GotName, HavePattern, Start, Named, AfterPrint, AfterNew, AfterSpawn, AfterFree, AfterYes, AfterElse, AtClause, AfterFreeWord, FirstBinder, AfterBinders, FirstArg, Want, Have, Done, State, state, settle, bodies, clause_step, free_of, receive_of, next_clause, block_end, takes_next, then_next, done_step, move, step, run}
 use Rattle.pat_grammar_laws.proofs.Runs.{run_step, open_run, below_step}
 use Rattle.pat_grammar_laws.proofs.CompleteExpr.{starts, expr_starts, exprs}
 use Rattle.pat_grammar_laws.proofs.CompletePattern.{patterns}
@@ -127,25 +127,25 @@ read_here lim o s fs b {a = a} {t = t} (other f) d =
 
 -- ---- arguments
 
-first_run : (lim : Limits) (fs : List Frame) (h : Head) (o1 o k s : ℕ) (ts : List Item) → starts ts ≡ true → run lim (state FirstArg (InArgs h [] o1 ∷ fs) o k s) ts ≡ run lim (state (Want nothing) (InArgs h [] o1 ∷ fs) o k s) ts
+first_run : (lim : Limits) (fs : List Frame) (h : Head) (o1 o k s : ℕ) (ts : List Item) → starts ts ≡ true → run lim (state FirstArg (AtExpr (InArgs h [] o1) ∷ fs) o k s) ts ≡ run lim (state (Want nothing) (AtExpr (InArgs h [] o1) ∷ fs) o k s) ts
 first_run lim fs g o1 o k s [] h = absurd cc
 first_run lim fs g o1 o k s ((Mark mark.RoundClose, w) ∷ ts) h = absurd cc
 first_run lim fs g o1 o k s ((_, w) ∷ ts) h = refl
 
 args_run : (lim : Limits) (h : Head) (fs : List Frame) (o1 s : ℕ) {o : ℕ} {ts us : List Item} {es : List tree.Expr} → Separated (Arg lim o) ts es us
-    → (gs : List tree.Expr) × (p : Pending) × (x : Operand) × (t : ℕ) × (k : ℕ) × (run lim (state FirstArg (InArgs h [] o1 ∷ fs) o 0 s) ts ≡ run lim (state (Have p x t) (InArgs h gs o1 ∷ fs) o k s) us) × (gs ++ (whole_of p x t).0 ∷ [] ≡ es)
+    → (gs : List tree.Expr) × (p : Pending) × (x : Operand) × (t : ℕ) × (k : ℕ) × (run lim (state FirstArg (AtExpr (InArgs h [] o1) ∷ fs) o 0 s) ts ≡ run lim (state (Have p x t) (AtExpr (InArgs h gs o1) ∷ fs) o k s) us) × (gs ++ (whole_of p x t).0 ∷ [] ≡ es)
 args_run lim h fs o1 s {o = o} {ts = ts} (one {a = e} d) =
-    let r = exprs lim d.2 (InArgs h [] o1 ∷ fs) s in
+    let r = exprs lim d.2 (AtExpr (InArgs h [] o1) ∷ fs) s in
     ([], r.0, r.1, d.1, 0 + operators e, first_run lim fs h o1 o 0 s ts (expr_starts d.2) ∙ r.2, ap (λ (v : Operand). v.0 ∷ []) r.3)
 args_run lim h fs o1 s {o = o} {ts = ts} (more {w = w} {us = us} {vs = vs} {xs = es} {a = e} d f) =
     let a = args_run lim h fs o1 s d in
-    let r = exprs lim f.2 (InArgs h es o1 ∷ fs) s in
-    let comma : step lim (state (Have a.1 a.2 a.3) (InArgs h a.0 o1 ∷ fs) o a.4 s) (Mark mark.Comma, w) ≡ Ok (state (Want nothing) (InArgs h es o1 ∷ fs) o 0 s) = ap (λ (v : List tree.Expr). Ok (state (Want nothing) (InArgs h v o1 ∷ fs) o 0 s)) a.6 in
-    (es, r.0, r.1, f.1, 0 + operators e, a.5 ∙ run_step lim (state (Have a.1 a.2 a.3) (InArgs h a.0 o1 ∷ fs) o a.4 s) (state (Want nothing) (InArgs h es o1 ∷ fs) o 0 s) (Mark mark.Comma, w) us comma ∙ r.2, ap (λ (v : Operand). es ++ v.0 ∷ []) r.3)
+    let r = exprs lim f.2 (AtExpr (InArgs h es o1) ∷ fs) s in
+    let comma : step lim (state (Have a.1 a.2 a.3) (AtExpr (InArgs h a.0 o1) ∷ fs) o a.4 s) (Mark mark.Comma, w) ≡ Ok (state (Want nothing) (AtExpr (InArgs h es o1) ∷ fs) o 0 s) = ap (λ (v : List tree.Expr). Ok (state (Want nothing) (AtExpr (InArgs h v o1) ∷ fs) o 0 s)) a.6 in
+    (es, r.0, r.1, f.1, 0 + operators e, a.5 ∙ run_step lim (state (Have a.1 a.2 a.3) (AtExpr (InArgs h a.0 o1) ∷ fs) o a.4 s) (state (Want nothing) (AtExpr (InArgs h es o1) ∷ fs) o 0 s) (Mark mark.Comma, w) us comma ∙ r.2, ap (λ (v : Operand). es ++ v.0 ∷ []) r.3)
 
 -- arguments and the bracket behind them
 args_close : (lim : Limits) (h : Head) (fs : List Frame) (o1 s : ℕ) {o : ℕ} {ts us : List Item} {es : List tree.Expr} (z : At) → Optional (Arg lim o) ts es ((Mark mark.RoundClose, z) ∷ us)
-    → run lim (state FirstArg (InArgs h [] o1 ∷ fs) o 0 s) ts ≡ run lim (state (Done (made h es z.to) (head_from h)) fs o1 0 s) us
+    → run lim (state FirstArg (AtExpr (InArgs h [] o1) ∷ fs) o 0 s) ts ≡ run lim (state (Done (made h es z.to) (head_from h)) fs o1 0 s) us
 args_close lim h fs o1 s z none = refl
 args_close lim h fs o1 s {o = o} {us = us} z (some d) =
     let a = args_run lim h fs o1 s d in
@@ -228,11 +228,11 @@ mutual
       let r = read_here lim o s fs b (expr_from_start d) d in
       (r.0, r.1, r.2, is_value r.3)
   terms lim {o = o} {s = s} (print {w = w} {v = v} {z = z} {ts = ts} {us = us} {a = a} room d) = λ fs b.
-      let h = exprs lim d (InPrint w.from o ∷ fs) s in
+      let h = exprs lim d (AtExpr (InPrint w.from o) ∷ fs) s in
       let m = tree.PrintTerm a.0 (span w.from z.to) in (
         Done m w.from,
         0,
-        open_run lim (state (AfterPrint w.from) fs o 0 s) (state (Want nothing) (InPrint w.from o ∷ fs) (suc o) 0 s) (Mark mark.RoundOpen, v) v o 0 ts refl room
+        open_run lim (state (AfterPrint w.from) fs o 0 s) (state (Want nothing) (AtExpr (InPrint w.from o) ∷ fs) (suc o) 0 s) (Mark mark.RoundOpen, v) v o 0 ts refl room
             ∙ h.2 ∙ ap (λ (q : Operand). run lim (state (Done (tree.PrintTerm q.0 (span w.from z.to)) w.from) fs o 0 s) us) h.3,
         is_done m w.from,
       )
@@ -244,7 +244,7 @@ mutual
         is_done m w.from,
       )
   terms lim {o = o} {s = s} (spawn {w = w} {v = v} {z = z} {ts = ts} {us = us} {m = m} room d) = λ fs b.
-      let gs = InSpawn w.from o s ∷ fs in
+      let gs = AtBlock (InSpawn w.from o s) ∷ fs in
       let n = tree.SpawnTerm m (span w.from z.to) in (
         Done n w.from,
         0,
@@ -263,35 +263,35 @@ mutual
       let h = ToSend (named x a) (named y c) in (
         Done (made h es z.to) a.from,
         0,
-        open_run lim (state (GotName (TagName (named x a)) (named y c)) fs o 0 s) (state FirstArg (InArgs h [] o ∷ fs) (suc o) 0 s) (Mark mark.RoundOpen, v) v o 0 ts refl room ∙ args_close lim h fs o s z d,
+        open_run lim (state (GotName (TagName (named x a)) (named y c)) fs o 0 s) (state FirstArg (AtExpr (InArgs h [] o) ∷ fs) (suc o) 0 s) (Mark mark.RoundOpen, v) v o 0 ts refl room ∙ args_close lim h fs o s z d,
         is_done (made h es z.to) a.from,
       )
   terms lim {o = o} {s = s} (call {a = a} {v = v} {z = z} {x = x} {ts = ts} {us = us} {es = es} room d) = λ fs b.
       let h = ToCall (named x a) in (
         Done (made h es z.to) a.from,
         0,
-        open_run lim (state (Named (named x a)) fs o 0 s) (state FirstArg (InArgs h [] o ∷ fs) (suc o) 0 s) (Mark mark.RoundOpen, v) v o 0 ts refl room ∙ args_close lim h fs o s z d,
+        open_run lim (state (Named (named x a)) fs o 0 s) (state FirstArg (AtExpr (InArgs h [] o) ∷ fs) (suc o) 0 s) (Mark mark.RoundOpen, v) v o 0 ts refl room ∙ args_close lim h fs o s z d,
         is_done (made h es z.to) a.from,
       )
   terms lim {o = o} {s = s} (branch {t = t} {w = w} {v = v} {c = c} {l = l} {d = e} {z = z} {us = us} {vs = vs} {xs = xs} {a = a} {m = m} {n = n} d room f more_room g) = λ fs b.
-      let h = exprs lim d (InTest w.from ∷ fs) s in
-      let yes = InYes a.0 w.from o s ∷ fs in
-      let no = InNo a.0 m w.from o s ∷ fs in
+      let h = exprs lim d (AtExpr (InTest w.from) ∷ fs) s in
+      let yes = AtBlock (InYes a.0 w.from o s) ∷ fs in
+      let no = AtBlock (InNo a.0 m w.from o s) ∷ fs in
       let whole = tree.IfTerm a.0 m n (span w.from z.to) in
-      let into = open_run lim (state (Have h.0 h.1 t) (InTest w.from ∷ fs) o (0 + operators a.0) s) (state (Start true) (InYes (whole_of h.0 h.1 t).0 w.from o s ∷ fs) (suc o) 0 s) (Mark mark.CurlyOpen, v) v o 0 us refl room in (
+      let into = open_run lim (state (Have h.0 h.1 t) (AtExpr (InTest w.from) ∷ fs) o (0 + operators a.0) s) (state (Start true) (AtBlock (InYes (whole_of h.0 h.1 t).0 w.from o s) ∷ fs) (suc o) 0 s) (Mark mark.CurlyOpen, v) v o 0 us refl room in (
         Done whole w.from,
         0,
-        h.2 ∙ into ∙ ap (λ (q : Operand). run lim (state (Start true) (InYes q.0 w.from o s ∷ fs) (suc o) 0 s) us) h.3
+        h.2 ∙ into ∙ ap (λ (q : Operand). run lim (state (Start true) (AtBlock (InYes q.0 w.from o s) ∷ fs) (suc o) 0 s) us) h.3
             ∙ closed lim c (state (AfterYes a.0 m w.from) fs o 0 s) (terms lim f yes refl) refl
             ∙ open_run lim (state (AfterElse a.0 m w.from) fs o 0 s) (state (Start true) no (suc o) 0 s) (Mark mark.CurlyOpen, e) e o 0 vs refl more_room
             ∙ closed lim z (state (Done whole w.from) fs o 0 s) (terms lim g no refl) refl,
         is_done whole w.from,
       )
   terms lim {o = o} {s = s} (guard {t = t} {w = w} {n = n} {c = c} {v = v} {z = z} {x = x} {ts = ts} {us = us} {vs = vs} {p = p} {cs = cs} d room f) = λ fs b.
-      let h = patterns lim d (InGuarded (named x n) w.from ∷ fs) s in
+      let h = patterns lim d (AtPattern (InGuarded (named x n) w.from) ∷ fs) s in
       let r = clauses lim f fs (named x n) p w.from in
       let m = tree.GuardTerm (named x n) p (listed cs) (span w.from z.to) in
-      let into = open_run lim (state (HavePattern h.0 h.1 t) (InGuarded (named x n) w.from ∷ fs) o (0 + pattern_operators p) s) (state (AtClause true (guarding (named x n) (whole_in h.0 h.1) w.from o s [])) fs (suc o) 0 s) (Mark mark.CurlyOpen, v) v o 0 us refl room in (
+      let into = open_run lim (state (HavePattern h.0 h.1 t) (AtPattern (InGuarded (named x n) w.from) ∷ fs) o (0 + pattern_operators p) s) (state (AtClause true (guarding (named x n) (whole_in h.0 h.1) w.from o s [])) fs (suc o) 0 s) (Mark mark.CurlyOpen, v) v o 0 us refl room in (
         Done m w.from,
         0,
         h.2 ∙ into ∙ ap (λ (q : tree.Pattern). run lim (state (AtClause true (guarding (named x n) q w.from o s [])) fs (suc o) 0 s) us) h.3
@@ -299,7 +299,7 @@ mutual
         is_done m w.from,
       )
   terms lim {o = o} {s = s} (block {w = w} {z = z} {ts = ts} {us = us} {m = m} room d) = λ fs b.
-      let gs = InBlock w.from o s ∷ fs in (
+      let gs = AtBlock (InBlock w.from o s) ∷ fs in (
         Done m w.from,
         0,
         open_run lim (state (Start b) fs o 0 s) (state (Start true) gs (suc o) 0 s) (Mark mark.CurlyOpen, w) w o 0 ts refl room
@@ -311,15 +311,15 @@ mutual
       record { control = h.0; stack = fs; operators = h.1; statements = s; last = m; from = f; runs = h.2; stands = h.3; same = refl }
   terms lim {o = o} {s = s} (then {f = f} {w = w} {us = us} {m = m} {n = n} d room e) = λ fs nx.
       let h = terms lim d fs true in
-      let gs = InBody None m f ∷ fs in
+      let gs = AtLet (InBody None m f) ∷ fs in
       let g = terms lim e gs refl in
       let y = state (Start true) gs o 0 (suc s) in
       let next = run_step lim (state h.0 fs o h.1 s) y (Mark mark.Semicolon, w) us (stands_step lim fs o h.1 s (Mark mark.Semicolon) w h.3 refl ∙ ap (λ (b : Bool). settle lim w.free (then_next b fs o s m f)) nx ∙ below_step lim w s y room) in
       record { control = g.control; stack = g.stack; operators = g.operators; statements = g.statements; last = g.last; from = g.from; runs = h.2 ∙ next ∙ g.runs; stands = g.stands; same = g.same }
   terms lim {o = o} {s = s} (bind {w = w} {n = n} {c = c} {i = i} {x = x} {ts = ts} {us = us} {a = a} {b = b} d room e) = λ fs nx.
-      let bs = InBound (named x n) w.from ∷ fs in
+      let bs = AtLet (InBound (named x n) w.from) ∷ fs in
       let h = terms lim d bs false in
-      let gs = InBody (Some (named x n)) a w.from ∷ fs in
+      let gs = AtLet (InBody (Some (named x n)) a w.from) ∷ fs in
       let g = terms lim e gs refl in
       let y = state (Start true) gs o 0 (suc s) in
       let next = run_step lim (state h.0 bs o h.1 s) y (Word word.In, i) us (stands_step lim bs o h.1 s (Word word.In) i h.3 refl ∙ below_step lim i s y room) in
@@ -334,7 +334,7 @@ mutual
   clauses lim {o = o} {s = s} (free_clause {w = w} {a = a} {us = us} {vs = vs} {cs = cs} {m = m} d e) = λ fs x p f.
       let r = clauses lim d fs x p f in
       let g = guarding x p f o s cs in
-      let t = terms lim e (InFree g (place_of w) ∷ fs) refl in
+      let t = terms lim e (AtGuard (InFree g (place_of w)) ∷ fs) refl in
       let y = state (AfterFreeWord g (place_of w)) fs (suc o) 0 s in
       record {
         after = state t.control t.stack (suc o) t.operators t.statements;
@@ -345,7 +345,7 @@ mutual
       let b = clauses lim d fs q p f in
       let g = guarding q p f o s cs in
       let hd = head g (place_of w) (named x n) in
-      let t = terms lim i (InReceive (hd ns) (named y h) ∷ fs) refl in
+      let t = terms lim i (AtGuard (InReceive (hd ns) (named y h)) ∷ fs) refl in
       let y0 = state (WantName (ReceiveName g (place_of w))) fs (suc o) 0 s in
       record {
         after = state t.control t.stack (suc o) t.operators t.statements;

@@ -7,3 +7,5 @@ pub mod Built
 pub mod Sound
 pub mod Owed
 pub mod Exact
+pub mod Counts
+pub mod Names

@@ -8,7 +8,7 @@ use Rattle.pat_grammar.specs.Trees as tree
 use Rattle.pat_grammar.specs.Trees.{span, term_at}
 use Rattle.pat_grammar.specs.Items.{Item, place_of, named, Limits, free_item}
 use Rattle.pat_grammar.specs.Grammar.{Operand}
-use Rattle.pat_grammar.specs.Machine.{Pending, nothing, whole_of, Before, whole_in, head_from, made, guard_term, free_of, receive_of, ClauseHead, Naming, InterfaceName, MessageName, FunctionName, ParamName, LetName, NewName, FreeName, GuardName, TagName, ReceiveName, BinderName, FromName, Frame, InMessage, InParam, InResult, InTyped, InGuarded, InPatternBracket, InBracket, InPrint, InArgs, InTest, InBound, InBody, InBlock, InYes, InNo, InSpawn, InFree, InReceive, InDef, Control, AtDecl, WantName, GotName, FirstPayload, AfterMessage, FirstParam, AfterParams, WantType, AfterTypeName, AfterPolarity, HaveType, WantPattern, HavePattern, Start, Named, AfterPrint, AfterNew, AfterSpawn, AfterFree, AfterYes, AfterElse, AtClause, AfterFreeWord, FirstBinder, AfterBinders, FirstArg, Opened, Want, Have, Done, State, state, settle, bodies, block_end, with_message, with_param, with_name, typed_by, step, run, finish}
+use Rattle.pat_grammar.specs.Machine.{Pending, nothing, whole_of, Before, whole_in, head_from, made, guard_term, free_of, receive_of, ClauseHead, Naming, InterfaceName, MessageName, FunctionName, ParamName, LetName, NewName, FreeName, GuardName, TagName, ReceiveName, BinderName, FromName, Frame, AtType, AtPattern, AtExpr, AtLet, AtBlock, AtGuard, InMessage, InParam, InResult, InTyped, InGuarded, InPatternBracket, InBracket, InPrint, InArgs, InTest, InBound, InBody, InBlock, InYes, InNo, InSpawn, InFree, InReceive, InDef, Control, AtDecl, WantName, GotName, FirstPayload, AfterMessage, FirstParam, AfterParams, WantType, AfterTypeName, AfterPolarity, HaveType, WantPattern, HavePattern, Start, Named, AfterPrint, AfterNew, AfterSpawn, AfterFree, AfterYes, AfterElse, AtClause, AfterFreeWord, FirstBinder, AfterBinders, FirstArg, Opened, Want, Have, Done, State, state, settle, bodies, block_end, with_message, with_param, with_name, typed_by, step, run, finish}
 use Rattle.pat_grammar_laws.proofs.Runs.{run_step}
 use Rattle.pat_grammar_laws.proofs.CompleteTerm.{Stands, is_value, is_done, is_named, is_had, stands_step, guarding}
 use Rattle.pat_grammar_laws.proofs.CompleteDecl.{BehindType, pattern_goes, base_goes, short_goes}
@@ -49,25 +49,25 @@ a_sender ts = worded word.From ∷ a_name ∷ a_clause ts
 
 abbrev owed_by : List Frame → List Spanned
 owed_by [] = []
-owed_by (InMessage i x ps ∷ fs) = marked mark.RoundClose ∷ marked mark.CurlyClose ∷ []
-owed_by (InParam d x ∷ fs) = marked mark.RoundClose ∷ a_result
-owed_by (InResult d ∷ fs) = a_block []
-owed_by (InTyped x q ∷ fs) = owed_by fs
-owed_by (InGuarded x f ∷ fs) = marked mark.CurlyOpen ∷ worded word.Fail ∷ marked mark.CurlyClose ∷ owed_by fs
-owed_by (InPatternBracket p o ∷ fs) = marked mark.RoundClose ∷ owed_by fs
-owed_by (InBracket p f o ∷ fs) = marked mark.RoundClose ∷ owed_by fs
-owed_by (InPrint f o ∷ fs) = marked mark.RoundClose ∷ owed_by fs
-owed_by (InArgs h es o ∷ fs) = marked mark.RoundClose ∷ owed_by fs
-owed_by (InTest f ∷ fs) = a_block (worded word.Else ∷ a_block (owed_by fs))
-owed_by (InBound x f ∷ fs) = worded word.In ∷ a_value ∷ owed_by fs
-owed_by (InBody x m f ∷ fs) = owed_by fs
-owed_by (InBlock f o s ∷ fs) = marked mark.CurlyClose ∷ owed_by fs
-owed_by (InYes e f o s ∷ fs) = marked mark.CurlyClose ∷ worded word.Else ∷ a_block (owed_by fs)
-owed_by (InNo e m f o s ∷ fs) = marked mark.CurlyClose ∷ owed_by fs
-owed_by (InSpawn f o s ∷ fs) = marked mark.CurlyClose ∷ owed_by fs
-owed_by (InFree g a ∷ fs) = marked mark.CurlyClose ∷ owed_by fs
-owed_by (InReceive r x ∷ fs) = marked mark.CurlyClose ∷ owed_by fs
-owed_by (InDef d a ∷ fs) = marked mark.CurlyClose ∷ []
+owed_by (AtType (InMessage i x ps) ∷ fs) = marked mark.RoundClose ∷ marked mark.CurlyClose ∷ []
+owed_by (AtType (InParam d x) ∷ fs) = marked mark.RoundClose ∷ a_result
+owed_by (AtType (InResult d) ∷ fs) = a_block []
+owed_by (AtPattern (InTyped x q) ∷ fs) = owed_by fs
+owed_by (AtPattern (InGuarded x f) ∷ fs) = marked mark.CurlyOpen ∷ worded word.Fail ∷ marked mark.CurlyClose ∷ owed_by fs
+owed_by (AtPattern (InPatternBracket p o) ∷ fs) = marked mark.RoundClose ∷ owed_by fs
+owed_by (AtExpr (InBracket p f o) ∷ fs) = marked mark.RoundClose ∷ owed_by fs
+owed_by (AtExpr (InPrint f o) ∷ fs) = marked mark.RoundClose ∷ owed_by fs
+owed_by (AtExpr (InArgs h es o) ∷ fs) = marked mark.RoundClose ∷ owed_by fs
+owed_by (AtExpr (InTest f) ∷ fs) = a_block (worded word.Else ∷ a_block (owed_by fs))
+owed_by (AtLet (InBound x f) ∷ fs) = worded word.In ∷ a_value ∷ owed_by fs
+owed_by (AtLet (InBody x m f) ∷ fs) = owed_by fs
+owed_by (AtBlock (InBlock f o s) ∷ fs) = marked mark.CurlyClose ∷ owed_by fs
+owed_by (AtBlock (InYes e f o s) ∷ fs) = marked mark.CurlyClose ∷ worded word.Else ∷ a_block (owed_by fs)
+owed_by (AtBlock (InNo e m f o s) ∷ fs) = marked mark.CurlyClose ∷ owed_by fs
+owed_by (AtBlock (InSpawn f o s) ∷ fs) = marked mark.CurlyClose ∷ owed_by fs
+owed_by (AtGuard (InFree g a) ∷ fs) = marked mark.CurlyClose ∷ owed_by fs
+owed_by (AtGuard (InReceive r x) ∷ fs) = marked mark.CurlyClose ∷ owed_by fs
+owed_by (AtBlock (InDef d a) ∷ fs) = marked mark.CurlyClose ∷ []
 
 -- behind a name that was wanted
 abbrev owed_name : Naming → List Frame → List Spanned
@@ -169,65 +169,65 @@ completes lim (in_param {d = d} {x = x} {w = w} h) = λ a y o beh.
     comes lim y (state (AfterParams (with_param d (named x w) a)) [] 0 0 0) (marked mark.RoundClose) a_result (beh (Mark mark.RoundClose) (record { from = 0; to = 0; free = true }) refl)
     (record { after = _; tree = _; runs = refl; ends_as = refl })
 completes lim (in_result {d = d} h) = λ a y o beh.
-    comes lim y (state (Start true) (InDef d a ∷ []) (suc o) 0 0) (marked mark.CurlyOpen) (a_value ∷ marked mark.CurlyClose ∷ []) (beh (Mark mark.CurlyOpen) (record { from = 0; to = 0; free = true }) refl)
+    comes lim y (state (Start true) (AtBlock (InDef d a) ∷ []) (suc o) 0 0) (marked mark.CurlyOpen) (a_value ∷ marked mark.CurlyClose ∷ []) (beh (Mark mark.CurlyOpen) (record { from = 0; to = 0; free = true }) refl)
     (record { after = _; tree = _; runs = refl; ends_as = refl })
 completes lim (in_typed {fs = fs} {x = x} {q = r} {w = w} u is) = λ p q t o k s.
-    completes lim u (typed_by (named x w) r (whole_in p q) t) (state (HavePattern p q t) (InTyped (named x w) r ∷ fs) o k s) o (pattern_goes lim fs o k s (named x w) r (whole_in p q) p q t refl)
+    completes lim u (typed_by (named x w) r (whole_in p q) t) (state (HavePattern p q t) (AtPattern (InTyped (named x w) r) ∷ fs) o k s) o (pattern_goes lim fs o k s (named x w) r (whole_in p q) p q t refl)
 completes lim (in_guarded {fs = fs} {x = x} {w = w} {n = n} u) = λ p q t o k s.
     let m = guard_term (guarding (named x n) (whole_in p q) w.from o s (tree.FailClause nowhere ∷ [])) 0 in
-    goes lim (state (HavePattern p q t) (InGuarded (named x n) w.from ∷ fs) o k s) (state (Done m w.from) fs o 0 s) _ (owed_by fs) refl (completes lim u (Done m w.from) m w.from o 0 s (is_done m w.from))
+    goes lim (state (HavePattern p q t) (AtPattern (InGuarded (named x n) w.from) ∷ fs) o k s) (state (Done m w.from) fs o 0 s) _ (owed_by fs) refl (completes lim u (Done m w.from) m w.from o 0 s (is_done m w.from))
 completes lim (in_pattern_bracket {fs = fs} {o = o1} {p = r} u d room) = λ p q t o k s.
-    goes lim (state (HavePattern p q t) (InPatternBracket r o1 ∷ fs) o k s) (state (HavePattern r (whole_in p q) 0) fs o1 k s) _ (owed_by fs) refl (completes lim u r (whole_in p q) 0 o1 k s)
+    goes lim (state (HavePattern p q t) (AtPattern (InPatternBracket r o1) ∷ fs) o k s) (state (HavePattern r (whole_in p q) 0) fs o1 k s) _ (owed_by fs) refl (completes lim u r (whole_in p q) 0 o1 k s)
 completes lim (in_bracket {fs = fs} {o = o1} {p = r} {w = w} u d room) = λ p a t o k s.
-    goes lim (state (Have p a t) (InBracket r w.from o1 ∷ fs) o k s) (state (Have r ((whole_of p a t).0, w.from) 0) fs o1 k s) _ (owed_by fs) refl (completes lim u r ((whole_of p a t).0, w.from) 0 o1 k s)
+    goes lim (state (Have p a t) (AtExpr (InBracket r w.from o1) ∷ fs) o k s) (state (Have r ((whole_of p a t).0, w.from) 0) fs o1 k s) _ (owed_by fs) refl (completes lim u r ((whole_of p a t).0, w.from) 0 o1 k s)
 completes lim (in_print {fs = fs} {o = o1} {w = w} u room) = λ p a t o k s.
     let m = tree.PrintTerm (whole_of p a t).0 (span w.from 0) in
-    goes lim (state (Have p a t) (InPrint w.from o1 ∷ fs) o k s) (state (Done m w.from) fs o1 0 s) _ (owed_by fs) refl (completes lim u (Done m w.from) m w.from o1 0 s (is_done m w.from))
+    goes lim (state (Have p a t) (AtExpr (InPrint w.from o1) ∷ fs) o k s) (state (Done m w.from) fs o1 0 s) _ (owed_by fs) refl (completes lim u (Done m w.from) m w.from o1 0 s (is_done m w.from))
 completes lim (in_args {fs = fs} {o = o1} {h = h} {es = es} u d room fl) = λ p a t o k s.
     let m = made h (es ++ (whole_of p a t).0 ∷ []) 0 in
-    goes lim (state (Have p a t) (InArgs h es o1 ∷ fs) o k s) (state (Done m (head_from h)) fs o1 0 s) _ (owed_by fs) refl (completes lim u (Done m (head_from h)) m (head_from h) o1 0 s (is_done m (head_from h)))
+    goes lim (state (Have p a t) (AtExpr (InArgs h es o1) ∷ fs) o k s) (state (Done m (head_from h)) fs o1 0 s) _ (owed_by fs) refl (completes lim u (Done m (head_from h)) m (head_from h) o1 0 s (is_done m (head_from h)))
 completes lim (in_test {fs = fs} {w = w} u) = λ p a t o k s.
     let m = tree.IfTerm (whole_of p a t).0 value_term value_term (span w.from 0) in
-    goes lim (state (Have p a t) (InTest w.from ∷ fs) o k s) (state (Done m w.from) fs o 0 s) _ (owed_by fs) refl (completes lim u (Done m w.from) m w.from o 0 s (is_done m w.from))
+    goes lim (state (Have p a t) (AtExpr (InTest w.from) ∷ fs) o k s) (state (Done m w.from) fs o 0 s) _ (owed_by fs) refl (completes lim u (Done m w.from) m w.from o 0 s (is_done m w.from))
 completes lim (as_value {fs = fs} u) = λ p a t o k s.
     let v = whole_of p a t in
     completes lim u (Have p a t) (tree.ValueTerm v.0 (span v.1 t)) v.1 o k s (is_value (is_had p a refl))
 completes lim (in_bound {fs = fs} {x = x} {w = w} {n = n} u) = λ c m f o k s st.
-    let gs = InBody (Some (named x n)) m w.from ∷ fs in
-    comes lim (state c (InBound (named x n) w.from ∷ fs) o k s) (state (Start true) gs o 0 (suc s)) (worded word.In) (a_value ∷ owed_by fs) (stands_step lim (InBound (named x n) w.from ∷ fs) o k s (Word word.In) (record { from = 0; to = 0; free = true }) st refl)
+    let gs = AtLet (InBody (Some (named x n)) m w.from) ∷ fs in
+    comes lim (state c (AtLet (InBound (named x n) w.from) ∷ fs) o k s) (state (Start true) gs o 0 (suc s)) (worded word.In) (a_value ∷ owed_by fs) (stands_step lim (AtLet (InBound (named x n) w.from) ∷ fs) o k s (Word word.In) (record { from = 0; to = 0; free = true }) st refl)
     (goes lim (state (Start true) gs o 0 (suc s)) (state (Have nothing (bit, 0) 0) gs o 0 (suc s)) _ (owed_by fs) refl (completes lim u gs (Have nothing (bit, 0) 0) value_term (tree.LetTerm (Some (named x n)) m value_term (span w.from 0)) 0 o 0 (suc s) stands_bit refl))
 completes lim (as_simple {fs = fs} u) = λ c m f o k s st. completes lim u fs c m m f o k s st refl
 completes lim (in_then {f = g} {m = b} u t room) = λ gs c m n f o k s st same. completes lim u gs c m (tree.LetTerm None b n (span g (term_at n).to)) f o k s st same
 completes lim (in_body {x = x} {w = w} {n = y} {m = b} u t room) = λ gs c m n f o k s st same. completes lim u gs c m (tree.LetTerm (Some (named x y)) b n (span w.from (term_at n).to)) f o k s st same
 completes lim (in_block {fs = fs} {o = o1} {s = s1} {w = w} u room) = λ gs c m n f o k s st same.
     let y = state (Done n w.from) fs o1 0 s1 in
-    comes lim (state c gs o k s) y (marked mark.CurlyClose) (owed_by fs) (brace lim (InBlock w.from o1 s1 ∷ fs) gs o k s n y st same refl) (completes lim u (Done n w.from) n w.from o1 0 s1 (is_done n w.from))
+    comes lim (state c gs o k s) y (marked mark.CurlyClose) (owed_by fs) (brace lim (AtBlock (InBlock w.from o1 s1) ∷ fs) gs o k s n y st same refl) (completes lim u (Done n w.from) n w.from o1 0 s1 (is_done n w.from))
 completes lim (in_yes {fs = fs} {o = o1} {s = s1} {w = w} {a = a} u e room) = λ gs c m n f o k s st same.
     let y = state (AfterYes a.0 n w.from) fs o1 0 s1 in
     let i = tree.IfTerm a.0 n value_term (span w.from 0) in
-    comes lim (state c gs o k s) y (marked mark.CurlyClose) (worded word.Else ∷ a_block (owed_by fs)) (brace lim (InYes a.0 w.from o1 s1 ∷ fs) gs o k s n y st same refl)
+    comes lim (state c gs o k s) y (marked mark.CurlyClose) (worded word.Else ∷ a_block (owed_by fs)) (brace lim (AtBlock (InYes a.0 w.from o1 s1) ∷ fs) gs o k s n y st same refl)
     (goes lim y (state (Done i w.from) fs o1 0 s1) _ (owed_by fs) refl (completes lim u (Done i w.from) i w.from o1 0 s1 (is_done i w.from)))
 completes lim (in_no {fs = fs} {o = o1} {s = s1} {w = w} {a = a} {m = b} u e room t space) = λ gs c m n f o k s st same.
     let i = tree.IfTerm a.0 b n (span w.from 0) in
     let y = state (Done i w.from) fs o1 0 s1 in
-    comes lim (state c gs o k s) y (marked mark.CurlyClose) (owed_by fs) (brace lim (InNo a.0 b w.from o1 s1 ∷ fs) gs o k s n y st same refl) (completes lim u (Done i w.from) i w.from o1 0 s1 (is_done i w.from))
+    comes lim (state c gs o k s) y (marked mark.CurlyClose) (owed_by fs) (brace lim (AtBlock (InNo a.0 b w.from o1 s1) ∷ fs) gs o k s n y st same refl) (completes lim u (Done i w.from) i w.from o1 0 s1 (is_done i w.from))
 completes lim (in_spawn {fs = fs} {o = o1} {s = s1} {w = w} u room) = λ gs c m n f o k s st same.
     let i = tree.SpawnTerm n (span w.from 0) in
     let y = state (Done i w.from) fs o1 0 s1 in
-    comes lim (state c gs o k s) y (marked mark.CurlyClose) (owed_by fs) (brace lim (InSpawn w.from o1 s1 ∷ fs) gs o k s n y st same refl) (completes lim u (Done i w.from) i w.from o1 0 s1 (is_done i w.from))
+    comes lim (state c gs o k s) y (marked mark.CurlyClose) (owed_by fs) (brace lim (AtBlock (InSpawn w.from o1 s1) ∷ fs) gs o k s n y st same refl) (completes lim u (Done i w.from) i w.from o1 0 s1 (is_done i w.from))
 completes lim (in_free {fs = fs} {w = v} (guard_read {o = o1} {s = s1} {x = x} {w = w} {n = q} {p = p} {cs = cs} u d room l)) = λ gs c m n f o k s st same.
     let g = guarding (named x q) p w.from o1 s1 cs in
     let i = guard_term (free_of g (place_of v) n) 0 in
     let y = state (Done i w.from) fs o1 0 s1 in
-    comes lim (state c gs o k s) y (marked mark.CurlyClose) (owed_by fs) (brace lim (InFree g (place_of v) ∷ fs) gs o k s n y st same refl) (completes lim u (Done i w.from) i w.from o1 0 s1 (is_done i w.from))
+    comes lim (state c gs o k s) y (marked mark.CurlyClose) (owed_by fs) (brace lim (AtGuard (InFree g (place_of v)) ∷ fs) gs o k s n y st same refl) (completes lim u (Done i w.from) i w.from o1 0 s1 (is_done i w.from))
 completes lim (in_receive {fs = fs} {x = e} {y = b} {ns = ns} {w = v} {n = a} {h = h} (guard_read {o = o1} {s = s1} {x = x} {w = w} {n = q} {p = p} {cs = cs} u d room l) space bs) = λ gs c m n f o k s st same.
     let r : ClauseHead = record { guard = guarding (named x q) p w.from o1 s1 cs; word = place_of v; tag = named e a; names = ns } in
     let i = guard_term (receive_of r (named b h) n) 0 in
     let y = state (Done i w.from) fs o1 0 s1 in
-    comes lim (state c gs o k s) y (marked mark.CurlyClose) (owed_by fs) (brace lim (InReceive r (named b h) ∷ fs) gs o k s n y st same refl) (completes lim u (Done i w.from) i w.from o1 0 s1 (is_done i w.from))
+    comes lim (state c gs o k s) y (marked mark.CurlyClose) (owed_by fs) (brace lim (AtGuard (InReceive r (named b h)) ∷ fs) gs o k s n y st same refl) (completes lim u (Done i w.from) i w.from o1 0 s1 (is_done i w.from))
 completes lim (in_def {d = d} {r = r} h t room) = λ gs c m n f o k s st same.
     let ds = d.decls ++ tree.DefDecl d.name d.params r n ∷ [] in
-    comes lim (state c gs o k s) (state (AtDecl false ds) [] 0 0 0) (marked mark.CurlyClose) [] (brace lim (InDef d r ∷ []) gs o k s n (state (AtDecl false ds) [] 0 0 0) st same refl) (ends lim ds [] 0 0 0)
+    comes lim (state c gs o k s) (state (AtDecl false ds) [] 0 0 0) (marked mark.CurlyClose) [] (brace lim (AtBlock (InDef d r) ∷ []) gs o k s n (state (AtDecl false ds) [] 0 0 0) st same refl) (ends lim ds [] 0 0 0)
 
 -- a term that has been read whole, and what is owed behind it
 done_completes : (lim : Limits) {fs : List Frame} {o s : ℕ} {all ts : List Item} (m : tree.Term) (f : ℕ) → Under lim ForSimple fs o 0 s all ts → Completes lim (state (Done m f) fs o 0 s) (owed_by fs)
@@ -239,7 +239,7 @@ wants_completes lim y (for_message i) = record { after = _; tree = _; runs = ref
 wants_completes lim y (for_function d) = record { after = _; tree = _; runs = refl; ends_as = refl }
 wants_completes lim y (for_param d) = record { after = _; tree = _; runs = refl; ends_as = refl }
 wants_completes lim y (for_let {fs = fs} {o = o} {s = s} {w = w} u) =
-    let gs = InBody (Some y) value_term w.from ∷ fs in
+    let gs = AtLet (InBody (Some y) value_term w.from) ∷ fs in
     goes lim (state (GotName (LetName w.from) y) fs o 0 s) (state (Have nothing (bit, 0) 0) gs o 0 (suc s)) _ (owed_by fs) refl (completes lim u gs (Have nothing (bit, 0) 0) value_term (tree.LetTerm (Some y) value_term value_term (span w.from 0)) 0 o 0 (suc s) stands_bit refl)
 wants_completes lim y (for_new {fs = fs} {o = o} {s = s} {w = w} u room) =
     let m = tree.NewTerm y (span w.from 0) in
@@ -336,10 +336,10 @@ built_completes lim (at_after_binders (receive_read {x = e} {ns = ns} {w = v} {n
     goes lim (state (AfterBinders r) fs (suc o) 0 s) (state (Done m w.from) fs o 0 s) _ (owed_by fs) refl (done_completes lim m w.from u)
 built_completes lim (at_first_arg {fs = fs} {o = o} {s = s} {h = h} u d room) =
     let m = made h [] 0 in
-    goes lim (state FirstArg (InArgs h [] o ∷ fs) (suc o) 0 s) (state (Done m (head_from h)) fs o 0 s) _ (owed_by fs) refl (done_completes lim m (head_from h) u)
+    goes lim (state FirstArg (AtExpr (InArgs h [] o) ∷ fs) (suc o) 0 s) (state (Done m (head_from h)) fs o 0 s) _ (owed_by fs) refl (done_completes lim m (head_from h) u)
 built_completes lim (at_opened {fs = fs} {o = o} {k = k} {s = s} {p = p} {w = w} u d room) =
     let a : Operand = (tree.UnitExpr (span w.from 0), w.from) in
-    goes lim (state Opened (InBracket p w.from o ∷ fs) (suc o) k s) (state (Have p a 0) fs o k s) _ (owed_by fs) refl (completes lim u p a 0 o k s)
+    goes lim (state Opened (AtExpr (InBracket p w.from o) ∷ fs) (suc o) k s) (state (Have p a 0) fs o k s) _ (owed_by fs) refl (completes lim u p a 0 o k s)
 built_completes lim (at_want {fs = fs} {o = o} {k = k} {s = s} {p = p} u d) =
     goes lim (state (Want p) fs o k s) (state (Have p (bit, 0) 0) fs o k s) _ (owed_by fs) refl (completes lim u p (bit, 0) 0 o k s)
 built_completes lim (at_have {fs = fs} {o = o} {k = k} {s = s} {t = t} {p = p} {a = a} u d i) = completes lim u p a t o k s

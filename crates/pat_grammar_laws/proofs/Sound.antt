@@ -12,7 +12,7 @@ use Rattle.pat_grammar.specs.Items.{At, Item, place_of, named, Limits, Room, con
 use Rattle.pat_grammar.specs.Grammar as grammar
 use Rattle.pat_grammar.specs.Grammar.{Level, Atom, Product, Sum, Whole, Operand, combined, Expr, Pattern, Separated, one, more, Optional, none, some, Arg, Binder, binder, Part, Simple, Any, Term, value, print, new, spawn, free, send, call, branch, guard, block, simple, then, bind, Clauses, no_clause, fail_clause, free_clause, receive_clause, WrittenType, base, mailbox, short, Message, message, Param, param, Decls, no_decl, interface, function, Spells}
 use Rattle.pat_grammar.specs.Machine as machine
-use Rattle.pat_grammar.specs.Machine.{Pending, nothing, product_of, joined, sum_of, whole_of, Before, none_before, starred, times_pattern, plus_pattern, product_in, whole_in, Head, head_from, made, Guarding, ClauseHead, Interfacing, Defining, Naming, Frame, InMessage, InTyped, InArgs, Control, State, state, Fault, Next, within, Move, Goes, Opens, Starts, Refused, settle, type_step, want_type, polarized, after_type_name, after_polarity, first_payload, number_step, want_pattern, pattern_close, have_pattern, bodies, clause_step, next_clause, block_end, takes_next, then_next, then_in, done_step, end_close, end_comma, end_open, end_step, compare_step, add_step, times_step, have_step, want_step, opened_step, first_step, start_step, named_step, got_name, step, run, begin, finish, finish_at}
+use Rattle.pat_grammar.specs.Machine.{Pending, nothing, product_of, joined, sum_of, whole_of, Before, none_before, starred, times_pattern, plus_pattern, product_in, whole_in, Head, head_from, made, Guarding, ClauseHead, Interfacing, Defining, Naming, Frame, AtType, AtExpr, InMessage, InTyped, InArgs, Control, State, state, Fault, Next, within, Move, Goes, Opens, Starts, Refused, settle, type_step, want_type, polarized, after_type_name, after_polarity, first_payload, number_step, want_pattern, pattern_close, have_pattern, bodies, clause_step, next_clause, block_end, takes_next, then_next, then_in, done_step, end_close, end_comma, end_open, end_step, compare_step, add_step, times_step, have_step, want_step, opened_step, first_step, start_step, named_step, got_name, step, run, begin, finish, finish_at}
 use Rattle.pat_grammar_laws.proofs.CompletePattern.{constant_operators}
 use Rattle.pat_grammar_laws.proofs.Built.{Compared, no_compared, is_compared, Added, no_added, is_added, Multiplied, no_multiplied, is_multiplied, Pends, Is, Stars, no_stars, a_star, Times, no_times, is_times, Plus, no_plus, is_plus, PatternPends, PatternIs, Followed, not_yet, so_far, InterfaceBegun, interface_begun, interface_read, def_begun, def_head, HeadRead, to_call, to_send, ForType, ForPattern, ForExpr, ForSimple, ForAny, Under, in_message, in_param, in_result, in_typed, in_guarded, in_pattern_bracket, in_bracket, in_print, in_args, in_test, as_value, in_bound, as_simple, in_then, in_body, in_block, in_yes, in_no, in_spawn, in_free, in_receive, in_def, GuardRead, guard_read, receive_begun, receive_read, Wants, for_interface, for_message, for_function, for_param, for_let, for_new, for_free, for_guard, for_tag, for_receive, for_binder, for_from, Built, at_decl, at_want_name, at_got_name, at_first_payload, at_after_message, at_first_param, at_after_params, at_want_type, at_type_name, at_polarity, at_have_type, at_want_pattern, at_have_pattern, at_start, at_bound, at_named, at_print, at_new, at_spawn, at_free, at_yes, at_else, at_clause, at_free_word, at_first_binder, at_after_binders, at_first_arg, at_opened, at_want, at_have, at_done}
 
@@ -261,25 +261,25 @@ any_open lim us k j a w _ = tt
 
 -- no simple term ends directly in a bracket of an expression, in a print, in arguments or in a test
 abbrev holds : List Frame → Bool
-holds (machine.InBracket p f o ∷ fs) = true
-holds (machine.InPrint f o ∷ fs) = true
-holds (machine.InArgs h es o ∷ fs) = true
-holds (machine.InTest f ∷ fs) = true
+holds (machine.AtExpr (machine.InBracket p f o) ∷ fs) = true
+holds (machine.AtExpr (machine.InPrint f o) ∷ fs) = true
+holds (machine.AtExpr (machine.InArgs h es o) ∷ fs) = true
+holds (machine.AtExpr (machine.InTest f) ∷ fs) = true
 holds _ = false
 
 held : (fs : List Frame) (o s : ℕ) (m : tree.Term) (f : ℕ) (c : Token) (w : tree.Span) → holds fs ≡ true → done_step fs o s m f c w ≡ Refused
-held (machine.InBracket p g r ∷ fs) o s m f (Mark mark.Semicolon) w h = refl
-held (machine.InBracket p g r ∷ fs) o s m f (Word word.In) w h = refl
-held (machine.InBracket p g r ∷ fs) o s m f _ w h = refl
-held (machine.InPrint g r ∷ fs) o s m f (Mark mark.Semicolon) w h = refl
-held (machine.InPrint g r ∷ fs) o s m f (Word word.In) w h = refl
-held (machine.InPrint g r ∷ fs) o s m f _ w h = refl
-held (machine.InArgs g es r ∷ fs) o s m f (Mark mark.Semicolon) w h = refl
-held (machine.InArgs g es r ∷ fs) o s m f (Word word.In) w h = refl
-held (machine.InArgs g es r ∷ fs) o s m f _ w h = refl
-held (machine.InTest g ∷ fs) o s m f (Mark mark.Semicolon) w h = refl
-held (machine.InTest g ∷ fs) o s m f (Word word.In) w h = refl
-held (machine.InTest g ∷ fs) o s m f _ w h = refl
+held (machine.AtExpr (machine.InBracket p g r) ∷ fs) o s m f (Mark mark.Semicolon) w h = refl
+held (machine.AtExpr (machine.InBracket p g r) ∷ fs) o s m f (Word word.In) w h = refl
+held (machine.AtExpr (machine.InBracket p g r) ∷ fs) o s m f _ w h = refl
+held (machine.AtExpr (machine.InPrint g r) ∷ fs) o s m f (Mark mark.Semicolon) w h = refl
+held (machine.AtExpr (machine.InPrint g r) ∷ fs) o s m f (Word word.In) w h = refl
+held (machine.AtExpr (machine.InPrint g r) ∷ fs) o s m f _ w h = refl
+held (machine.AtExpr (machine.InArgs g es r) ∷ fs) o s m f (Mark mark.Semicolon) w h = refl
+held (machine.AtExpr (machine.InArgs g es r) ∷ fs) o s m f (Word word.In) w h = refl
+held (machine.AtExpr (machine.InArgs g es r) ∷ fs) o s m f _ w h = refl
+held (machine.AtExpr (machine.InTest g) ∷ fs) o s m f (Mark mark.Semicolon) w h = refl
+held (machine.AtExpr (machine.InTest g) ∷ fs) o s m f (Word word.In) w h = refl
+held (machine.AtExpr (machine.InTest g) ∷ fs) o s m f _ w h = refl
 held _ o s m f c w h = absurd cc
 
 held_sound : (lim : Limits) (all us : List Item) (fs : List Frame) (o s : ℕ) (m : tree.Term) (f : ℕ) (c : Token) (w : At) → holds fs ≡ true → Answers lim w all us (done_step fs o s m f c (place_of w))
@@ -305,10 +305,10 @@ end_sound lim {o = o} (Mark mark.CurlyOpen) w (in_test u) i = opens (λ room. at
 end_sound lim (Mark mark.CurlyOpen) w (as_value (in_bound u)) i = tt
 end_sound lim {o = o} {s = s} {a = a} {us = us} (Mark mark.CurlyOpen) w (as_value (as_simple u)) i = any_open lim us o s a w u
 end_sound lim c w (as_value u) i = done_sound lim c w u (value i.derived)
-end_sound lim {s = s} {t = t} {a = a} {all = all} {us = us} c w (in_bracket {fs = fs} {o = o} {p = p} {w = v} u d room) i = held_sound lim all us (machine.InBracket p v.from o ∷ fs) (suc o) s (tree.ValueTerm a.0 (span a.1 t)) a.1 c w refl
-end_sound lim {s = s} {t = t} {a = a} {all = all} {us = us} c w (in_print {fs = fs} {o = o} {w = v} u room) i = held_sound lim all us (machine.InPrint v.from o ∷ fs) (suc o) s (tree.ValueTerm a.0 (span a.1 t)) a.1 c w refl
-end_sound lim {s = s} {t = t} {a = a} {all = all} {us = us} c w (in_args {fs = fs} {o = o} {h = h} {es = es} u d room fl) i = held_sound lim all us (InArgs h es o ∷ fs) (suc o) s (tree.ValueTerm a.0 (span a.1 t)) a.1 c w refl
-end_sound lim {s = s} {t = t} {a = a} {all = all} {us = us} c w (in_test {fs = fs} {o = o} {w = v} u) i = held_sound lim all us (machine.InTest v.from ∷ fs) o s (tree.ValueTerm a.0 (span a.1 t)) a.1 c w refl
+end_sound lim {s = s} {t = t} {a = a} {all = all} {us = us} c w (in_bracket {fs = fs} {o = o} {p = p} {w = v} u d room) i = held_sound lim all us (machine.AtExpr (machine.InBracket p v.from o) ∷ fs) (suc o) s (tree.ValueTerm a.0 (span a.1 t)) a.1 c w refl
+end_sound lim {s = s} {t = t} {a = a} {all = all} {us = us} c w (in_print {fs = fs} {o = o} {w = v} u room) i = held_sound lim all us (machine.AtExpr (machine.InPrint v.from o) ∷ fs) (suc o) s (tree.ValueTerm a.0 (span a.1 t)) a.1 c w refl
+end_sound lim {s = s} {t = t} {a = a} {all = all} {us = us} c w (in_args {fs = fs} {o = o} {h = h} {es = es} u d room fl) i = held_sound lim all us (AtExpr (InArgs h es o) ∷ fs) (suc o) s (tree.ValueTerm a.0 (span a.1 t)) a.1 c w refl
+end_sound lim {s = s} {t = t} {a = a} {all = all} {us = us} c w (in_test {fs = fs} {o = o} {w = v} u) i = held_sound lim all us (machine.AtExpr (machine.InTest v.from) ∷ fs) o s (tree.ValueTerm a.0 (span a.1 t)) a.1 c w refl
 
 multiplied_new : {lim : Limits} {o k0 k t : ℕ} {ts us : List Item} {a : Operand} (w : At) → Is lim o k0 Product ts a t ((Mark mark.Star, w) ∷ us) k → Room lim w o k → Multiplied lim o k0 (Some a) ts us (suc k)
 multiplied_new {lim = lim} {o = o} {k0 = k0} {ts = ts} {us = us} {a = a} w v room = subst (λ (j : ℕ). Multiplied lim o k0 (Some a) ts us (suc j)) (sym v.count) (is_multiplied v.derived (subst (λ (j : ℕ). Room lim w o j) v.count room))
@@ -351,11 +351,11 @@ want_sound lim _ w u d = tt
 fresh_sound : (lim : Limits) {fs : List Frame} {o k s : ℕ} {all us : List Item} (c : Token) (w : At) → Under lim ForExpr fs o k s all ((c, w) ∷ us) → Answers lim w all us (want_step fs o k s nothing c (place_of w))
 fresh_sound lim c w u = want_sound lim c w u pends_none
 
-opened_sound : (lim : Limits) {fs : List Frame} {o k0 k s : ℕ} {p : Pending} {v : At} {all ts us : List Item} (c : Token) (w : At) → Under lim ForExpr fs o k0 s all ts → Pends lim o k0 p ts ((Mark mark.RoundOpen, v) ∷ (c, w) ∷ us) k → Room lim v o k → Answers lim w all us (opened_step (machine.InBracket p v.from o ∷ fs) (suc o) k s c (place_of w))
+opened_sound : (lim : Limits) {fs : List Frame} {o k0 k s : ℕ} {p : Pending} {v : At} {all ts us : List Item} (c : Token) (w : At) → Under lim ForExpr fs o k0 s all ts → Pends lim o k0 p ts ((Mark mark.RoundOpen, v) ∷ (c, w) ∷ us) k → Room lim v o k → Answers lim w all us (opened_step (machine.AtExpr (machine.InBracket p v.from o) ∷ fs) (suc o) k s c (place_of w))
 opened_sound lim {k = k} (Mark mark.RoundClose) w u d room = at_have u d (record { derived = grammar.Expr.unit room; count = count_same k })
 opened_sound lim c w u d room = fresh_sound lim c w (in_bracket u d room)
 
-first_sound : (lim : Limits) {fs : List Frame} {o s : ℕ} {h : Head} {v : At} {all ts us : List Item} (c : Token) (w : At) → Under lim ForSimple fs o 0 s all ts → HeadRead h ts ((Mark mark.RoundOpen, v) ∷ (c, w) ∷ us) → Room lim v o 0 → Answers lim w all us (first_step (InArgs h [] o ∷ fs) (suc o) 0 s c (place_of w))
+first_sound : (lim : Limits) {fs : List Frame} {o s : ℕ} {h : Head} {v : At} {all ts us : List Item} (c : Token) (w : At) → Under lim ForSimple fs o 0 s all ts → HeadRead h ts ((Mark mark.RoundOpen, v) ∷ (c, w) ∷ us) → Room lim v o 0 → Answers lim w all us (first_step (AtExpr (InArgs h [] o) ∷ fs) (suc o) 0 s c (place_of w))
 first_sound lim (Mark mark.RoundClose) w u h room = at_done u (head_term h room none)
 first_sound lim c w u h room = fresh_sound lim c w (in_args u h room not_yet)
 
@@ -410,7 +410,7 @@ got_sound lim _ w (for_from d) = tt
 
 -- ---- each token
 
-payload_sound : (lim : Limits) {i : Interfacing} {x : List ℕ} {n v : At} {all us : List Item} (c : Token) (w : At) → InterfaceBegun lim i all ((Name x, n) ∷ (Mark mark.RoundOpen, v) ∷ (c, w) ∷ us) → Room lim v 1 0 → Answers lim w all us (first_payload (InMessage i (named x n) [] ∷ []) 2 c (place_of w))
+payload_sound : (lim : Limits) {i : Interfacing} {x : List ℕ} {n v : At} {all us : List Item} (c : Token) (w : At) → InterfaceBegun lim i all ((Name x, n) ∷ (Mark mark.RoundOpen, v) ∷ (c, w) ∷ us) → Room lim v 1 0 → Answers lim w all us (first_payload (AtType (InMessage i (named x n) []) ∷ []) 2 c (place_of w))
 payload_sound lim (Mark mark.RoundClose) w (interface_begun d first fl) room = at_after_message (interface_read d first (follow fl (message room none)))
 payload_sound lim c w i room = want_type_sound lim c w (in_message i room not_yet)
 

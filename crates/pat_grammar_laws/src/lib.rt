@@ -1,12 +1,14 @@
 // Laws of the grammar: the machine reads exactly what the grammar spells, and refuses exactly where it must. No code of the product.
 #![tactic(auto)]
 
-ghost use Rattle.std.specs.Prelude.{◌≡◌, ℕ, List};
+ghost use Rattle.std.specs.Prelude.{◌≡◌, ◌≤◌, ◌*◌, ℕ, List, length};
 ghost use Rattle.pat_lexical.specs.Tokens.{Spanned};
 ghost use Rattle.pat_grammar.specs.Trees.{Tree};
 ghost use Rattle.pat_grammar.specs.Items.{Item, Limits};
 ghost use Rattle.pat_grammar.specs.Grammar.{Spells};
-ghost use Rattle.pat_grammar.specs.Claims.{ExactAnswer};
+ghost use Rattle.pat_grammar.specs.Claims.{ExactAnswer, SpellsTree};
+ghost use Rattle.pat_grammar_laws.specs.Counts.{tree_size};
+ghost use Rattle.pat_grammar_laws.specs.Names.{AreSpelled, TreeNamed};
 
 /// Tokens spell at most one tree, spans included.
 pub fn one_tree_law()
@@ -17,4 +19,14 @@ pub fn one_tree_law()
 /// and why, and each of these exactly where it is so.
 pub fn exact_answer_law()
     ensures { (lim : Limits) (end : ℕ) (ts : List Spanned) → ExactAnswer lim end ts }
+{}
+
+/// A tree has at most four times as many terms, expressions, patterns and names together as there are tokens.
+pub fn size_law()
+    ensures { (lim : Limits) (ts : List Spanned) (m : Tree) → SpellsTree lim ts m → tree_size m ≤ 4 * length ts }
+{}
+
+/// Every name in the tree of tokens that bytes spell is a name, and every string one that a string stands for.
+pub fn names_law()
+    ensures { (lim : Limits) (ts : List Spanned) (m : Tree) → AreSpelled ts → SpellsTree lim ts m → TreeNamed m }
 {}
