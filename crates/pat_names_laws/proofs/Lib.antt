@@ -6,3 +6,5 @@ pub mod Terms
 pub mod Declared
 pub mod Whole
 pub mod Strings
+pub mod Written
+pub mod Given

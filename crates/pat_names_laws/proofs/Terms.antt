@@ -38,7 +38,7 @@ or_left false b h = cc
 
 -- ---- what was looked up
 
-call_found : (scope : Scope) (k : Kind) (g : tree.Name) (es : List tree.Expr) (at : tree.Span) (o : Option (ℕ × Signature)) → call_findings scope k g es at o ≡ []
+pub call_found : (scope : Scope) (k : Kind) (g : tree.Name) (es : List tree.Expr) (at : tree.Span) (o : Option (ℕ × Signature)) → call_findings scope k g es at o ≡ []
     → (s : ℕ × Signature) × (o ≡ Some s) × (length es ≡ length s.1.params) × (args_findings scope (map kind_of s.1.params) es ≡ []) × (k ≡ kind_of s.1.result)
 call_found scope k g es at None h = cc
 call_found scope k g es at (Some s) h =
@@ -48,7 +48,7 @@ call_found scope k g es at (Some s) h =
     let ab = none_first (a ++ b) c h in
     (s, refl, eqb-true (length es) (length s.1.params) (passes (nat_eq (length es) (length s.1.params)) WrongArity g.span (none_first a b ab)), none_second a b ab, own_same k (kind_of s.1.result) at (none_second (a ++ b) c h))
 
-new_found : (k : Kind) (x : tree.Name) (at : tree.Span) (o : Option (ℕ × Interface)) → new_findings k x at o ≡ [] → (i : ℕ × Interface) × (o ≡ Some i) × (k ≡ MailboxOf i.0)
+pub new_found : (k : Kind) (x : tree.Name) (at : tree.Span) (o : Option (ℕ × Interface)) → new_findings k x at o ≡ [] → (i : ℕ × Interface) × (o ≡ Some i) × (k ≡ MailboxOf i.0)
 new_found k x at None h = cc
 new_found k x at (Some i) h = (i, refl, own_same k (MailboxOf i.0) at h)
 

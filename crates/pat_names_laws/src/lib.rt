@@ -5,7 +5,7 @@ ghost use Rattle.std.specs.Prelude.{◌≡◌, [], ◌++◌};
 ghost use Rattle.pat_grammar.specs.Trees.{span};
 ghost use Rattle.pat_names.specs.Findings.{findings, found, UnknownName, Twice, WrongArity, WrongKind, ForeignTag, EmptySending, TooManyTags};
 ghost use Rattle.pat_names.specs.Numbering.{numbered};
-ghost use Rattle.pat_names_laws.specs.Laws.{ResolvedIsWellFormed, ResolvedIsNamed, StringsAreKept, ResolvedIsSpelled, NumberedIsPlaced};
+ghost use Rattle.pat_names_laws.specs.Laws.{ResolvedIsWellFormed, ResolvedIsNamed, StringsAreKept, ResolvedIsSpelled, SpelledIsWritten, SpelledIsWellFormed, NeededIsGiven, NumberedIsPlaced};
 ghost use Rattle.pat_names_laws.specs.Examples as example;
 
 /// A tree that breaks no rule has a well-formed program, with names for interfaces and tags, the tree's string literals, and
@@ -16,6 +16,17 @@ pub fn resolution_laws()
     ensures strings { StringsAreKept }
     ensures spelled { ResolvedIsSpelled }
     ensures placed { NumberedIsPlaced }
+{}
+
+/// What a text spells is a tree as above, so what it resolves to is a well-formed program that a text can show.
+pub fn text_laws()
+    ensures written { SpelledIsWritten }
+    ensures well_formed { SpelledIsWellFormed }
+{}
+
+/// Where nothing is found in a term, it has the kind that is needed of it.
+pub fn kind_law()
+    ensures { NeededIsGiven }
 {}
 
 /// Each rule is found where it is broken: in a declaration's head, at `main`, or in a body.
