@@ -4,3 +4,4 @@ pub mod Canon
 pub mod Same
 pub mod Twice
 pub mod RoundTrip
+pub mod Examples
