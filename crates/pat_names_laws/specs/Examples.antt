@@ -2,7 +2,7 @@
 use Rattle.std.specs.Prelude.{ℕ, zero, suc, ◌+◌, pos, List, [], ◌∷◌, ◌++◌, Some, None, codes, true}
 use Rattle.pat_words.specs.Patterns.{One, Tag, Sum}
 use Rattle.pat_model.specs.Values.{BaseUnit, BaseInt, Plain, MailboxOf, UnitConst, IntConst, VarExpr, Literal, Equal}
-use Rattle.pat_model.specs.Programs.{Sending, BaseSort, Val, Let, Call, New, Guard, Program}
+use Rattle.pat_model.specs.Programs.{Sending, Receiving, BaseSort, Val, Let, Call, Print, New, Guard, Program}
 use Rattle.pat_grammar.specs.Trees as tree
 use Rattle.pat_grammar.specs.Trees.{span, Name, Message, Term, Decl, Tree}
 use Rattle.pat_names.specs.Numbering.{node}
@@ -176,5 +176,70 @@ guarding_program = record {
       ∷ node 0 (Plain BaseUnit) (Val (Literal UnitConst))
       ∷ node 0 (Plain BaseUnit) (Guard 2 One (Some 5) [])
       ∷ node 0 (Plain BaseUnit) (Val (Literal UnitConst))
+      ∷ [];
+}
+
+-- def f(a: Int, a: Int): Unit { () } and then main
+abbrev pub same_parameter : Tree
+same_parameter =
+    tree.DefDecl (letter (codes "f") 4)
+    (record { name = letter (codes "a") 6; type = tree.BaseType BaseInt (span 9 12) } ∷ record { name = letter (codes "a") 14; type = tree.BaseType BaseInt (span 17 20) } ∷ [])
+    (tree.BaseType BaseUnit (span 23 27)) (unit_at 30)
+    ∷ main_at 35 (unit_at 54)
+    ∷ []
+
+-- interface I { m() } and then def main(): Unit { let a = new[I] in a ! m(2) }
+abbrev pub payload_too_many : Tree
+payload_too_many =
+    tree.InterfaceDecl (letter (codes "I") 10) (message (letter (codes "m") 14) [] ∷ [])
+    ∷ main_at 20
+    (tree.LetTerm (Some (letter (codes "a") 43)) (tree.NewTerm (letter (codes "I") 51) (span 47 53))
+    (tree.SendTerm (letter (codes "a") 57) (letter (codes "m") 61) (tree.IntExpr (pos 2) (span 63 64) ∷ []) (span 57 65))
+    (span 39 65))
+    ∷ []
+
+-- interface I { m(I?m) } and then main
+abbrev pub received_payload : Tree
+received_payload =
+    tree.InterfaceDecl (letter (codes "I") 10)
+    (message (letter (codes "m") 14) (tree.MailboxType (letter (codes "I") 16) Receiving (Some (tree.TagPattern (letter (codes "m") 18))) (span 16 19) ∷ []) ∷ [])
+    ∷ main_at 23 (unit_at 42)
+    ∷ []
+
+-- def main(): Unit { let x = 2 in x ! m() }
+abbrev pub base_target : Tree
+base_target =
+    main_at 0 (tree.LetTerm (Some (letter (codes "x") 23)) (int_at 27) (tree.SendTerm (letter (codes "x") 32) (letter (codes "m") 36) [] (span 32 39)) (span 19 39)) ∷ []
+
+-- interface I { m() } and then def f(a: I?): Int { guard a : 0 { fail } } and main
+abbrev pub bare_guard : Tree
+bare_guard =
+    tree.InterfaceDecl (letter (codes "I") 10) (message (letter (codes "m") 14) [] ∷ [])
+    ∷ tree.DefDecl (letter (codes "f") 24) (record { name = letter (codes "a") 26; type = tree.MailboxType (letter (codes "I") 29) Receiving None (span 29 31) } ∷ []) (tree.BaseType BaseInt (span 34 37))
+    (tree.GuardTerm (letter (codes "a") 46) (tree.ZeroPattern (span 50 51)) (tree.listed (tree.FailClause (span 54 58) ∷ [])) (span 40 60))
+    ∷ main_at 63 (unit_at 82)
+    ∷ []
+
+-- def main(): Unit { let x = { let y = 2 in y } in print(x) }
+abbrev pub inner_binder : Tree
+inner_binder =
+    main_at 0
+    (tree.LetTerm (Some (letter (codes "x") 23))
+    (tree.LetTerm (Some (letter (codes "y") 33)) (int_at 37) (var_at (codes "y") 42) (span 29 43))
+    (tree.PrintTerm (tree.VarExpr (codes "x") (span 55 56)) (span 49 57)) (span 19 57))
+    ∷ []
+
+-- its program: the outer name has the lesser number
+abbrev pub inner_binder_program : Program
+inner_binder_program = record {
+  interfaces = [];
+  functions = record { name = codes "main"; params = []; result = BaseSort BaseUnit; vars = Plain BaseInt ∷ Plain BaseInt ∷ []; body = 0 } ∷ [];
+  main = 0;
+  nodes =
+      node 0 (Plain BaseUnit) (Let (Some 0) 1 4)
+      ∷ node 0 (Plain BaseInt) (Let (Some 1) 2 3)
+      ∷ node 0 (Plain BaseInt) (Val (Literal (IntConst (pos 2))))
+      ∷ node 0 (Plain BaseInt) (Val (VarExpr 1))
+      ∷ node 0 (Plain BaseUnit) (Print (VarExpr 0))
       ∷ [];
 }
