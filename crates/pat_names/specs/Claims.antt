@@ -7,13 +7,18 @@ use Rattle.pat_model.specs.Values.{Constant, TextConst, Expr, VarExpr, Literal, 
 use Rattle.pat_model.specs.Programs.{Interface, Core, Val, Call, If, Print, Send, Program}
 use Rattle.pat_grammar.specs.Trees as tree
 use Rattle.pat_names.specs.Heads.{definitions_of}
-use Rattle.pat_names.specs.Findings.{findings}
+use Rattle.pat_names.specs.Findings.{Finding, findings}
 use Rattle.pat_names.specs.Numbering.{numbered}
 
 -- nothing is found in the tree, and this is its program, where the text ends at the offset
 pub record Resolves (end : ℕ) (t : tree.Tree) (p : Program) : Type 0 where
   pub sound : findings end t ≡ []
   pub program : numbered t ≡ p
+
+-- the tree is refused with the first that is found in it
+pub record IsRefused (end : ℕ) (t : tree.Tree) (x : Finding) : Type 0 where
+  pub behind : List Finding
+  pub first : findings end t ≡ x ∷ behind
 
 -- the bytes are a name: no reserved word
 pub record IsName (bytes : List ℕ) : Type 0 where

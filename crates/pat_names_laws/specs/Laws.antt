@@ -1,5 +1,5 @@
 -- What holds of every tree that breaks no rule, and of its program.
-use Rattle.std.specs.Prelude.{◌≡◌, ℕ, List, [], Some, length, slice_get}
+use Rattle.std.specs.Prelude.{◌≡◌, ◌⊎◌, ℕ, List, [], Some, length, slice_get}
 use Rattle.std.specs.List.{AllByRecursion}
 use Rattle.pat_model.specs.Programs.{Function, Program, function_at}
 use Rattle.pat_model.specs.WellFormed.{WellFormed}
@@ -10,11 +10,19 @@ use Rattle.pat_grammar.specs.Items.{Limits}
 use Rattle.pat_grammar.specs.Claims.{SpellsTree}
 use Rattle.pat_names.specs.Scopes.{Scope}
 use Rattle.pat_names.specs.Heads.{Heads}
-use Rattle.pat_names.specs.Findings.{kind_of_term, term_findings}
+use Rattle.pat_names.specs.Findings.{Finding, kind_of_term, term_findings}
 use Rattle.pat_model.specs.Values.{Kind}
 use Rattle.pat_names.specs.Numbering.{numbered}
 use Rattle.pat_names.specs.Places.{FunctionPlaces, places}
-use Rattle.pat_names.specs.Claims.{Resolves, IsWritten, IsNamed, program_strings, tree_strings, IsSpelled}
+use Rattle.pat_names.specs.Claims.{Resolves, IsRefused, IsWritten, IsNamed, program_strings, tree_strings, IsSpelled}
+
+-- a tree resolves to its program or is refused, and not both
+pub record OneAnswer (end : ℕ) (t : Tree) : Type 0 where
+  pub answered : Resolves end t (numbered t) ⊎ ((x : Finding) × IsRefused end t x)
+  pub not_both : (p : Program) (x : Finding) → Resolves end t p → IsRefused end t x → ⊥
+
+abbrev pub EachTreeIsAnswered : Type 0
+EachTreeIsAnswered = (end : ℕ) (t : Tree) → OneAnswer end t
 
 -- the program of a tree that breaks no rule, and that is as the grammar has it, is well formed
 abbrev pub ResolvedIsWellFormed : Type 0

@@ -5,12 +5,13 @@ ghost use Rattle.std.specs.Prelude.{◌≡◌, [], ◌++◌};
 ghost use Rattle.pat_grammar.specs.Trees.{span};
 ghost use Rattle.pat_names.specs.Findings.{findings, found, UnknownName, Twice, WrongArity, WrongKind, ForeignTag, EmptySending, TooManyTags};
 ghost use Rattle.pat_names.specs.Numbering.{numbered};
-ghost use Rattle.pat_names_laws.specs.Laws.{ResolvedIsWellFormed, ResolvedIsNamed, StringsAreKept, ResolvedIsSpelled, SpelledIsWritten, SpelledIsWellFormed, NeededIsGiven, NumberedIsPlaced};
+ghost use Rattle.pat_names_laws.specs.Laws.{EachTreeIsAnswered, ResolvedIsWellFormed, ResolvedIsNamed, StringsAreKept, ResolvedIsSpelled, SpelledIsWritten, SpelledIsWellFormed, NeededIsGiven, NumberedIsPlaced};
 ghost use Rattle.pat_names_laws.specs.Examples as example;
 
-/// A tree that breaks no rule has a well-formed program, with names for interfaces and tags, the tree's string literals, and
-/// a place for each part.
+/// A tree resolves or is refused. One that breaks no rule has a well-formed program, with names for interfaces and tags, the
+/// tree's string literals, and a place for each part.
 pub fn resolution_laws()
+    ensures answer { EachTreeIsAnswered }
     ensures well_formed { ResolvedIsWellFormed }
     ensures named { ResolvedIsNamed }
     ensures strings { StringsAreKept }
