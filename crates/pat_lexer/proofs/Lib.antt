@@ -7,3 +7,4 @@ mod WordOr
 mod Endings
 mod Cuts
 mod Histories
+mod Holding

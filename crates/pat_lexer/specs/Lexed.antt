@@ -1,6 +1,9 @@
 -- What a lexer shows, and what it knows of the bytes that it was fed.
-use Rattle.std.specs.Prelude.{◌≡◌, ℕ, List, ◌++◌, length, Option, None, Some}
+use Rattle.std.specs.Prelude.{◌≡◌, ◌≢◌, ◌⊎◌, ℕ, List, [], ◌++◌, length, Option, None, Some}
+use Rattle.pat_lexical.specs.Characters.{IsUnfinished}
+use Rattle.pat_lexical.specs.Divisions.{Reaches}
 use Rattle.pat_lexer.specs.declared.error.LexError.{LexError}
+use Rattle.pat_lexer.specs.declared.unfinished.Unfinished.TheVariants.{Comment}
 use Rattle.pat_lexer.specs.Progress.{Progress, Stands}
 use Rattle.pat_lexer.specs.Reads.{IsAnswer}
 
@@ -15,3 +18,11 @@ pub record HasRead (bytes : List ℕ) (l : Lexed) : Type 0 where
   pub counted : l.refusal ≡ None → l.progress.position ≡ length bytes
   pub stands : l.refusal ≡ None → (more : List ℕ) → Stands l.progress (bytes ++ more) more
   pub refused : (e : LexError) → l.refusal ≡ Some e → (more : List ℕ) → IsAnswer (bytes ++ more) e
+
+-- What is held of the bytes read ends them. Outside a comment the whole tokens lead to it, whatever bytes follow;
+-- within one it is an unfinished character, or nothing.
+pub record Holds (bytes : List ℕ) (p : Progress) : Type 0 where
+  pub front : List ℕ
+  pub split : bytes ≡ front ++ p.held
+  pub reaches : p.unfinished ≢ Comment → (more : List ℕ) → Reaches 0 (bytes ++ more) p.whole p.start (p.held ++ more)
+  pub comment : p.unfinished ≡ Comment → (p.held ≡ []) ⊎ IsUnfinished p.held

@@ -2,7 +2,7 @@
 ghost use Rattle.std.specs.Prelude.{◌≡◌, ◌+◌, ◌<◌, ◌^◌, ℕ, List, [], ◌++◌, length, map, None, Some, Err, IfOk, IfErr, MatchResult};
 ghost use Rattle.pat_lexical.specs.Divisions.{Divides};
 ghost use Rattle.pat_syntax.specs.Views.{token_view};
-ghost use Rattle.pat_lexer.specs.Lexed.{HasRead};
+ghost use Rattle.pat_lexer.specs.Lexed.{HasRead, Holds};
 ghost use Rattle.pat_lexer.specs.Reads.{IsAnswer};
 ghost use Rattle.pat_lexer.specs.declared.error.LexError.{LexError as Refusal};
 
@@ -74,7 +74,8 @@ impl Lexer {
     /// The bytes held back: those of the unfinished piece, in a comment those of an unfinished
     /// character alone.
     pub fn held(&self) -> &[u8]
-        ensures { result.now ≡ self.now.progress.held }
+        ensures held { result.now ≡ self.now.progress.held }
+        ensures known { (bytes : List ℕ) → HasRead bytes self.now → self.now.refusal ≡ None → Holds bytes self.now.progress }
     {
         self.reader.held.as_slice()
     }
