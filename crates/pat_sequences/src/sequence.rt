@@ -34,14 +34,6 @@ impl<T> Sequence<T> {
         Sequence { items }
     }
 
-    /// The vector of its items.
-    pub fn into_vec(self) -> Vec<T>
-        ensures { result.items ≡ self }
-    {
-        let Sequence { items } = self;
-        items
-    }
-
     /// Its items.
     pub fn as_slice(&self) -> &[T]
         ensures { result.now ≡ self.now }
