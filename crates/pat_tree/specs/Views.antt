@@ -1,22 +1,15 @@
 -- What the definitions see of trees.
 use Rattle.std.specs.Prelude.{List, [], ◌∷◌, map, Option, Some, None, option_map}
-use Rattle.pat_model.specs.Values as values
-use Rattle.pat_model.specs.Programs as programs
 use Rattle.pat_grammar.specs.Trees as trees
+use Rattle.pat_primitives.specs.Views.{base_view, polarity_view, op_view}
 use Rattle.pat_syntax.specs.declared.span.Span.{Span}
 use Rattle.pat_tree.specs.declared.pattern.Name.{Name}
 use Rattle.pat_tree.specs.declared.pattern.TreePattern.{TreePattern, Zero, One, Tag, Sum', Prod', Star'}
-use Rattle.pat_tree.specs.declared.expression.Op.{Op}
-use Rattle.pat_tree.specs.declared.expression.Op.TheVariants as op
 use Rattle.pat_tree.specs.declared.expression.TreeExpr.{TreeExpr}
 use Rattle.pat_tree.specs.declared.expression.ExprForm.{ExprForm, Var, Unit as UnitForm, Bool as BoolForm, Int as IntForm, Str as StrForm, Op'}
 use Rattle.pat_tree.specs.declared.term.Term.{Term}
 use Rattle.pat_tree.specs.declared.term.Form.{Form, Let', If', Print, New, Spawn', Free, Guard', Send, Call, Value, Row_of-TreeClause, end_of-TreeClause, more_of-TreeClause}
 use Rattle.pat_tree.specs.declared.term.TreeClause.{TreeClause, Fail, Free' as FreeClause, Receive' as ReceiveClause}
-use Rattle.pat_tree.specs.declared.tree.Base.{Base}
-use Rattle.pat_tree.specs.declared.tree.Base.TheVariants as base
-use Rattle.pat_tree.specs.declared.tree.Polarity.{Polarity}
-use Rattle.pat_tree.specs.declared.tree.Polarity.TheVariants as polarity
 use Rattle.pat_tree.specs.declared.tree.TreeType.{TreeType}
 use Rattle.pat_tree.specs.declared.tree.TreeType.TheVariants as type
 use Rattle.pat_tree.specs.declared.tree.TreeMessage.{TreeMessage}
@@ -38,13 +31,6 @@ pattern_view (Tag x) = trees.TagPattern (name_view x)
 pattern_view (Sum' p a q b) = trees.SumPattern (pattern_view a) (pattern_view b)
 pattern_view (Prod' p a q b) = trees.ProdPattern (pattern_view a) (pattern_view b)
 pattern_view (Star' p a) = trees.StarPattern (pattern_view a)
-
-abbrev pub op_view : Op → values.Op
-op_view op.Add = values.Add
-op_view op.Sub = values.Sub
-op_view op.Mul = values.Mul
-op_view op.Equal = values.Equal
-op_view op.Less = values.Less
 
 -- a form at a place
 abbrev pub expr_at : ExprForm → trees.Span → trees.Expr
@@ -82,16 +68,6 @@ abbrev mutual
 
 abbrev pub term_view : Term → trees.Term
 term_view m = term_at m.form (span_view m.span)
-
-abbrev pub base_view : Base → values.Base
-base_view base.Unit = values.BaseUnit
-base_view base.Bool = values.BaseBool
-base_view base.Int = values.BaseInt
-base_view base.Str = values.BaseText
-
-abbrev pub polarity_view : Polarity → programs.Polarity
-polarity_view polarity.Sending = programs.Sending
-polarity_view polarity.Receiving = programs.Receiving
 
 abbrev pub type_view : TreeType → trees.WrittenType
 type_view (type.Base b s) = trees.BaseType (base_view b) (span_view s)

@@ -1,16 +1,7 @@
 // Expressions.
+use pat_primitives::Op;
 use pat_sequences::Text;
 use pat_syntax::Span;
-
-/// An operator.
-#[derive(Clone, Copy, Debug, PartialEq, Eq)]
-pub enum Op {
-    Add,
-    Sub,
-    Mul,
-    Equal,
-    Less,
-}
 
 /// An expression. Its span leaves out the brackets round the whole of it.
 #[derive(Drop)]

@@ -6,7 +6,7 @@ mod pattern;
 mod term;
 mod tree;
 
-pub use expression::{ExprForm, Op, TreeExpr};
+pub use expression::{ExprForm, TreeExpr};
 pub use pattern::{Name, TreePattern};
 pub use term::{Form, Term, TreeClause};
-pub use tree::{Base, Decl, Param, Polarity, Tree, TreeMessage, TreeType};
+pub use tree::{Decl, Param, Tree, TreeMessage, TreeType};

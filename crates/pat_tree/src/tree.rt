@@ -1,24 +1,9 @@
 // Types, declarations and whole trees.
 use crate::pattern::{Name, TreePattern};
 use crate::term::Term;
+use pat_primitives::{Base, Polarity};
 use pat_sequences::Sequence;
 use pat_syntax::Span;
-
-/// A base type.
-#[derive(Clone, Copy, Debug, PartialEq, Eq)]
-pub enum Base {
-    Unit,
-    Bool,
-    Int,
-    Str,
-}
-
-/// Whether a mailbox is sent to or received from.
-#[derive(Clone, Copy, Debug, PartialEq, Eq)]
-pub enum Polarity {
-    Sending,
-    Receiving,
-}
 
 /// A type as it is written. A mailbox type may leave its pattern out.
 #[derive(Drop)]
