@@ -1,11 +1,10 @@
-//! Core programs: functions over numbered nodes and numbered variables.
+//! Core programs: interfaces, and functions over numbered nodes and numbered variables.
 #![tactic(auto)]
 
-mod executable;
 mod expression;
-mod free_variables;
 mod program;
 
-pub use executable::Executable;
-pub use expression::{Expr, Op};
-pub use program::{Base, Core, Function, Interface, Kind, Node, Program, Sort, TagDecl};
+pub use expression::Expr;
+pub use program::{
+    Clause, Core, Function, Interface, Kind, MailboxSort, Node, Program, Sort, TagDecl,
+};

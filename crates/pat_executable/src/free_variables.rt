@@ -4,9 +4,9 @@ ghost use Rattle.pat_model.specs.Values.{occurs};
 ghost use Rattle.pat_model.specs.Programs.{is_among, option_list, core_uses, is_free};
 ghost use Rattle.pat_model.specs.WellFormed.{WellFormed};
 ghost use Rattle.pat_core.specs.Views.{expr_view, core_view, program_view};
-ghost use Rattle.pat_core.specs.FreeVariables.{is_listed};
+ghost use Rattle.pat_executable.specs.FreeVariables.{is_listed};
 
-use crate::{Core, Expr, Program};
+use pat_core::{Core, Expr, Program};
 use pat_sequences::Sequence;
 use std::alloc::{AllocError, Global};
 

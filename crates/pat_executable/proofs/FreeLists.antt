@@ -10,7 +10,7 @@ use Rattle.pat_steps.proofs.FreeVars.{free_unfolds, core_agrees, part_after}
 use Rattle.pat_core.specs.declared.program.Node.{Node as CodeNode}
 use Rattle.pat_core.specs.declared.program.Program.{Program as CodeProgram}
 use Rattle.pat_core.specs.Views.{core_view, node_view, program_view}
-use Rattle.pat_core.specs.FreeVariables.{is_in, is_listed}
+use Rattle.pat_executable.specs.FreeVariables.{is_in, is_listed}
 
 set_here : (xs : List (List ℕ)) (n : ℕ) (v : List ℕ) → n < length xs → slice_get (slice_set xs n v) n ≡ Some v
 set_here xs n v within =

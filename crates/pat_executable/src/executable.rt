@@ -3,9 +3,9 @@ ghost use Rattle.std.specs.Prelude.{◌≡◌, ℕ, IfOk};
 ghost use Rattle.pat_model.specs.Programs.{is_free};
 ghost use Rattle.pat_model.specs.WellFormed.{WellFormed};
 ghost use Rattle.pat_core.specs.Views.{program_view};
-ghost use Rattle.pat_core.specs.FreeVariables.{is_listed};
+ghost use Rattle.pat_executable.specs.FreeVariables.{is_listed};
 
-use crate::Program;
+use pat_core::Program;
 use crate::free_variables::list_free;
 use pat_sequences::Sequence;
 use std::alloc::{AllocError, Global};

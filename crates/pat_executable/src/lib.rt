@@ -1,0 +1,7 @@
+//! Programs that are ready to run: with the free variables of their nodes.
+#![tactic(auto)]
+
+mod executable;
+mod free_variables;
+
+pub use executable::Executable;
