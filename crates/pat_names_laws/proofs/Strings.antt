@@ -11,7 +11,7 @@ use Rattle.pat_names.specs.Heads.{InterfaceNames, sort_of, Definition, signature
 use Rattle.pat_names.specs.Findings.{binders_in, clauses_binders_in, guarded, kind_of_term}
 use Rattle.pat_names.specs.Numbering.{expr_of, nodes_in, clauses_nodes_in, nodes_of, clauses_nodes_of, vars_of, body_scope, functions_from, nodes_from}
 use Rattle.pat_names.specs.Claims.{expr_strings, core_strings, written_expr_strings, term_strings, clauses_strings}
-use Rattle.pat_names.specs.Places.{type_at, FunctionPlaces, function_places, node_places, clauses_node_places, var_places, clauses_var_places}
+use Rattle.pat_names.specs.Places.{type_place, FunctionPlaces, function_places, node_places, clauses_node_places, var_places, clauses_var_places}
 use Rattle.pat_names_laws.proofs.Binding.{nodes_length, vars_length}
 use Rattle.pat_names_laws.proofs.Terms.{right_nil}
 
@@ -159,7 +159,7 @@ parts_placed names h n (d ∷ ds) zero g q at there =
     let l = length-append (map (λ p. p.name.span) d.params) (var_places d.body) in
     let r = length-append (map kind_of sorts) (vars_of h (body_scope names d) (length d.params) d.body) in
     let names_long = length-map d.params (λ p. p.name.span) in
-    let types_long = length-map d.params (λ p. type_at p.type) in
+    let types_long = length-map d.params (λ p. type_place p.type) in
     let sorts_long = length-map d.params (λ p. sort_of names p.type) in
     let kinds_long = length-map sorts kind_of in
     let own = var_places_length d.body in
