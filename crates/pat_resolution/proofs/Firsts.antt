@@ -1,0 +1,42 @@
+-- What is found first in lists one behind the other.
+use Rattle.std.proofs.Common.{◌≡◌, List, [], ◌∷◌, ◌++◌, Option, Some, None, refl, ◌∙◌}
+use Rattle.std.specs.Prelude.{Result, Ok, Err}
+use Rattle.pat_names.specs.Findings.{Finding}
+use Rattle.pat_resolution.specs.Results.{first_of, Refuses, Meets}
+use Rattle.pat_resolution.specs.Views.{finding_view}
+use Rattle.pat_resolution.specs.declared.error.ResolveError.{ResolveError}
+use Rattle.pat_resolution.specs.declared.error.ResolveError.TheVariants.{Broken, NoMemory}
+
+-- where nothing is found first, nothing is found
+pub first_none : (xs : List Finding) → first_of xs ≡ None → xs ≡ []
+first_none [] e = refl
+first_none (x ∷ xs) e = cc
+
+-- where nothing is found in the front, the rest decides
+pub first_behind : (xs ys : List Finding) → first_of xs ≡ None → first_of (xs ++ ys) ≡ first_of ys
+first_behind [] ys e = refl
+first_behind (x ∷ xs) ys e = cc
+
+-- what is found first in the front is first
+pub first_front : (xs ys : List Finding) (x : Finding) → first_of xs ≡ Some x → first_of (xs ++ ys) ≡ Some x
+first_front [] ys x e = cc
+first_front (y ∷ xs) ys x e = e
+
+-- nothing is found in either
+pub nothing_found : (xs ys : List Finding) → first_of xs ≡ None → first_of ys ≡ None → first_of (xs ++ ys) ≡ None
+nothing_found xs ys e f = first_behind xs ys e ∙ f
+
+-- a refusal of the front is one of the whole
+pub refuses_front : (e : ResolveError) (xs ys : List Finding) → Refuses e xs → Refuses e (xs ++ ys)
+refuses_front (Broken k s) xs ys m = first_front xs ys (finding_view k s) m
+refuses_front NoMemory xs ys m = tt
+
+-- where nothing is found in the front, a refusal of the rest is one of the whole
+pub refuses_behind : (e : ResolveError) (xs ys : List Finding) → first_of xs ≡ None → Refuses e ys → Refuses e (xs ++ ys)
+refuses_behind (Broken k s) xs ys e m = first_behind xs ys e ∙ m
+refuses_behind NoMemory xs ys e m = tt
+
+-- and so does a result that meets the rest
+pub meets_behind : {A : Type 0} (r : Result A ResolveError) (xs ys : List Finding) → first_of xs ≡ None → Meets r ys → Meets r (xs ++ ys)
+meets_behind (Ok x) xs ys e m = first_behind xs ys e ∙ m
+meets_behind (Err x) xs ys e m = refuses_behind x xs ys e m
