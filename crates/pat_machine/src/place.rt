@@ -1,0 +1,121 @@
+// States from their parts, and whether one more token may be open.
+ghost use Rattle.std.specs.Prelude.{◌≡◌, ◌∷◌, ◌+◌, nat_lt, Ok, Err};
+ghost use Rattle.pat_grammar.specs.Machine as m;
+ghost use Rattle.pat_tree.specs.Views.{span_view, name_view};
+ghost use Rattle.pat_machine.specs.Views.{pending_view, before_view, frame_view, stack_view, control_view, state_view, limits};
+ghost use Rattle.pat_machine.specs.Answers.{Gives, Makes, Tops};
+
+use crate::fault::Fault;
+use crate::state::{Before, Control, Frame, Frames, Pending, Place, State};
+use pat_sequences::{Sequence, Text};
+use pat_syntax::Span;
+use pat_tree::Name;
+use std::alloc::Global;
+
+/// A state with these frames, and so many brackets, operators and statements open.
+pub fn at(control: Control, stack: Frames, opened: u32, operators: u32, statements: u32) -> State
+    ensures { state_view result ≡ m.state (control_view control) (stack_view stack) opened operators statements }
+{
+    State {
+        control,
+        place: Place {
+            stack,
+            opened,
+            operators,
+            statements,
+        },
+    }
+}
+
+/// One frame more.
+pub fn over(frame: Frame, below: Frames) -> Result<Frames, Fault>
+    ensures { Gives stack_view result (Ok (frame_view frame ∷ stack_view below)) }
+{
+    let mut stack = below;
+    stack.push(frame)?;
+    Ok(stack)
+}
+
+/// Whether one more bracket or operator may be open.
+pub fn has_room(opened: u32, operators: u32) -> bool
+    ensures { result ≡ nat_lt (opened + operators) 255 }
+{
+    u64::from(opened) + u64::from(operators) < 255
+}
+
+/// A name token as a name.
+pub fn name_of(text: Text, span: Span) -> Name
+    ensures { name_view result ≡ m.name_at text (span_view span) }
+{
+    Name { text, span }
+}
+
+/// Nothing stands before the operand.
+pub fn nothing() -> Pending
+    ensures { pending_view result ≡ m.nothing }
+{
+    Pending {
+        compared: None,
+        added: None,
+        multiplied: None,
+    }
+}
+
+/// Nothing stands before the factor.
+pub fn none_before(alloc: Global) -> Before
+    ensures { before_view result ≡ m.none_before }
+{
+    Before {
+        added: None,
+        multiplied: None,
+        stars: Sequence::new(alloc),
+    }
+}
+
+/// The top frame, and what stands below it.
+pub fn top(stack: Frames) -> Option<(Frame, Frames)>
+    ensures { Tops result (stack_view stack) }
+{
+    let mut stack = stack;
+    match stack.pop() {
+        None => None,
+        Some(frame) => Some((frame, stack)),
+    }
+}
+
+/// A step can't be taken; what was read is dropped.
+pub fn failed<T: Drop>(fault: Fault, _rest: T) -> Result<State, Fault>
+    ensures { result ≡ Err fault }
+{
+    Err(fault)
+}
+
+/// The token may not stand here; what was read is dropped.
+pub fn refused<T: Drop>(rest: T) -> Result<State, Fault>
+    ensures { Makes result m.Refused }
+{
+    failed(Fault::Unexpected, rest)
+}
+
+/// The token opens more than the limits allow; what was read is dropped.
+pub fn too_deep<T: Drop>(rest: T) -> Result<State, Fault>
+    ensures { Gives state_view result (Err m.TooDeep) }
+{
+    failed(Fault::TooDeep, rest)
+}
+
+/// A state with one frame more.
+pub fn within(
+    frame: Frame,
+    below: Frames,
+    control: Control,
+    opened: u32,
+    statements: u32,
+) -> Result<State, Fault>
+    ensures { Gives state_view result (Ok (m.state (control_view control) (frame_view frame ∷ stack_view below) opened 0 statements)) }
+{
+    match over(frame, below) {
+        Ok(stack) => Ok(at(control, stack, opened, 0, statements)),
+        Err(fault) => failed(fault, control),
+    }
+}
