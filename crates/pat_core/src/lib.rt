@@ -1,6 +1,7 @@
 //! Core programs: interfaces, and functions over numbered nodes and numbered variables.
 #![tactic(auto)]
 
+mod copying;
 mod expression;
 mod program;
 
