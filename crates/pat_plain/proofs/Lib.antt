@@ -1,0 +1,2 @@
+pub mod Typable
+pub mod Straight

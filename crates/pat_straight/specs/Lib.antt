@@ -1,6 +1,0 @@
-pub mod Tokens
-pub mod Trees
-pub mod Grammar
-pub mod Fronts
-pub mod Numbering
-pub mod Spelling
