@@ -5,8 +5,8 @@ ghost use Rattle.pat_model.specs.WellFormed.{WellFormed};
 ghost use Rattle.pat_core.specs.Views.{program_view};
 ghost use Rattle.pat_executable.specs.FreeVariables.{is_listed};
 
-use pat_core::Program;
 use crate::free_variables::list_free;
+use pat_core::Program;
 use pat_sequences::Sequence;
 use std::alloc::{AllocError, Global};
 

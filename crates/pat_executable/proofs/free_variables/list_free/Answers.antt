@@ -3,9 +3,9 @@ use Rattle.std.proofs.lemmas.List.{length-set}
 use Rattle.pat_model.specs.Programs.{core_uses}
 use Rattle.pat_core.specs.declared.program.Node.{Node}
 use Rattle.pat_core.specs.Views.{core_view, program_view}
-use Rattle.pat_core.specs.FreeVariables.{is_listed}
-use Rattle.pat_core.proofs.FreeLists.{listed_past, one_more, core_there}
-use Rattle.pat_core.proofs.free_variables.list_free.Goals as goal
+use Rattle.pat_executable.specs.FreeVariables.{is_listed}
+use Rattle.pat_executable.proofs.FreeLists.{listed_past, one_more, core_there}
+use Rattle.pat_executable.proofs.free_variables.list_free.Goals as goal
 
 pub loop-n-init : goal.loop-n-init
 loop-n-init c =

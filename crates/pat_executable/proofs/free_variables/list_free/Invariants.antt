@@ -1,8 +1,8 @@
 use Rattle.std.proofs.Common.{◌≡◌, ℕ, ◌≤◌, length}
 use Rattle.pat_model.specs.Programs.{is_free}
 use Rattle.pat_core.specs.Views.{program_view}
-use Rattle.pat_core.specs.FreeVariables.{is_listed}
-use Rattle.pat_core.proofs.free_variables.list_free.Given as goal
+use Rattle.pat_executable.specs.FreeVariables.{is_listed}
+use Rattle.pat_executable.proofs.free_variables.list_free.Given as goal
 
 -- a list for each node so far
 abbrev pub invariant-loop : goal.invariant-loop
