@@ -47,11 +47,18 @@ impl NameTable {
     pub fn find(&self, name: &Text) -> Option<usize>
         ensures { result ≡ option_map (λ f. f.0) (first_named itself name.now self.now) }
     {
-        for (i, own) in self.names.as_slice().iter().enumerate() {
-            if own.is_same(name) {
-                return Some(i);
-            }
-        }
-        None
+        first_place(self.names.as_slice(), name)
     }
+}
+
+/// The first place of a name among these, if it is there.
+fn first_place(names: &[Text], name: &Text) -> Option<usize>
+    ensures { result ≡ option_map (λ f. f.0) (first_named itself name.now names.now) }
+{
+    for (i, own) in names.iter().enumerate() {
+        if own.is_same(name) {
+            return Some(i);
+        }
+    }
+    None
 }

@@ -1,11 +1,11 @@
 // The variables in scope, found by name.
-ghost use Rattle.std.specs.Prelude.{◌≡◌, ◌∷◌, ◌++◌, ◌≤◌, [], List, ℕ, length, drop, option_copied, option_map, OnOk};
+ghost use Rattle.std.specs.Prelude.{◌≡◌, ◌∷◌, ◌++◌, ◌≤◌, [], List, ℕ, length, drop, reverse, option_copied, option_map, OnOk};
 ghost use Rattle.pat_names.specs.Scopes.{variable_of};
 ghost use Rattle.pat_tables.specs.Views.{scope_view, variable_view};
 ghost use Rattle.pat_tables.specs.declared.scope.Variable.{Variable};
 
 use pat_core::Kind;
-use pat_sequences::{Stack, Text};
+use pat_sequences::Text;
 use std::alloc::{AllocError, Global};
 use std::marker::Model;
 
@@ -20,13 +20,13 @@ pub struct Variable {
 /// The variables in scope, the innermost first. A name stands for the innermost variable that has it.
 #[derive(Drop)]
 pub struct ScopeTable {
-    variables: Stack<Variable>,
+    variables: Vec<Variable>,
 }
 
 impl Model for ScopeTable {
     ghost Value = { List Variable };
 
-    ghost view = { λ t. t.variables };
+    ghost view = { λ t. reverse t.variables.items };
 }
 
 impl ScopeTable {
@@ -35,7 +35,7 @@ impl ScopeTable {
         ensures { result ≡ [] }
     {
         ScopeTable {
-            variables: Stack::new(alloc),
+            variables: Vec::new(alloc),
         }
     }
 
@@ -57,7 +57,8 @@ impl ScopeTable {
         ensures { OnOk result (self.new ≡ record { name = name.now; number = number; kind = kind } ∷ self.old) }
     {
         let name = name.copy(alloc)?;
-        self.variables.push(Variable { name, number, kind })
+        self.variables.push(Variable { name, number, kind })?;
+        Ok(())
     }
 
     /// Takes the innermost variables out of scope, so many of them.
@@ -65,16 +66,27 @@ impl ScopeTable {
         requires { count ≤ length self.old }
         ensures { self.new ≡ drop count self.old }
     {
-        for _ in 0..count {
-            let _ = self.variables.pop();
-        }
+        let kept = self.variables.len() - count;
+        self.variables.truncate(kept);
     }
 
     /// The variable that a name stands for.
     pub fn find(&self, name: &Text) -> Option<&Variable>
         ensures { option_map variable_view (option_copied result) ≡ variable_of (scope_view self.now) name.now }
     {
-        let _ = name;
-        None
+        innermost(self.variables.as_slice(), name)
     }
+}
+
+/// The last of these that has the name.
+fn innermost<'a>(variables: &'a [Variable], name: &Text) -> Option<&'a Variable>
+    ensures { option_map variable_view (option_copied result) ≡ variable_of (scope_view (reverse variables.now)) name.now }
+{
+    let mut found = None;
+    for variable in variables {
+        if variable.name.is_same(name) {
+            found = Some(variable);
+        }
+    }
+    found
 }
