@@ -1,2 +1,12 @@
-//! The heads of declarations: interfaces with their tags, and the types of functions.
+//! The heads of declarations: interfaces with their tags, and the types of functions, examined and numbered.
 #![tactic(auto)]
+
+mod heads;
+mod names;
+mod patterns;
+mod reading;
+
+pub use heads::{Heads, Signature};
+pub use names::{InterfaceTable, Names};
+pub use patterns::{check_pattern, number_pattern};
+pub use reading::read_heads;

@@ -1,5 +1,5 @@
 // Names in order, found by their bytes.
-ghost use Rattle.std.specs.Prelude.{◌≡◌, ◌∷◌, ◌++◌, [], List, ℕ, length, option_map, OnOk};
+ghost use Rattle.std.specs.Prelude.{◌≡◌, ◌∷◌, ◌++◌, [], List, ℕ, length, option_map, OnOk, IfSome, ◌<◌};
 ghost use Rattle.pat_names.specs.Scopes.{first_named, itself};
 
 use pat_sequences::{Sequence, Text};
@@ -45,7 +45,8 @@ impl NameTable {
 
     /// The first place of a name, if it is there.
     pub fn find(&self, name: &Text) -> Option<usize>
-        ensures { result ≡ option_map (λ f. f.0) (first_named itself name.now self.now) }
+        ensures below { IfSome result (λ i. i < length self.now) }
+        ensures place { result ≡ option_map (λ f. f.0) (first_named itself name.now self.now) }
     {
         first_place(self.names.as_slice(), name)
     }
@@ -53,7 +54,8 @@ impl NameTable {
 
 /// The first place of a name among these, if it is there.
 fn first_place(names: &[Text], name: &Text) -> Option<usize>
-    ensures { result ≡ option_map (λ f. f.0) (first_named itself name.now names.now) }
+    ensures below { IfSome result (λ i. i < length names.now) }
+    ensures place { result ≡ option_map (λ f. f.0) (first_named itself name.now names.now) }
 {
     for (i, own) in names.iter().enumerate() {
         if own.is_same(name) {

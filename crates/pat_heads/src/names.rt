@@ -1,0 +1,37 @@
+// The names of interfaces and of their tags.
+ghost use Rattle.std.specs.Prelude.{◌≡◌, ◌<◌, ◌^◌, ℕ, length, map};
+
+use pat_sequences::{Sequence, Text};
+use pat_tables::NameTable;
+
+/// The name of an interface, and those of its tags in order.
+#[derive(Drop)]
+pub struct InterfaceTable {
+    pub name: Text,
+    pub tags: NameTable,
+}
+
+/// The interfaces of a tree in order, found by name.
+#[derive(Drop)]
+pub struct Names {
+    pub interfaces: Sequence<InterfaceTable>,
+    pub table: NameTable,
+    ghost tied: { table ≡ map (λ i. i.name) interfaces },
+    ghost few: { length interfaces < 2 ^ 32 },
+}
+
+impl Names {
+    ghost use Rattle.std.specs.Prelude.{option_map};
+    ghost use Rattle.pat_names.specs.Heads.{interface_named};
+    ghost use Rattle.pat_heads.specs.Names.{names_view, table_view};
+
+    /// The interface of a name, with its number.
+    pub fn find(&self, name: &Text) -> Option<(u32, &InterfaceTable)>
+        ensures { option_map (λ f. (f.0, table_view f.1.now)) result ≡ interface_named (names_view self.now) name.now }
+    {
+        match self.table.find(name) {
+            Some(place) => Some((place as u32, &self.interfaces.as_slice()[place])),
+            None => None,
+        }
+    }
+}
