@@ -1,7 +1,6 @@
 -- What the machine's definitions see of the parser's states.
-use Rattle.std.specs.Prelude.{◌≡◌, ℕ, suc, ◌+◌, false, List, [], ◌∷◌, map, length, Option, Some, None, option_map, Result, Ok, Err}
+use Rattle.std.specs.Prelude.{List, map, length, Option, Some, None, option_map}
 use Rattle.pat_model.specs.Values as values
-use Rattle.pat_grammar.specs.Trees as trees
 use Rattle.pat_grammar.specs.Items.{Limits}
 use Rattle.pat_grammar.specs.Grammar.{Operand as AnyOperand}
 use Rattle.pat_grammar.specs.Machine as m
@@ -35,7 +34,6 @@ use Rattle.pat_machine.specs.declared.state.ClauseFrame.TheVariants as clauses
 use Rattle.pat_machine.specs.declared.state.Frame.TheVariants as frame
 use Rattle.pat_machine.specs.declared.state.Control.{Control}
 use Rattle.pat_machine.specs.declared.state.Control.TheVariants as control
-use Rattle.pat_machine.specs.declared.state.Place.{Place}
 use Rattle.pat_machine.specs.declared.state.State.{State}
 
 abbrev pub operand_view : Operand → AnyOperand

@@ -1,0 +1,10 @@
+use Rattle.std.proofs.Common.{◌≡◌, map, drop}
+use Rattle.pat_grammar.specs.Machine as m
+use Rattle.pat_grammar.specs.Items.{bound_item}
+use Rattle.pat_syntax.specs.Views.{token_view}
+use Rattle.pat_machine.specs.Views.{state_view, limits}
+use Rattle.pat_parser.proofs.machine.read.Given as goal
+
+-- what is still to be read from this state is what all tokens give
+abbrev pub invariant-loop-i : goal.invariant-loop-i
+invariant-loop-i l = m.reads limits (state_view l.state) (map bound_item (map token_view (drop l.i l.tokens))) ≡ m.reads limits m.begin (map bound_item (map token_view l.tokens))

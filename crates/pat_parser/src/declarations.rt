@@ -1,0 +1,240 @@
+// Declarations: interfaces and the heads of functions.
+ghost use Rattle.std.specs.Prelude.{◌+◌, map, Ok, false};
+ghost use Rattle.pat_grammar.specs.Machine as m;
+ghost use Rattle.pat_syntax.specs.Views.{kind_view};
+ghost use Rattle.pat_tree.specs.Views.{span_view, name_view, type_view, decl_view};
+ghost use Rattle.pat_machine.specs.Views.{interfacing_view, defining_view, stack_view};
+ghost use Rattle.pat_machine.specs.Answers.{Gives, Makes};
+
+use pat_machine::{
+    Control, Defining, Fault, Frame, Interfacing, Naming, Place, State, TypeFrame, at, has_room,
+    name_of, over, refused, too_deep, with_decl, with_message, with_param,
+};
+use pat_sequences::Sequence;
+use pat_syntax::{Mark, Reserved, Span, TokenKind};
+use pat_tree::{Decl, Name, Param, TreeMessage, TreeType};
+use std::alloc::Global;
+
+/// Where a declaration may begin.
+pub fn decl(
+    place: Place,
+    decls: Sequence<Decl>,
+    kind: TokenKind,
+    span: Span,
+) -> Result<State, Fault>
+    ensures { Makes result (m.decl_step (stack_view place.stack) place.opened (map decl_view decls) (kind_view kind) (span_view span)) }
+{
+    match kind {
+        TokenKind::Word(Reserved::Interface) => {
+            let naming = Naming::InterfaceName(decls);
+            Ok(at(Control::WantName(naming), place.stack, place.opened, 0, 0))
+        }
+        TokenKind::Word(Reserved::Def) => {
+            let naming = Naming::FunctionName(decls);
+            Ok(at(Control::WantName(naming), place.stack, place.opened, 0, 0))
+        }
+        _ => refused((place, decls)),
+    }
+}
+
+/// An interface with one message more.
+pub fn message_added(
+    begun: Interfacing,
+    name: Name,
+    payloads: Sequence<TreeType>,
+) -> Result<Interfacing, Fault>
+    ensures { Gives interfacing_view result (Ok (m.with_message (interfacing_view begun) (name_view name) (map type_view payloads))) }
+{
+    let message = TreeMessage { name, payloads };
+    let messages = with_message(begun.messages, message)?;
+    Ok(Interfacing {
+        decls: begun.decls,
+        name: begun.name,
+        messages,
+    })
+}
+
+/// The head of a function with one parameter more.
+pub fn param_added(begun: Defining, name: Name, of: TreeType) -> Result<Defining, Fault>
+    ensures { Gives defining_view result (Ok (m.with_param (defining_view begun) (name_view name) (type_view of))) }
+{
+    let params = with_param(begun.params, Param { name, of })?;
+    Ok(Defining {
+        decls: begun.decls,
+        name: begun.name,
+        params,
+    })
+}
+
+/// Behind a message of an interface.
+pub fn message(
+    place: Place,
+    begun: Interfacing,
+    kind: TokenKind,
+    span: Span,
+) -> Result<State, Fault>
+    ensures { Makes result (m.after_message (stack_view place.stack) place.opened (interfacing_view begun) (kind_view kind) (span_view span)) }
+{
+    match kind {
+        TokenKind::Mark(Mark::Comma) => {
+            let naming = Naming::MessageName(begun);
+            Ok(at(Control::WantName(naming), place.stack, place.opened, 0, 0))
+        }
+        TokenKind::Mark(Mark::CurlyClose) => {
+            let Interfacing {
+                decls,
+                name,
+                messages,
+            } = begun;
+            let decls = with_decl(decls, Decl::Interface { name, messages })?;
+            Ok(at(Control::AtDecl(false, decls), place.stack, 0, 0, 0))
+        }
+        _ => refused((place, begun)),
+    }
+}
+
+/// Where the first parameter may stand.
+pub fn first_param(
+    place: Place,
+    begun: Defining,
+    kind: TokenKind,
+    span: Span,
+) -> Result<State, Fault>
+    ensures { Makes result (m.first_param (stack_view place.stack) place.opened (defining_view begun) (kind_view kind) (span_view span)) }
+{
+    match kind {
+        TokenKind::Name(text) => {
+            let naming = Naming::ParamName(begun);
+            let control = Control::GotName(naming, name_of(text, span));
+            Ok(at(control, place.stack, place.opened, 0, 0))
+        }
+        TokenKind::Mark(Mark::RoundClose) => {
+            Ok(at(Control::AfterParams(begun), place.stack, 0, 0, 0))
+        }
+        _ => refused((place, begun)),
+    }
+}
+
+/// Behind the parameters of a function.
+pub fn params(place: Place, begun: Defining, kind: TokenKind, span: Span) -> Result<State, Fault>
+    ensures { Makes result (m.after_params (stack_view place.stack) place.opened (defining_view begun) (kind_view kind) (span_view span)) }
+{
+    match kind {
+        TokenKind::Mark(Mark::Colon) => {
+            let stack = over(Frame::Type(TypeFrame::InResult(begun)), place.stack)?;
+            Ok(at(Control::WantType, stack, place.opened, 0, 0))
+        }
+        _ => refused((place, begun)),
+    }
+}
+
+/// Behind the name of an interface.
+pub fn interface_named(
+    alloc: Global,
+    place: Place,
+    decls: Sequence<Decl>,
+    name: Name,
+    kind: TokenKind,
+    span: Span,
+) -> Result<State, Fault>
+    ensures { Makes result (m.interface_named (stack_view place.stack) place.opened (map decl_view decls) (name_view name) (kind_view kind) (span_view span)) }
+{
+    match kind {
+        TokenKind::Mark(Mark::CurlyOpen) => {
+            if !has_room(place.opened, 0) {
+                return too_deep((place, decls, name));
+            }
+            let begun = Interfacing {
+                decls,
+                name,
+                messages: Sequence::new(alloc),
+            };
+            let naming = Naming::MessageName(begun);
+            Ok(at(
+                Control::WantName(naming),
+                place.stack,
+                place.opened + 1,
+                0,
+                0,
+            ))
+        }
+        _ => refused((place, decls, name)),
+    }
+}
+
+/// Behind the name of a message.
+pub fn message_named(
+    alloc: Global,
+    place: Place,
+    begun: Interfacing,
+    name: Name,
+    kind: TokenKind,
+    span: Span,
+) -> Result<State, Fault>
+    ensures { Makes result (m.message_named (stack_view place.stack) place.opened (interfacing_view begun) (name_view name) (kind_view kind) (span_view span)) }
+{
+    match kind {
+        TokenKind::Mark(Mark::RoundOpen) => {
+            if !has_room(place.opened, 0) {
+                return too_deep((place, begun, name));
+            }
+            let opened = place.opened + 1;
+            let frame = Frame::Type(TypeFrame::InMessage(begun, name, Sequence::new(alloc)));
+            let stack = over(frame, place.stack)?;
+            Ok(at(Control::FirstPayload, stack, opened, 0, 0))
+        }
+        _ => refused((place, begun, name)),
+    }
+}
+
+/// Behind the name of a function.
+pub fn function_named(
+    alloc: Global,
+    place: Place,
+    decls: Sequence<Decl>,
+    name: Name,
+    kind: TokenKind,
+    span: Span,
+) -> Result<State, Fault>
+    ensures { Makes result (m.function_named (stack_view place.stack) place.opened (map decl_view decls) (name_view name) (kind_view kind) (span_view span)) }
+{
+    match kind {
+        TokenKind::Mark(Mark::RoundOpen) => {
+            if !has_room(place.opened, 0) {
+                return too_deep((place, decls, name));
+            }
+            let begun = Defining {
+                decls,
+                name,
+                params: Sequence::new(alloc),
+            };
+            Ok(at(
+                Control::FirstParam(begun),
+                place.stack,
+                place.opened + 1,
+                0,
+                0,
+            ))
+        }
+        _ => refused((place, decls, name)),
+    }
+}
+
+/// Behind the name of a parameter.
+pub fn param_named(
+    place: Place,
+    begun: Defining,
+    name: Name,
+    kind: TokenKind,
+    span: Span,
+) -> Result<State, Fault>
+    ensures { Makes result (m.param_named (stack_view place.stack) place.opened (defining_view begun) (name_view name) (kind_view kind) (span_view span)) }
+{
+    match kind {
+        TokenKind::Mark(Mark::Colon) => {
+            let stack = over(Frame::Type(TypeFrame::InParam(begun, name)), place.stack)?;
+            Ok(at(Control::WantType, stack, place.opened, 0, 0))
+        }
+        _ => refused((place, begun, name)),
+    }
+}

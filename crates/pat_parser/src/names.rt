@@ -1,0 +1,277 @@
+// Names that are wanted, and what stands behind them.
+ghost use Rattle.std.specs.Prelude.{Ok, true, false};
+ghost use Rattle.pat_grammar.specs.Machine as m;
+ghost use Rattle.pat_syntax.specs.Views.{kind_view};
+ghost use Rattle.pat_tree.specs.Views.{span_view, name_view};
+ghost use Rattle.pat_machine.specs.Views.{guarding_view, clause_head_view, naming_view, stack_view};
+ghost use Rattle.pat_machine.specs.Answers.{Gives, Makes};
+
+use crate::declarations::{function_named, interface_named, message_named, param_named};
+use crate::terms::{naming, open, open_here, with_control};
+use pat_machine::{
+    ClauseFrame, ClauseHead, Control, ExprFrame, Fault, Frame, Guarding, Head, LetFrame, Naming,
+    PatternFrame, Place, State, at, name_of, none_before, over, refused, with_name,
+};
+use pat_sequences::Sequence;
+use pat_syntax::{Mark, Span, TokenKind};
+use pat_tree::{Form, Name, Term};
+use std::alloc::Global;
+
+fn let_named(
+    place: Place,
+    from: u32,
+    name: Name,
+    kind: TokenKind,
+    span: Span,
+) -> Result<State, Fault>
+    ensures { Makes result (m.let_named (stack_view place.stack) place.opened place.statements from (name_view name) (kind_view kind) (span_view span)) }
+{
+    match kind {
+        TokenKind::Mark(Mark::Equals) => {
+            let stack = over(Frame::Let(LetFrame::InBound(name, from)), place.stack)?;
+            Ok(at(
+                Control::Start(false),
+                stack,
+                place.opened,
+                0,
+                place.statements,
+            ))
+        }
+        _ => refused((place, name)),
+    }
+}
+
+fn new_named(
+    place: Place,
+    from: u32,
+    opened: u32,
+    name: Name,
+    kind: TokenKind,
+    span: Span,
+) -> Result<State, Fault>
+    ensures { Makes result (m.new_named (stack_view place.stack) place.statements from opened (name_view name) (kind_view kind) (span_view span)) }
+{
+    match kind {
+        TokenKind::Mark(Mark::SquareClose) => {
+            let term = Term {
+                form: Form::New(name),
+                span: Span { from, to: span.to },
+            };
+            Ok(at(
+                Control::Done(term, from),
+                place.stack,
+                opened,
+                0,
+                place.statements,
+            ))
+        }
+        _ => refused((place, name)),
+    }
+}
+
+fn free_named(
+    place: Place,
+    from: u32,
+    opened: u32,
+    name: Name,
+    kind: TokenKind,
+    span: Span,
+) -> Result<State, Fault>
+    ensures { Makes result (m.free_named (stack_view place.stack) place.statements from opened (name_view name) (kind_view kind) (span_view span)) }
+{
+    match kind {
+        TokenKind::Mark(Mark::RoundClose) => {
+            let term = Term {
+                form: Form::Free(name),
+                span: Span { from, to: span.to },
+            };
+            Ok(at(
+                Control::Done(term, from),
+                place.stack,
+                opened,
+                0,
+                place.statements,
+            ))
+        }
+        _ => refused((place, name)),
+    }
+}
+
+fn guard_named(
+    alloc: Global,
+    place: Place,
+    from: u32,
+    name: Name,
+    kind: TokenKind,
+    span: Span,
+) -> Result<State, Fault>
+    ensures { Makes result (m.guard_named (stack_view place.stack) place.opened place.statements from (name_view name) (kind_view kind) (span_view span)) }
+{
+    match kind {
+        TokenKind::Mark(Mark::Colon) => {
+            let stack = over(
+                Frame::Pattern(PatternFrame::InGuarded(name, from)),
+                place.stack,
+            )?;
+            let control = Control::WantPattern(none_before(alloc));
+            Ok(at(control, stack, place.opened, 0, place.statements))
+        }
+        _ => refused((place, name)),
+    }
+}
+
+fn tag_named(
+    alloc: Global,
+    place: Place,
+    target: Name,
+    tag: Name,
+    kind: TokenKind,
+    span: Span,
+) -> Result<State, Fault>
+    ensures { Makes result (m.tag_named (stack_view place.stack) place.opened place.statements (name_view target) (name_view tag) (kind_view kind) (span_view span)) }
+{
+    match kind {
+        TokenKind::Mark(Mark::RoundOpen) => {
+            let head = Head::ToSend(target, tag);
+            let frame = Frame::Expr(ExprFrame::InArgs(head, Sequence::new(alloc), place.opened));
+            open(place, frame, Control::FirstArg)
+        }
+        _ => refused((place, target, tag)),
+    }
+}
+
+fn receive_named(
+    alloc: Global,
+    place: Place,
+    guard: Guarding,
+    word: Span,
+    tag: Name,
+    kind: TokenKind,
+    span: Span,
+) -> Result<State, Fault>
+    ensures { Makes result (m.receive_named (stack_view place.stack) place.opened place.statements (guarding_view guard) (span_view word) (name_view tag) (kind_view kind) (span_view span)) }
+{
+    match kind {
+        TokenKind::Mark(Mark::RoundOpen) => {
+            let names = Sequence::new(alloc);
+            let head = ClauseHead {
+                guard,
+                word,
+                tag,
+                names,
+            };
+            open_here(place, Control::FirstBinder(head))
+        }
+        _ => refused((place, guard, tag)),
+    }
+}
+
+fn binder_added(head: ClauseHead, name: Name) -> Result<ClauseHead, Fault>
+    ensures { Gives clause_head_view result (Ok (m.with_name (clause_head_view head) (name_view name))) }
+{
+    let names = with_name(head.names, name)?;
+    Ok(ClauseHead {
+        guard: head.guard,
+        word: head.word,
+        tag: head.tag,
+        names,
+    })
+}
+
+fn binder_named(
+    place: Place,
+    head: ClauseHead,
+    name: Name,
+    kind: TokenKind,
+    span: Span,
+) -> Result<State, Fault>
+    ensures { Makes result (m.binder_named (stack_view place.stack) place.opened place.statements (clause_head_view head) (name_view name) (kind_view kind) (span_view span)) }
+{
+    match kind {
+        TokenKind::Mark(Mark::Comma) => {
+            let head = binder_added(head, name)?;
+            Ok(naming(place, Naming::BinderName(head)))
+        }
+        TokenKind::Mark(Mark::RoundClose) => {
+            let inside = head.guard.inside;
+            let head = binder_added(head, name)?;
+            Ok(at(
+                Control::AfterBinders(head),
+                place.stack,
+                inside,
+                0,
+                place.statements,
+            ))
+        }
+        _ => refused((place, head, name)),
+    }
+}
+
+fn from_named(
+    place: Place,
+    head: ClauseHead,
+    name: Name,
+    kind: TokenKind,
+    span: Span,
+) -> Result<State, Fault>
+    ensures { Makes result (m.from_named (stack_view place.stack) place.opened place.statements (clause_head_view head) (name_view name) (kind_view kind) (span_view span)) }
+{
+    match kind {
+        TokenKind::Mark(Mark::Arrow) => {
+            let stack = over(
+                Frame::Clause(ClauseFrame::InReceive(head, name)),
+                place.stack,
+            )?;
+            Ok(at(
+                Control::Start(true),
+                stack,
+                place.opened,
+                0,
+                place.statements,
+            ))
+        }
+        _ => refused((place, head, name)),
+    }
+}
+
+/// Where a name is wanted.
+pub fn want_name(place: Place, what: Naming, kind: TokenKind, span: Span) -> Result<State, Fault>
+    ensures { Makes result (m.want_name (stack_view place.stack) place.opened place.statements (naming_view what) (kind_view kind) (span_view span)) }
+{
+    match kind {
+        TokenKind::Name(text) => {
+            let control = Control::GotName(what, name_of(text, span));
+            Ok(with_control(place, control))
+        }
+        _ => refused((place, what)),
+    }
+}
+
+/// Behind a name that was wanted.
+pub fn got_name(
+    alloc: Global,
+    place: Place,
+    what: Naming,
+    name: Name,
+    kind: TokenKind,
+    span: Span,
+) -> Result<State, Fault>
+    ensures { Makes result (m.got_name (stack_view place.stack) place.opened place.statements (naming_view what) (name_view name) (kind_view kind) (span_view span)) }
+{
+    match what {
+        Naming::InterfaceName(decls) => interface_named(alloc, place, decls, name, kind, span),
+        Naming::MessageName(begun) => message_named(alloc, place, begun, name, kind, span),
+        Naming::FunctionName(decls) => function_named(alloc, place, decls, name, kind, span),
+        Naming::ParamName(begun) => param_named(place, begun, name, kind, span),
+        Naming::LetName(from) => let_named(place, from, name, kind, span),
+        Naming::NewName(from, opened) => new_named(place, from, opened, name, kind, span),
+        Naming::FreeName(from, opened) => free_named(place, from, opened, name, kind, span),
+        Naming::GuardName(from) => guard_named(alloc, place, from, name, kind, span),
+        Naming::TagName(target) => tag_named(alloc, place, target, name, kind, span),
+        Naming::ReceiveName(guard, word) => receive_named(
+            alloc, place, guard, word, name, kind, span,
+        ),
+        Naming::BinderName(head) => binder_named(place, head, name, kind, span),
+        Naming::FromName(head) => from_named(place, head, name, kind, span),
+    }
+}
