@@ -40,6 +40,13 @@ impl<T> Stack<T> {
         self.items.is_empty()
     }
 
+    /// Its items from the bottom up.
+    pub fn as_slice(&self) -> &[T]
+        ensures { reverse result.now ≡ self.now }
+    {
+        self.items.as_slice()
+    }
+
     /// Puts an item on top. An error leaves the stack as it was.
     pub fn push(&mut self, item: T) -> Result<(), AllocError>
     where
