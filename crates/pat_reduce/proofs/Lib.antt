@@ -1,2 +1,7 @@
+pub mod Bindings
+pub mod Callees
 pub mod Places
-pub mod Enabled
+pub mod Firsts
+pub mod Candidates
+pub mod Shared
+pub mod Taken

@@ -3,3 +3,4 @@ pub mod Environments
 pub mod Results
 pub mod Places
 pub mod Acts
+pub mod GuardViews

@@ -1,4 +1,4 @@
--- What a refusable step in place does.
+-- What a refusable step in place does, and what is computed for it.
 use Rattle.std.specs.Prelude.{◌≡◌, Option, Some, None, Result}
 use Rattle.std.specs.declared.result.Result.TheVariants.{Ok, Err}
 use Rattle.pat_reduce.specs.declared.error.StepError.{StepError}
@@ -10,8 +10,8 @@ StepGives view after old new (Ok _) = after ≡ Some (view new)
 StepGives view after old new (Err Disabled) = (after ≡ None) × (new ≡ old)
 StepGives view after old new (Err NoMemory) = new ≡ old
 
--- what is there to be computed, or nothing, or memory ran out
-abbrev pub Gives : {A : Type 0} → Option A → Result A StepError → Type 0
-Gives o (Ok x) = o ≡ Some x
-Gives o (Err Disabled) = o ≡ None
-Gives o (Err NoMemory) = Unit {0}
+-- the view of the result is what is there to be computed, or there is nothing, or memory ran out
+abbrev pub Gives : {A B : Type 0} → (A → B) → Option B → Result A StepError → Type 0
+Gives view o (Ok x) = o ≡ Some (view x)
+Gives view o (Err Disabled) = o ≡ None
+Gives view o (Err NoMemory) = Unit {0}

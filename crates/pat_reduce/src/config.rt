@@ -1,12 +1,6 @@
 // Configurations: threads, pending messages, live mailboxes, and what was printed.
+use crate::Value;
 use pat_sequences::{Sequence, Stack, Text};
-
-/// A value.
-#[derive(Clone, Copy, Debug, PartialEq, Eq)]
-pub enum Value {
-    Unit,
-    Int(i64),
-}
 
 /// What a thread does next: a node with values for just its free variables, in ascending order of variable, or a value.
 #[derive(Drop)]

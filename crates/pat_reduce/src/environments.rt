@@ -1,14 +1,14 @@
 // Environments: values of variables, in ascending order of variable.
-ghost use Rattle.std.specs.Prelude.{◌≡◌, IfOk};
-ghost use Rattle.pat_model.specs.Values.{bind};
-ghost use Rattle.pat_model.specs.Programs.{is_among, option_list, keep};
-ghost use Rattle.pat_model.specs.Steps.{bind_name};
+ghost use Rattle.std.specs.Prelude.{◌≡◌, length, map, slice_get, IfOk, OnOk};
+ghost use Rattle.pat_model.specs.Values.{bind, bind_all};
+ghost use Rattle.pat_model.specs.Programs.{keep};
+ghost use Rattle.pat_model.specs.Steps.{bind_name, at_node};
 ghost use Rattle.pat_core.specs.Views.{program_view};
-ghost use Rattle.pat_reduce.specs.Views.{value_view, env_view};
-ghost use Rattle.pat_reduce.specs.Environments.{keep_but};
+ghost use Rattle.pat_reduce.specs.Views.{value_view, env_view, control_view};
+ghost use Rattle.pat_reduce.specs.Environments.{keep_but, IsPlaceFor, stands_at};
 
-use crate::Value;
-use pat_core::Executable;
+use crate::{Control, Value};
+use pat_executable::Executable;
 use pat_sequences::Sequence;
 use std::alloc::{AllocError, Global};
 
@@ -24,7 +24,7 @@ pub fn kept(
     let mut own = Sequence::new(alloc);
     for entry in env {
         if code.is_free(entry.0, node) {
-            own.push(*entry)?;
+            own.push((entry.0, entry.1.copy(alloc)?))?;
         }
     }
     Ok(own)
@@ -43,8 +43,32 @@ pub fn kept_but(
     let mut own = Sequence::new(alloc);
     for entry in env {
         if code.is_free(entry.0, node) && var != Some(entry.0) {
-            own.push(*entry)?;
+            own.push((entry.0, entry.1.copy(alloc)?))?;
         }
+    }
+    Ok(own)
+}
+
+/// The node with its part of the values.
+pub fn node_with(
+    alloc: Global,
+    code: &Executable,
+    node: u32,
+    env: &[(u32, Value)],
+) -> Result<Control, AllocError>
+    ensures { IfOk result (λ k. control_view k ≡ at_node (program_view code.now.program) node (env_view env.now)) }
+{
+    let env = kept(alloc, code, node, env)?;
+    Ok(Control::Node { node, env })
+}
+
+/// A second environment, the same.
+pub fn copied(alloc: Global, env: &[(u32, Value)]) -> Result<Sequence<(u32, Value)>, AllocError>
+    ensures { IfOk result (λ r. env_view r ≡ env_view env.now) }
+{
+    let mut own = Sequence::new(alloc);
+    for entry in env {
+        own.push((entry.0, entry.1.copy(alloc)?))?;
     }
     Ok(own)
 }
@@ -58,23 +82,64 @@ pub fn bound(
 ) -> Result<Sequence<(u32, Value)>, AllocError>
     ensures { IfOk result (λ r. env_view r ≡ bind_name (env_view env.now) var (value_view value)) }
 {
-    let Some(variable) = var else {
-        return Ok(Sequence::from_vec(env.to_vec(alloc)?));
-    };
-    let mut own = Vec::new(alloc);
-    let mut rest = env;
-    while let Some((entry, tail)) = rest.split_first()
-        && entry.0 < variable
-    {
-        own.push(*entry)?;
-        rest = tail;
+    let mut own = copied(alloc, env)?;
+    match var {
+        Some(variable) => {
+            bind(&mut own, variable, value)?;
+            Ok(own)
+        }
+        None => Ok(own),
     }
-    if let Some((entry, tail)) = rest.split_first()
-        && entry.0 == variable
-    {
-        rest = tail;
+}
+
+/// Gives the variable the value. An error may have lost the value.
+pub fn bind(env: &mut Sequence<(u32, Value)>, variable: u32, value: Value) -> Result<(), AllocError>
+    ensures { OnOk result (env_view env.new ≡ bind (env_view env.old) variable (value_view value)) }
+{
+    let place = place_for(env.as_slice(), variable);
+    if is_at(env.as_slice(), place, variable) {
+        let _ = env.replace(place, (variable, value));
+        return Ok(());
     }
-    own.push((variable, value))?;
-    own.extend_from_slice(rest)?;
-    Ok(Sequence::from_vec(own))
+    env.items.insert(place, (variable, value))?;
+    Ok(())
+}
+
+/// Gives each variable the copy of the value at its place. An error may have bound some of them.
+pub fn bind_all(
+    alloc: Global,
+    env: &mut Sequence<(u32, Value)>,
+    variables: &[u32],
+    values: &[Value],
+) -> Result<(), AllocError>
+    requires { length variables.now ≡ length values.now }
+    ensures { OnOk result (env_view env.new ≡ bind_all (env_view env.old) variables.now (map value_view values.now)) }
+{
+    for i in (0..variables.len()).rev() {
+        let value = values[i].copy(alloc)?;
+        bind(env, variables[i], value)?;
+    }
+    Ok(())
+}
+
+// The place of the first variable that isn't less than this one.
+fn place_for(env: &[(u32, Value)], variable: u32) -> usize
+    ensures { IsPlaceFor env.now variable result }
+{
+    for (i, entry) in env.iter().enumerate() {
+        if variable <= entry.0 {
+            return i;
+        }
+    }
+    env.len()
+}
+
+// Whether the variable at the place is this one.
+fn is_at(env: &[(u32, Value)], place: usize, variable: u32) -> bool
+    ensures { result ≡ stands_at variable (slice_get env.now place) }
+{
+    match env.get(place) {
+        Some(entry) => entry.0 == variable,
+        None => false,
+    }
 }

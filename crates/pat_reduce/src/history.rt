@@ -4,8 +4,14 @@
 #[derive(Clone, Copy, Debug, PartialEq, Eq)]
 pub enum Act {
     Local,
+    New,
+    Send,
+    Spawn,
     Print,
     End,
+    Free,
+    /// The message by its number.
+    Receive(u32),
 }
 
 /// One step of a thread.

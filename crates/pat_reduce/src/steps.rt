@@ -1,18 +1,22 @@
 // The start of a program, and the steps of a configuration.
-ghost use Rattle.std.specs.Prelude.{◌≡◌, None, nat_eq, option_map, IfOk, IfSome, IfNone, IsTrue, IsFalse};
+ghost use Rattle.std.specs.Prelude.{◌≡◌, ◌<◌, ℕ, Some, None, [], ◌∷◌, ◌++◌, length, slice_get, slice_set, nat_eq, not, map, filter, IfOk, OnOk, OnErr, IfSome, IfNone};
 ghost use Rattle.std.specs.Map.{lookup};
 ghost use Rattle.pat_model.specs.Configs.{start};
-ghost use Rattle.pat_model.specs.Steps.{ActLocal, ActPrint, ActEnd, step as after_step};
-ghost use Rattle.pat_model.specs.Runs.{can_step, can_step_thread};
+ghost use Rattle.pat_model.specs.Steps.{redex, ActLocal, ActNew, ActSend, ActSpawn, ActPrint, ActEnd, ActFree, ActReceive, step as after_step};
 ghost use Rattle.pat_core.specs.Views.{program_view};
-ghost use Rattle.pat_reduce.specs.Views.{act_view, config_view, step_view, threads_view};
-ghost use Rattle.pat_reduce.specs.Acts.{EnabledAct};
-ghost use Rattle.pat_reduce.specs.Results.{StepGives};
+ghost use Rattle.pat_reduce.specs.declared.history.Act.TheVariants.{New, Send, Spawn};
+ghost use Rattle.pat_reduce.specs.Views.{config_view, control_view, freed_view, message_view, step_view, threads_view};
+ghost use Rattle.pat_reduce.specs.declared.config.ThreadState.{ThreadState as StateOf};
+ghost use Rattle.pat_reduce.specs.Acts.{redex_freed};
+ghost use Rattle.pat_reduce.specs.Results.{Gives, StepGives};
 ghost use Rattle.pat_reduce.specs.Places.{IsPlace};
 
-use crate::threads::{enabled_act, is_over, next_line, step_locally};
-use crate::{Act, Config, Control, Step, StepError, ThreadState, Value};
-use pat_core::Executable;
+use crate::environments::node_with;
+use crate::guards::{after_receive, guard_of};
+use crate::sending::{makes_mailbox, next_message, next_thread};
+use crate::threads::{is_over, next_line};
+use crate::{Act, Config, Control, Message, Step, StepError, ThreadState, Value};
+use pat_executable::Executable;
 use pat_sequences::{Sequence, Stack};
 use std::alloc::{AllocError, Global};
 
@@ -50,8 +54,11 @@ impl Config {
         })
     }
 
-    /// Takes a step. An `Err` changes nothing.
+    /// Takes a step, where there is a further number for what it makes. An `Err` changes nothing.
     pub fn step(&mut self, alloc: Global, code: &Executable, step: &Step) -> Result<(), StepError>
+        requires mailboxes { step.now.act ≡ New → self.old.next_mailbox < 4294967295 }
+        requires messages { step.now.act ≡ Send → self.old.next_message < 4294967295 }
+        requires threads { step.now.act ≡ Spawn → self.old.next_thread < 4294967295 }
         ensures { StepGives config_view (after_step (program_view code.now.program) (config_view self.old) (step_view step.now)) self.old self.new result }
     {
         let Some(place) = place_of(self.threads.as_slice(), step.thread) else {
@@ -59,34 +66,14 @@ impl Config {
         };
         match step.act {
             Act::Local => self.step_locally(alloc, code, step.thread, place),
+            Act::New => self.make_mailbox(code, step.thread, place),
+            Act::Send => self.send(alloc, code, step.thread, place),
+            Act::Spawn => self.spawn(alloc, code, step.thread, place),
             Act::Print => self.print(alloc, code, step.thread, place),
             Act::End => self.end(code, step.thread, place),
+            Act::Free => self.free(alloc, code, step.thread, place),
+            Act::Receive(number) => self.receive(alloc, code, step.thread, place, number),
         }
-    }
-
-    /// The act of the thread that is enabled, if one is.
-    pub fn enabled_act(&self, code: &Executable, thread: u32) -> Option<Act>
-        ensures { EnabledAct (program_view code.now.program) (config_view self.now) thread (option_map act_view result) }
-    {
-        let threads = self.threads.as_slice();
-        match place_of(threads, thread) {
-            Some(place) => enabled_act(code, &threads[place].1),
-            None => None,
-        }
-    }
-
-    /// A thread that has an enabled step, if one has.
-    pub fn ready_thread(&self, code: &Executable) -> Option<u32>
-        ensures some { IfSome result (λ t. IsTrue (can_step_thread (program_view code.now.program) (config_view self.now) t)) }
-        ensures step { IfSome result (λ t. IsTrue (can_step (program_view code.now.program) (config_view self.now))) }
-        ensures none { IfNone result (IsFalse (can_step (program_view code.now.program) (config_view self.now))) }
-    {
-        for entry in self.threads.as_slice() {
-            if self.enabled_act(code, entry.0).is_some() {
-                return Some(entry.0);
-            }
-        }
-        None
     }
 
     // A local step of the thread at a place.
@@ -100,7 +87,80 @@ impl Config {
         requires { IsPlace self.old.threads thread place }
         ensures { StepGives config_view (after_step (program_view code.now.program) (config_view self.old) (record { thread = thread; act = ActLocal })) self.old self.new result }
     {
-        step_locally(alloc, code, &mut self.threads.items[place].1)
+        self.threads.items[place].1.step_locally(alloc, code)
+    }
+
+    // The thread at a place makes a mailbox.
+    fn make_mailbox(
+        &mut self,
+        code: &Executable,
+        thread: u32,
+        place: usize,
+    ) -> Result<(), StepError>
+        requires place { IsPlace self.old.threads thread place }
+        requires room { self.old.next_mailbox < 4294967295 }
+        ensures { StepGives config_view (after_step (program_view code.now.program) (config_view self.old) (record { thread = thread; act = ActNew })) self.old self.new result }
+    {
+        let state = state_at(self.threads.as_slice(), thread, place);
+        if !makes_mailbox(code, &state.control) {
+            return Err(StepError::Disabled);
+        }
+        self.live.push(self.next_mailbox)?;
+        let mailbox = Value::Mailbox(self.next_mailbox);
+        set_control(&mut self.threads, place, Control::Returned(mailbox));
+        self.next_mailbox += 1;
+        Ok(())
+    }
+
+    // The thread at a place sends.
+    fn send(
+        &mut self,
+        alloc: Global,
+        code: &Executable,
+        thread: u32,
+        place: usize,
+    ) -> Result<(), StepError>
+        requires place { IsPlace self.old.threads thread place }
+        requires room { self.old.next_message < 4294967295 }
+        ensures { StepGives config_view (after_step (program_view code.now.program) (config_view self.old) (record { thread = thread; act = ActSend })) self.old self.new result }
+    {
+        let state = state_at(self.threads.as_slice(), thread, place);
+        match next_message(alloc, code, &state.control, self.next_message) {
+            Ok(message) => {
+                self.messages.push(message)?;
+                let done = Control::Returned(Value::Unit);
+                set_control(&mut self.threads, place, done);
+                self.next_message += 1;
+                Ok(())
+            }
+            Err(error) => Err(error),
+        }
+    }
+
+    // The thread at a place spawns.
+    fn spawn(
+        &mut self,
+        alloc: Global,
+        code: &Executable,
+        thread: u32,
+        place: usize,
+    ) -> Result<(), StepError>
+        requires place { IsPlace self.old.threads thread place }
+        requires room { self.old.next_thread < 4294967295 }
+        ensures { StepGives config_view (after_step (program_view code.now.program) (config_view self.old) (record { thread = thread; act = ActSpawn })) self.old self.new result }
+    {
+        let state = state_at(self.threads.as_slice(), thread, place);
+        match next_thread(alloc, code, &state.control) {
+            Ok(control) => {
+                let number = self.next_thread;
+                push_thread(alloc, &mut self.threads, number, control)?;
+                let done = Control::Returned(Value::Unit);
+                set_control(&mut self.threads, place, done);
+                self.next_thread += 1;
+                Ok(())
+            }
+            Err(error) => Err(error),
+        }
     }
 
     // The thread at a place prints.
@@ -114,10 +174,16 @@ impl Config {
         requires { IsPlace self.old.threads thread place }
         ensures { StepGives config_view (after_step (program_view code.now.program) (config_view self.old) (record { thread = thread; act = ActPrint })) self.old self.new result }
     {
-        let line = next_line(alloc, code, &self.threads.items[place].1.control)?;
-        self.printed.push(line)?;
-        self.threads.items[place].1.control = Control::Returned(Value::Unit);
-        Ok(())
+        let state = state_at(self.threads.as_slice(), thread, place);
+        match next_line(alloc, code, &state.control) {
+            Ok(line) => {
+                self.printed.push(line)?;
+                let done = Control::Returned(Value::Unit);
+                set_control(&mut self.threads, place, done);
+                Ok(())
+            }
+            Err(error) => Err(error),
+        }
     }
 
     // The thread at a place ends.
@@ -131,10 +197,125 @@ impl Config {
         self.threads.remove(place);
         Ok(())
     }
+
+    // The thread at a place frees the mailbox that it guards.
+    fn free(
+        &mut self,
+        alloc: Global,
+        code: &Executable,
+        thread: u32,
+        place: usize,
+    ) -> Result<(), StepError>
+        requires { IsPlace self.old.threads thread place }
+        ensures { StepGives config_view (after_step (program_view code.now.program) (config_view self.old) (record { thread = thread; act = ActFree })) self.old self.new result }
+    {
+        let state = state_at(self.threads.as_slice(), thread, place);
+        match self.after_free(alloc, code, thread, &state.control) {
+            Ok((mailbox, control)) => {
+                remove_mailbox(&mut self.live, mailbox);
+                set_control(&mut self.threads, place, control);
+                Ok(())
+            }
+            Err(error) => Err(error),
+        }
+    }
+
+    // The mailbox that a thread may free next, and the control that goes on then.
+    fn after_free(
+        &self,
+        alloc: Global,
+        code: &Executable,
+        thread: u32,
+        control: &Control,
+    ) -> Result<(u32, Control), StepError>
+        ensures { Gives freed_view (redex_freed (program_view code.now.program) (config_view self.now) thread (redex (program_view code.now.program) (control_view control.now))) result }
+    {
+        match guard_of(code, control) {
+            Some(guard) => match guard.free {
+                Some(body) => {
+                    if !self.may_free(thread, guard.mailbox) {
+                        return Err(StepError::Disabled);
+                    }
+                    Ok((guard.mailbox, node_with(alloc, code, body, guard.env)?))
+                }
+                None => Err(StepError::Disabled),
+            },
+            None => Err(StepError::Disabled),
+        }
+    }
+
+    // The thread at a place receives a message.
+    fn receive(
+        &mut self,
+        alloc: Global,
+        code: &Executable,
+        thread: u32,
+        place: usize,
+        number: u32,
+    ) -> Result<(), StepError>
+        requires { IsPlace self.old.threads thread place }
+        ensures { StepGives config_view (after_step (program_view code.now.program) (config_view self.old) (record { thread = thread; act = ActReceive number })) self.old self.new result }
+    {
+        let state = state_at(self.threads.as_slice(), thread, place);
+        let messages = self.messages.as_slice();
+        match after_receive(alloc, code, &state.control, messages, number) {
+            Ok(control) => {
+                remove_message(&mut self.messages, number);
+                set_control(&mut self.threads, place, control);
+                Ok(())
+            }
+            Err(error) => Err(error),
+        }
+    }
 }
 
-// The place of a thread.
-fn place_of(threads: &[(u32, ThreadState)], thread: u32) -> Option<usize>
+// The thread at its place.
+fn state_at(threads: &[(u32, ThreadState)], thread: u32, place: usize) -> &ThreadState
+    requires { IsPlace threads.now thread place }
+    ensures { slice_get threads.now place ≡ Some (thread, result.now) }
+{
+    &threads[place].1
+}
+
+// The thread at a place goes on with this control.
+fn set_control(threads: &mut Sequence<(u32, ThreadState)>, place: usize, control: Control)
+    requires { place < length threads.old }
+    ensures { (e : ℕ × StateOf) → slice_get threads.old place ≡ Some e → threads.new ≡ slice_set threads.old place (e.0, record { control = control; frames = e.1.frames }) }
+{
+    threads.items[place].1.control = control;
+}
+
+// Puts a thread with no frame behind the others. An error leaves them as they were.
+fn push_thread(
+    alloc: Global,
+    threads: &mut Sequence<(u32, ThreadState)>,
+    number: u32,
+    control: Control,
+) -> Result<(), AllocError>
+    ensures ok { OnOk result (threads.new ≡ threads.old ++ (number, record { control = control; frames = [] }) ∷ []) }
+    ensures err { OnErr result (threads.new ≡ threads.old) }
+{
+    let state = ThreadState {
+        control,
+        frames: Stack::new(alloc),
+    };
+    threads.push((number, state))
+}
+
+fn remove_mailbox(live: &mut Sequence<u32>, mailbox: u32)
+    ensures { live.new ≡ filter (λ b. not (nat_eq b mailbox)) live.old }
+{
+    live.items.retain(|own| *own != mailbox);
+}
+
+fn remove_message(messages: &mut Sequence<Message>, number: u32)
+    ensures { map message_view messages.new ≡ filter (λ m. not (nat_eq m.number number)) (map message_view messages.old) }
+{
+    messages.items.retain(|message| message.number != number);
+}
+
+/// The place of a thread.
+pub fn place_of(threads: &[(u32, ThreadState)], thread: u32) -> Option<usize>
     ensures found { IfSome result (IsPlace threads.now thread) }
     ensures none { IfNone result (lookup (nat_eq thread) (threads_view threads.now) ≡ None) }
 {

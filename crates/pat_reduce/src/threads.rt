@@ -1,50 +1,58 @@
 // What a thread does next: its local steps, the line that it prints, and whether it is over.
-ghost use Rattle.std.specs.Prelude.{◌≡◌, map, option_copied, option_map};
-ghost use Rattle.pat_model.specs.Programs.{core_at};
-ghost use Rattle.pat_model.specs.Steps.{local_step, redex};
-ghost use Rattle.pat_core.specs.Views.{core_view, program_view};
-ghost use Rattle.pat_reduce.specs.Views.{act_view, value_view, control_view, frame_view, thread_view};
-ghost use Rattle.pat_reduce.specs.Acts.{redex_value, resumed, other_local, redex_line, is_over_at, plain_act};
+ghost use Rattle.std.specs.Prelude.{◌≡◌, map, option_copied, option_map, IfOk};
+ghost use Rattle.pat_model.specs.Values.{eval, eval_all, line_of};
+ghost use Rattle.pat_model.specs.Programs.{core_at, function_at};
+ghost use Rattle.pat_model.specs.Steps.{local_step, numbered, redex, frame_of};
+ghost use Rattle.pat_core.specs.Views.{core_view, expr_view, function_view, program_view};
+ghost use Rattle.pat_reduce.specs.Views.{value_view, reference_view, env_view, control_view, frame_view, thread_view, opened_view};
+ghost use Rattle.pat_reduce.specs.Acts.{redex_value, resumed, opened, entered, chosen, jumped, other_local, redex_line, is_over_at};
 ghost use Rattle.pat_reduce.specs.Results.{Gives, StepGives};
 
-use crate::environments::{bound, kept, kept_but};
-use crate::evaluation::evaluate;
-use crate::{Act, Control, Frame, StepError, ThreadState, Value};
-use pat_core::{Core, Executable};
+use crate::environments::{bound, kept_but, node_with};
+use crate::evaluation::{evaluate, parameters, value_for};
+use crate::{Control, Frame, StepError, ThreadState, Value, ValueRef};
+use pat_core::{Core, Expr, Function};
+use pat_executable::Executable;
 use pat_sequences::Text;
-use std::alloc::Global;
+use std::alloc::{AllocError, Global};
 
-// The term of a node.
-fn core_of<'a>(code: &'a Executable, node: u32) -> Option<&'a Core>
+/// The term of a node.
+pub fn core_of<'a>(code: &'a Executable, node: u32) -> Option<&'a Core>
     ensures { option_map core_view (option_copied result) ≡ core_at (program_view code.now.program) node }
 {
     Some(&code.program.nodes.as_slice().get(node as usize)?.core)
 }
 
-// The value of a control, where it is one or an expression that has one.
-fn control_value(code: &Executable, control: &Control) -> Option<Value>
-    ensures { option_map value_view result ≡ redex_value (redex (program_view code.now.program) (control_view control.now)) }
+/// The function of a number.
+pub fn function_of<'a>(code: &'a Executable, number: u32) -> Option<&'a Function>
+    ensures { option_map function_view (option_copied result) ≡ function_at (program_view code.now.program) number }
 {
-    match control {
-        Control::Returned(value) => Some(*value),
-        Control::Node { node, env } => match core_of(code, *node) {
-            Some(Core::Value(e)) => evaluate(e, env.as_slice()),
-            _ => None,
-        },
+    code.program.functions.as_slice().get(number as usize)
+}
+
+impl ThreadState {
+    /// Takes the next local step. An `Err` changes nothing.
+    pub fn step_locally(&mut self, alloc: Global, code: &Executable) -> Result<(), StepError>
+        ensures { StepGives thread_view (local_step (program_view code.now.program) (thread_view self.old)) self.old self.new result }
+    {
+        match control_value(alloc, code, &self.control) {
+            Ok(value) => resume(alloc, code, self, value),
+            Err(StepError::Disabled) => go_on(alloc, code, self),
+            Err(StepError::NoMemory) => Err(StepError::NoMemory),
+        }
     }
 }
 
-/// The next local step of a thread. An `Err` changes nothing.
-pub fn step_locally(
-    alloc: Global,
-    code: &Executable,
-    state: &mut ThreadState,
-) -> Result<(), StepError>
-    ensures { StepGives thread_view (local_step (program_view code.now.program) (thread_view state.old)) state.old state.new result }
+// The value of a control, where it is one or an expression that has one.
+fn control_value(alloc: Global, code: &Executable, control: &Control) -> Result<Value, StepError>
+    ensures { Gives value_view (redex_value (redex (program_view code.now.program) (control_view control.now))) result }
 {
-    match control_value(code, &state.control) {
-        Some(value) => resume(alloc, code, state, value),
-        None => enter(alloc, code, state),
+    match control {
+        Control::Returned(value) => Ok(value.copy(alloc)?),
+        Control::Node { node, env } => match core_of(code, *node) {
+            Some(Core::Value(e)) => value_for(alloc, e, env.as_slice()),
+            _ => Err(StepError::Disabled),
+        },
     }
 }
 
@@ -60,11 +68,7 @@ fn resume(
     let control = match state.frames.top() {
         Some(frame) => {
             let env = bound(alloc, frame.env.as_slice(), frame.var, value)?;
-            let env = kept(alloc, code, frame.body, env.as_slice())?;
-            Control::Node {
-                node: frame.body,
-                env,
-            }
+            node_with(alloc, code, frame.body, env.as_slice())?
         }
         None => return Err(StepError::Disabled),
     };
@@ -73,52 +77,140 @@ fn resume(
     Ok(())
 }
 
-// A `let` puts its frame on top and goes on with its bound term.
-fn enter(alloc: Global, code: &Executable, state: &mut ThreadState) -> Result<(), StepError>
+// A `let` puts its frame on top and goes on with its bound term; a call and a choice go on with a body.
+fn go_on(alloc: Global, code: &Executable, state: &mut ThreadState) -> Result<(), StepError>
     ensures { StepGives thread_view (other_local (program_view code.now.program) (redex (program_view code.now.program) (control_view state.old.control)) (map frame_view state.old.frames)) state.old state.new result }
 {
-    let (frame, control) = match &state.control {
+    match open(alloc, code, &state.control) {
+        Ok((frame, control)) => {
+            state.frames.push(frame)?;
+            state.control = control;
+            Ok(())
+        }
+        Err(StepError::Disabled) => {
+            state.control = jump(alloc, code, &state.control)?;
+            Ok(())
+        }
+        Err(StepError::NoMemory) => Err(StepError::NoMemory),
+    }
+}
+
+// The frame that a `let` puts on top, and the control that it goes on with.
+fn open(alloc: Global, code: &Executable, control: &Control) -> Result<(Frame, Control), StepError>
+    ensures { Gives opened_view (opened (program_view code.now.program) (redex (program_view code.now.program) (control_view control.now))) result }
+{
+    match control {
         Control::Node { node, env } => match core_of(code, *node) {
             Some(Core::Let { var, bound, body }) => {
-                let waiting = kept_but(alloc, code, *body, *var, env.as_slice())?;
-                let going = kept(alloc, code, *bound, env.as_slice())?;
-                (
-                    Frame {
-                        var: *var,
-                        body: *body,
-                        env: waiting,
-                    },
-                    Control::Node {
-                        node: *bound,
-                        env: going,
-                    },
-                )
+                let frame = waiting(alloc, code, *var, *body, env.as_slice())?;
+                Ok((frame, node_with(alloc, code, *bound, env.as_slice())?))
             }
-            _ => return Err(StepError::Disabled),
+            _ => Err(StepError::Disabled),
         },
-        Control::Returned(_) => return Err(StepError::Disabled),
-    };
-    state.frames.push(frame)?;
-    state.control = control;
-    Ok(())
+        Control::Returned(_) => Err(StepError::Disabled),
+    }
+}
+
+// The frame that waits for the name of a `let`.
+fn waiting(
+    alloc: Global,
+    code: &Executable,
+    var: Option<u32>,
+    body: u32,
+    env: &[(u32, Value)],
+) -> Result<Frame, AllocError>
+    ensures { IfOk result (λ f. frame_view f ≡ frame_of (program_view code.now.program) var body (env_view env.now)) }
+{
+    let env = kept_but(alloc, code, body, var, env)?;
+    Ok(Frame { var, body, env })
+}
+
+// The control that a call or a choice goes on with.
+fn jump(alloc: Global, code: &Executable, control: &Control) -> Result<Control, StepError>
+    ensures { Gives control_view (jumped (program_view code.now.program) (redex (program_view code.now.program) (control_view control.now))) result }
+{
+    match control {
+        Control::Node { node, env } => match core_of(code, *node) {
+            Some(Core::Call { function, args }) => {
+                enter(alloc, code, *function, args.as_slice(), env.as_slice())
+            }
+            Some(Core::If { test, yes, no }) => choose(
+                alloc,
+                code,
+                test,
+                *yes,
+                *no,
+                env.as_slice(),
+            ),
+            _ => Err(StepError::Disabled),
+        },
+        Control::Returned(_) => Err(StepError::Disabled),
+    }
+}
+
+fn enter(
+    alloc: Global,
+    code: &Executable,
+    function: u32,
+    args: &[Expr],
+    env: &[(u32, Value)],
+) -> Result<Control, StepError>
+    ensures { Gives control_view (entered (program_view code.now.program) (function_at (program_view code.now.program) function) (option_map (numbered 0) (eval_all (env_view env.now) (map expr_view args.now)))) result }
+{
+    match function_of(code, function) {
+        Some(entry) => {
+            let env = parameters(alloc, args, env)?;
+            Ok(node_with(alloc, code, entry.body, env.as_slice())?)
+        }
+        None => Err(StepError::Disabled),
+    }
+}
+
+fn choose(
+    alloc: Global,
+    code: &Executable,
+    test: &Expr,
+    yes: u32,
+    no: u32,
+    env: &[(u32, Value)],
+) -> Result<Control, StepError>
+    ensures { Gives control_view (chosen (program_view code.now.program) (eval (env_view env.now) (expr_view test.now)) yes no (env_view env.now)) result }
+{
+    match evaluate(test, env) {
+        Some(ValueRef::Bool(b)) => Ok(node_with(alloc, code, if b { yes } else { no }, env)?),
+        _ => Err(StepError::Disabled),
+    }
 }
 
 /// The line that a thread prints next.
 pub fn next_line(alloc: Global, code: &Executable, control: &Control) -> Result<Text, StepError>
-    ensures { Gives (redex_line (redex (program_view code.now.program) (control_view control.now))) result }
+    ensures { Gives (λ line. line) (redex_line (redex (program_view code.now.program) (control_view control.now))) result }
 {
     match control {
         Control::Node { node, env } => match core_of(code, *node) {
             Some(Core::Print(e)) => match evaluate(e, env.as_slice()) {
-                Some(Value::Int(n)) => {
-                    let line = n.to_string(alloc)?;
-                    Ok(Text::from_slice(alloc, line.as_bytes())?)
-                }
-                _ => Err(StepError::Disabled),
+                Some(value) => line_for(alloc, value),
+                None => Err(StepError::Disabled),
             },
             _ => Err(StepError::Disabled),
         },
         Control::Returned(_) => Err(StepError::Disabled),
+    }
+}
+
+// The line that prints a value.
+fn line_for(alloc: Global, value: ValueRef<'_>) -> Result<Text, StepError>
+    ensures { Gives (λ line. line) (line_of (reference_view value.entry)) result }
+{
+    match value {
+        ValueRef::Int(n) => {
+            let line = n.to_string(alloc)?;
+            Ok(Text::from_slice(alloc, line.as_bytes())?)
+        }
+        ValueRef::Bool(true) => Ok(Text::from_slice(alloc, b"true")?),
+        ValueRef::Bool(false) => Ok(Text::from_slice(alloc, b"false")?),
+        ValueRef::Str(text) => Ok(text.copy(alloc)?),
+        ValueRef::Unit | ValueRef::Mailbox(_) => Err(StepError::Disabled),
     }
 }
 
@@ -132,30 +224,5 @@ pub fn is_over(code: &Executable, state: &ThreadState) -> bool
     match &state.control {
         Control::Returned(_) => true,
         Control::Node { node, .. } => matches!(core_of(code, *node), Some(Core::Value(_))),
-    }
-}
-
-/// The act of a thread that is enabled, if one is.
-pub fn enabled_act(code: &Executable, state: &ThreadState) -> Option<Act>
-    ensures { option_map act_view result ≡ plain_act (redex (program_view code.now.program) (control_view state.now.control)) (map frame_view state.now.frames) }
-{
-    match &state.control {
-        Control::Returned(_) => Some(if state.frames.is_empty() {
-            Act::End
-        } else {
-            Act::Local
-        }),
-        Control::Node { node, env } => match core_of(code, *node)? {
-            Core::Let { .. } => Some(Act::Local),
-            Core::Print(e) => match evaluate(e, env.as_slice()) {
-                Some(Value::Int(_)) => Some(Act::Print),
-                _ => None,
-            },
-            Core::Value(_) if state.frames.is_empty() => Some(Act::End),
-            Core::Value(e) => match evaluate(e, env.as_slice()) {
-                Some(_) => Some(Act::Local),
-                None => None,
-            },
-        },
     }
 }
