@@ -1,0 +1,4 @@
+pub mod Apart
+pub mod Beginning
+pub mod Writable
+pub mod Again
