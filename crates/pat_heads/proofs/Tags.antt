@@ -8,6 +8,7 @@ use Rattle.pat_model.specs.Programs.{TagDecl as Seen}
 use Rattle.pat_names.specs.Scopes.{first_named, itself}
 use Rattle.pat_names.specs.Heads.{tags_of}
 use Rattle.std.specs.List.{All}
+use Rattle.std.proofs.lemmas.Option.{slice_get_within}
 use Rattle.std.proofs.lemmas.List.Elements.{All-get_or}
 use Rattle.pat_heads.proofs.Found.{found_in, missed_in}
 use Rattle.pat_heads.specs.declared.names.InterfaceTable.{InterfaceTable}
@@ -29,7 +30,7 @@ as_many (u ∷ ts) [] tied = cc
 as_many (u ∷ ts) (n ∷ is) tied = ap suc (as_many ts is (rest_same tied))
 
 -- the names of the tags are those of the tags that are seen
-same_names : (ts : List TagDecl) → map (λ t. t.name) ts ≡ map (λ u. u.name) (map tag_view ts)
+pub same_names : (ts : List TagDecl) → map (λ t. t.name) ts ≡ map (λ u. u.name) (map tag_view ts)
 same_names [] = refl
 same_names (t ∷ ts) = ap (λ xs. t.name ∷ xs) (same_names ts)
 
@@ -88,3 +89,11 @@ tag_found table x is us i place n ts t tied e h same at own there =
 
 pub tag_missed : (table : List (List ℕ)) (x : List ℕ) (seen : List Seen) → table ≡ map (λ (u : Seen). u.name) seen → None ≡ option_map (λ f. f.0) (first_named itself x table) → None ≡ first_named (λ (u : Seen). u.name) x seen
 tag_missed table x seen tied e = missed_in (λ (u : Seen). u) (λ u. u.name) x table seen tied e ∙ ap (first_named (λ (u : Seen). u.name) x) (map_same seen)
+
+pub few_at : (ts : List InterfaceTable) (i : ℕ) (t : InterfaceTable) → All (λ t. length t.tags ≤ 32) ts → slice_get ts i ≡ Some t → length t.tags ≤ 32
+few_at ts i t few at = subst (λ (u : InterfaceTable). length u.tags ≤ 32) (there ts i at) (few i t (slice_get_within ts i t at))
+  where
+    there : (us : List InterfaceTable) (j : ℕ) → slice_get us j ≡ Some t → get_or us j t ≡ t
+    there [] j e = refl
+    there (u ∷ us) zero e = cc
+    there (u ∷ us) (suc j) e = there us j e

@@ -1,2 +1,5 @@
 pub mod Names
+pub mod Signatures
+pub mod HeadPlaces
 pub mod Views
+pub mod Examined

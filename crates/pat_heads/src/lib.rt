@@ -1,8 +1,11 @@
 //! The heads of declarations: interfaces with their tags, and the types of functions, examined and numbered.
 #![tactic(auto)]
 
+mod check;
+mod gather;
 mod heads;
 mod names;
+mod number;
 mod patterns;
 mod reading;
 

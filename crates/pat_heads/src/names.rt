@@ -21,13 +21,14 @@ pub struct Names {
 }
 
 impl Names {
-    ghost use Rattle.std.specs.Prelude.{option_map};
+    ghost use Rattle.std.specs.Prelude.{option_map, slice_get, IfSome, Some};
     ghost use Rattle.pat_names.specs.Heads.{interface_named};
     ghost use Rattle.pat_heads.specs.Names.{names_view, table_view};
 
     /// The interface of a name, with its number.
     pub fn find(&self, name: &Text) -> Option<(u32, &InterfaceTable)>
-        ensures { option_map (λ f. (f.0, table_view f.1.now)) result ≡ interface_named (names_view self.now) name.now }
+        ensures there { IfSome result (λ f. slice_get self.now.interfaces f.0 ≡ Some f.1.now) }
+        ensures found { option_map (λ f. (f.0, table_view f.1.now)) result ≡ interface_named (names_view self.now) name.now }
     {
         match self.table.find(name) {
             Some(place) => Some((place as u32, &self.interfaces.as_slice()[place])),

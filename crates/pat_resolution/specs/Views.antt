@@ -1,5 +1,5 @@
 -- What the definitions see of a refusal, and of the places in a program.
-use Rattle.std.specs.Prelude.{List, map, Option, Some, None}
+use Rattle.std.specs.Prelude.{map, Option, Some, None}
 use Rattle.pat_grammar.specs.Trees as tree
 use Rattle.pat_names.specs.Findings.{Rule, Finding}
 use Rattle.pat_names.specs.Findings as rule
