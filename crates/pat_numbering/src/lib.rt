@@ -1,0 +1,12 @@
+//! The nodes of a function's body: a tree's names become numbers.
+#![tactic(auto)]
+
+mod bodies;
+mod expressions;
+mod guards;
+mod leaves;
+mod look_ups;
+mod state;
+mod terms;
+
+pub use state::{Context, Numbering};
