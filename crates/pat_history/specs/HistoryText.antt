@@ -31,3 +31,8 @@ entry_line e = line (spaced (decimal e.worker) (spaced (decimal e.thread) (space
 
 abbrev pub history_text : List Entry → List ℕ
 history_text entries = line (codes "%%history") ++ flat_map entry_line entries
+
+-- an act whose word says all of it
+abbrev pub NamesNoMessage : Act → Type 0
+NamesNoMessage (ActReceive m) = ⊥
+NamesNoMessage _ = Unit {0}

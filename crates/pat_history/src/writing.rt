@@ -1,8 +1,8 @@
 // Entries as lines.
-ghost use Rattle.std.specs.Prelude.{◌≡◌, ◌++◌, ◌∷◌, [], map, option_map, IfOk, OnOk};
+ghost use Rattle.std.specs.Prelude.{◌≡◌, ◌++◌, ◌∷◌, [], Some, map, option_map, IfOk, OnOk};
 ghost use Rattle.std.specs.Fmt.{decimal};
 ghost use Rattle.pat_reduce.specs.Views.{act_view, entry_view};
-ghost use Rattle.pat_history.specs.HistoryText.{act_word, entry_line, history_text};
+ghost use Rattle.pat_history.specs.HistoryText.{act_word, entry_line, history_text, NamesNoMessage};
 
 use crate::push_number;
 use pat_reduce::{Act, Entry};
@@ -25,7 +25,7 @@ fn push_entry(alloc: Global, text: &mut Vec<u8>, entry: &Entry) -> Result<(), Al
     push_field(alloc, text, entry.worker)?;
     push_field(alloc, text, entry.thread)?;
     push_field(alloc, text, entry.local)?;
-    text.extend_from_slice(word_of(entry.shared))?;
+    push_act(alloc, text, entry.shared)?;
     text.push(b'\n')?;
     Ok(())
 }
@@ -39,14 +39,38 @@ fn push_field(alloc: Global, text: &mut Vec<u8>, n: u32) -> Result<(), AllocErro
     Ok(())
 }
 
-// No entry has a local step as its shared one; for one that had, there is no word of its own.
-fn word_of(shared: Option<Act>) -> &'static [u8]
-    ensures { result.now ≡ act_word (option_map act_view shared) }
+fn push_act(alloc: Global, text: &mut Vec<u8>, shared: Option<Act>) -> Result<(), AllocError>
+    ensures { OnOk result (text.new.items ≡ text.old.items ++ act_word (option_map act_view shared)) }
 {
     match shared {
-        None => b"-",
-        Some(Act::Local) => b"local",
-        Some(Act::Print) => b"print",
-        Some(Act::End) => b"end",
+        Some(Act::Receive(number)) => {
+            text.extend_from_slice(b"receive ")?;
+            push_number(alloc, text, number as u64)
+        }
+        Some(act) => {
+            text.extend_from_slice(word_of(act))?;
+            Ok(())
+        }
+        None => {
+            text.push(b'-')?;
+            Ok(())
+        }
+    }
+}
+
+// No entry has a local step as its shared one; for one that had, there is no word of its own.
+fn word_of(act: Act) -> &'static [u8]
+    requires { NamesNoMessage (act_view act) }
+    ensures { result.now ≡ act_word (Some (act_view act)) }
+{
+    match act {
+        Act::Local => b"local",
+        Act::New => b"new",
+        Act::Send => b"send",
+        Act::Spawn => b"spawn",
+        Act::Print => b"print",
+        Act::End => b"end",
+        Act::Free => b"free",
+        Act::Receive(_) => unreachable!(),
     }
 }

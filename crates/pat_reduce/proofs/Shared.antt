@@ -36,7 +36,7 @@ freed c t frames q = record (goes_on c t frames q.1) { live = filter (λ b. not 
 abbrev pub taken : Config → ℕ → List Frame → ℕ → Control → Config
 taken c t frames k control = goes_on (without_message c k) t frames control
 
-new_is : (c : Config) (t : ℕ) (frames : List Frame) (r : Redex) → new_at c t frames r ≡ (if is_new r then Some (made c t frames) else None)
+pub new_is : (c : Config) (t : ℕ) (frames : List Frame) (r : Redex) → new_at c t frames r ≡ (if is_new r then Some (made c t frames) else None)
 new_is c t frames (At (New i) env) = refl
 new_is c t frames (At _ env) = refl
 new_is c t frames (Done v) = refl
@@ -48,13 +48,13 @@ sends c t frames m (Some (Const k)) vs = refl
 sends c t frames m (Some (Mailbox a)) None = refl
 sends c t frames m (Some (Mailbox a)) (Some vs) = refl
 
-send_is : (c : Config) (t : ℕ) (frames : List Frame) (r : Redex) → send_at c t frames r ≡ option_map (sent c t frames) (redex_message c.next_message r)
+pub send_is : (c : Config) (t : ℕ) (frames : List Frame) (r : Redex) → send_at c t frames r ≡ option_map (sent c t frames) (redex_message c.next_message r)
 send_is c t frames (At (Send x m args) env) = sends c t frames m (value_at env x) (eval_all env args)
 send_is c t frames (At _ env) = refl
 send_is c t frames (Done v) = refl
 send_is c t frames Nowhere = refl
 
-spawn_is : (p : Program) (c : Config) (t : ℕ) (frames : List Frame) (r : Redex) → spawn_at p c t frames r ≡ option_map (begun c t frames) (spawned p r)
+pub spawn_is : (p : Program) (c : Config) (t : ℕ) (frames : List Frame) (r : Redex) → spawn_at p c t frames r ≡ option_map (begun c t frames) (spawned p r)
 spawn_is p c t frames (At (Spawn m) env) = refl
 spawn_is p c t frames (At _ env) = refl
 spawn_is p c t frames (Done v) = refl
@@ -64,7 +64,7 @@ prints : (c : Config) (t : ℕ) (frames : List Frame) (o : Option (List ℕ)) �
 prints c t frames None = refl
 prints c t frames (Some line) = refl
 
-print_is : (c : Config) (t : ℕ) (frames : List Frame) (r : Redex) → print_at c t frames r ≡ option_map (said c t frames) (redex_line r)
+pub print_is : (c : Config) (t : ℕ) (frames : List Frame) (r : Redex) → print_at c t frames r ≡ option_map (said c t frames) (redex_line r)
 print_is c t frames (At (Print e) env) = prints c t frames (option_and_then line_of (eval env e))
 print_is c t frames (At _ env) = refl
 print_is c t frames (Done v) = refl
@@ -83,7 +83,7 @@ frees p c t frames (Some n) cs env None = refl
 frees p c t frames (Some n) cs env (Some (Const k)) = refl
 frees p c t frames (Some n) cs env (Some (Mailbox a)) = if_map (freed c t frames) (may_free c t a) (a, at_node p n env)
 
-free_is : (p : Program) (c : Config) (t : ℕ) (frames : List Frame) (r : Redex) → free_at p c t frames r ≡ option_map (freed c t frames) (redex_freed p c t r)
+pub free_is : (p : Program) (c : Config) (t : ℕ) (frames : List Frame) (r : Redex) → free_at p c t frames r ≡ option_map (freed c t frames) (redex_freed p c t r)
 free_is p c t frames (At (Guard x e free cs) env) = frees p c t frames free cs env (value_at env x)
 free_is p c t frames (At _ env) = refl
 free_is p c t frames (Done v) = refl
@@ -106,7 +106,7 @@ module _ (p : Program) (c : Config) (t : ℕ) (frames : List Frame) (free : Opti
   receives k (Some (Mailbox a)) (Some m) h =
       receive_clause a k m (eqb-true k m.number (found_passes (λ n. nat_eq k n.number) c.messages m h)) (clause_for m.tag cs)
 
-receive_is : (p : Program) (c : Config) (t : ℕ) (frames : List Frame) (k : ℕ) (r : Redex) → receive_at p c t frames k r ≡ option_map (taken c t frames k) (redex_received p c.messages k r)
+pub receive_is : (p : Program) (c : Config) (t : ℕ) (frames : List Frame) (k : ℕ) (r : Redex) → receive_at p c t frames k r ≡ option_map (taken c t frames k) (redex_received p c.messages k r)
 receive_is p c t frames k (At (Guard x e free cs) env) = receives p c t frames free cs env k (value_at env x) (message_in c.messages k) refl
 receive_is p c t frames k (At _ env) = refl
 receive_is p c t frames k (Done v) = refl

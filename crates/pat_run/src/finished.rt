@@ -1,5 +1,5 @@
 // Jobs, one after another, to an outcome.
-ghost use Rattle.std.specs.Prelude.{◌≡◌, length, IfOk};
+ghost use Rattle.std.specs.Prelude.{◌≡◌, ◌<◌, length, IfOk};
 ghost use Rattle.pat_model.specs.Runs.{entry_steps};
 ghost use Rattle.pat_core.specs.Views.{program_view};
 ghost use Rattle.pat_reduce.specs.Views.{config_view, entry_view, outcome_view};
@@ -7,7 +7,7 @@ ghost use Rattle.pat_run.specs.Jobs.{Ends};
 ghost use Rattle.pat_run.specs.Finished.{IsRun};
 
 use crate::job::run_job;
-use pat_core::Executable;
+use pat_executable::Executable;
 use pat_reduce::{Config, Entry, Outcome};
 use pat_sequences::Sequence;
 use std::alloc::{AllocError, Global};
@@ -26,8 +26,9 @@ pub struct Finished {
 // The most steps of a job.
 const ALLOWANCE: u64 = 256;
 
-/// Runs the program from its start, with a budget of steps, by jobs of worker 0.
+/// Runs the program from its start, with a budget of steps, by jobs of worker 0. There are numbers for what so many steps make.
 pub fn run(alloc: Global, code: &Executable, steps: u64) -> Result<Finished, AllocError>
+    requires { steps < 4294967295 }
     ensures { IfOk result (IsRun (program_view code.now.program) steps) }
 {
     let mut config = Config::start(alloc, code)?;

@@ -3,9 +3,10 @@ ghost use Rattle.std.specs.Prelude.{◌≡◌, ◌<◌, ℕ, IfOk, IsTrue, optio
 ghost use Rattle.pat_model.specs.Runs.{can_step_thread};
 ghost use Rattle.pat_core.specs.Views.{program_view};
 ghost use Rattle.pat_reduce.specs.Views.{act_view, config_view, entry_view};
+ghost use Rattle.pat_run.specs.Numbers.{HasRoom};
 ghost use Rattle.pat_run.specs.Jobs.{AllLocal, Shared, IsJob};
 
-use pat_core::Executable;
+use pat_executable::Executable;
 use pat_reduce::{Act, Config, Entry, Step, StepError};
 use std::alloc::{AllocError, Global};
 
@@ -19,6 +20,7 @@ pub fn run_job(
     allowance: u32,
 ) -> Result<Entry, AllocError>
     requires some { 0 < allowance }
+    requires room { HasRoom (config_view config.old) allowance }
     requires ready { IsTrue (can_step_thread (program_view code.now.program) (config_view config.old) thread) }
     ensures { IfOk result (λ e. IsJob (program_view code.now.program) allowance (config_view config.old) (entry_view e) (config_view config.new)) }
 {
@@ -67,6 +69,7 @@ fn take_shared(
     config: &mut Config,
     thread: u32,
 ) -> Result<Option<Act>, AllocError>
+    requires { HasRoom (config_view config.old) 1 }
     ensures { IfOk result (λ a. Shared (program_view code.now.program) (config_view config.old) thread (option_map act_view a) (config_view config.new)) }
 {
     let Some(act) = config.enabled_act(code, thread) else {

@@ -6,6 +6,8 @@ use Rattle.pat_core.specs.Views.{program_view}
 use Rattle.pat_reduce.specs.Views.{config_view, entry_view, outcome_view}
 use Rattle.pat_run.specs.Jobs.{IsJob, Jobs}
 use Rattle.pat_run.proofs.Cuts.{jobs_replay, jobs_more, count_more, ends_stuck, job_within}
+use Rattle.pat_run.specs.Numbers.{HasRoom}
+use Rattle.pat_run.proofs.Numbers.{job_room}
 use Rattle.pat_run.proofs.finished.run.Goals as goal
 
 pub returns-in_default : goal.returns-in_default
@@ -49,5 +51,8 @@ loop-left-preserved c =
     let more = count_more es e in
     record {
       jobs = subst (λ l. Jobs p c.args.steps (start p) l (config_view c.run_job.new.config)) (sym grown) (jobs_more p c.args.steps c.loop-left.left (start p) es (config_view c.loop-left.config) e (config_view c.run_job.new.config) c.loop-left.invariant.jobs left allowed);
+      room =
+          subst (HasRoom (config_view c.run_job.new.config)) (ap (λ k. c.loop-left.left - k) (sym taken))
+          (job_room p c.loop-left.left (min c.loop-left.left 256) (config_view c.loop-left.config) e (config_view c.run_job.new.config) c.loop-left.invariant.room allowed (omega arith));
       counted = ap (λ l. step_count l + (c.loop-left.left - c.steps_of-left.result)) grown ∙ omega arith;
     }
