@@ -5,6 +5,7 @@ mod atoms;
 mod declaration;
 mod expression;
 mod list;
+mod numbered_pattern;
 mod pattern;
 mod term;
 
@@ -18,6 +19,7 @@ ghost use Rattle.pat_round_trip.specs.ReadAgain.{ReadsAs};
 ghost use Rattle.pat_tree.specs.Views.{tree_view};
 
 use declaration::put_declaration;
+pub use numbered_pattern::{pattern_text, pattern_text_law};
 use pat_tree::Tree;
 use std::alloc::{AllocError, Global};
 
