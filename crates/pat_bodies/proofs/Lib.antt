@@ -1,0 +1,9 @@
+pub mod Chains
+pub mod Earlier
+pub mod Forms
+pub mod Order
+pub mod Places
+pub mod Rest
+pub mod Rows
+pub mod Steps
+pub mod Within

@@ -1,0 +1,4 @@
+pub mod Above
+pub mod Needs
+pub mod Seen
+pub mod Steps
