@@ -7,6 +7,7 @@ ghost use Rattle.pat_run.specs.Jobs.{Ends};
 ghost use Rattle.pat_run.specs.Finished.{IsRun};
 
 use crate::job::run_job;
+use crate::turns::next_thread;
 use pat_executable::Executable;
 use pat_reduce::{Config, Entry, Outcome};
 use pat_sequences::Sequence;
@@ -26,7 +27,8 @@ pub struct Finished {
 // The most steps of a job.
 const ALLOWANCE: u64 = 256;
 
-/// Runs the program from its start, with a budget of steps, by jobs of worker 0. There are numbers for what so many steps make.
+/// Runs the program from its start, with a budget of steps, by jobs of worker 0, one ready thread after another.
+/// The budget is below the number of numbers that a step may need.
 pub fn run(alloc: Global, code: &Executable, steps: u64) -> Result<Finished, AllocError>
     requires { steps < 4294967295 }
     ensures { IfOk result (IsRun (program_view code.now.program) steps) }
@@ -34,8 +36,9 @@ pub fn run(alloc: Global, code: &Executable, steps: u64) -> Result<Finished, All
     let mut config = Config::start(alloc, code)?;
     let mut entries = Sequence::new(alloc);
     let mut left = steps;
+    let mut last = None;
     while left > 0 {
-        let Some(thread) = config.ready_thread(code) else {
+        let Some(thread) = next_thread(code, &config, last) else {
             let outcome = ending(code, &config);
             return Ok(Finished {
                 config,
@@ -47,6 +50,7 @@ pub fn run(alloc: Global, code: &Executable, steps: u64) -> Result<Finished, All
         let entry = run_job(alloc, code, &mut config, thread, left.min(ALLOWANCE) as u32)?;
         left -= steps_of(&entry);
         entries.push(entry)?;
+        last = Some(thread);
     }
     let outcome = ending(code, &config);
     Ok(Finished {

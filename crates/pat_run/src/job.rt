@@ -22,7 +22,8 @@ pub fn run_job(
     requires some { 0 < allowance }
     requires room { HasRoom (config_view config.old) allowance }
     requires ready { IsTrue (can_step_thread (program_view code.now.program) (config_view config.old) thread) }
-    ensures { IfOk result (λ e. IsJob (program_view code.now.program) allowance (config_view config.old) (entry_view e) (config_view config.new)) }
+    ensures thread { IfOk result (λ e. e.thread ≡ thread) }
+    ensures job { IfOk result (λ e. IsJob (program_view code.now.program) allowance (config_view config.old) (entry_view e) (config_view config.new)) }
 {
     let local = run_locally(alloc, code, config, thread, allowance)?;
     let shared = if local < allowance {

@@ -3,5 +3,6 @@
 
 mod finished;
 mod job;
+mod turns;
 
 pub use finished::{Finished, run};
