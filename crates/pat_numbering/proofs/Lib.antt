@@ -1,5 +1,6 @@
 pub mod Adding
-pub mod Letting
 pub mod Branching
-pub mod Guarding
 pub mod Ending
+pub mod Guarding
+pub mod Letting
+pub mod Sizes

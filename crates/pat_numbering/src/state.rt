@@ -15,6 +15,7 @@ use pat_tables::ScopeTable;
 use std::alloc::AllocError;
 
 /// The function whose body is numbered: its number, and the kinds of its variables by number.
+#[derive(Drop)]
 pub struct Context<'a> {
     pub heads: &'a Heads,
     pub function: u32,
