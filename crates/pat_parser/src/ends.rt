@@ -1,5 +1,5 @@
 // Where terms end: the end of a body, of a block, of a clause and of a guard.
-ghost use Rattle.std.specs.Prelude.{◌≡◌, ◌∷◌, ◌++◌, [], ◌+◌, map, option_map, suc, Some, None, Ok, true, false};
+ghost use Rattle.std.specs.Prelude.{◌≡◌, ◌∷◌, ◌++◌, [], ◌+◌, map, option_map, nat_lt, suc, Some, None, Ok, true, false};
 ghost use Rattle.pat_grammar.specs.Trees as trees;
 ghost use Rattle.pat_grammar.specs.Machine as m;
 ghost use Rattle.pat_syntax.specs.Views.{kind_view};
@@ -303,13 +303,20 @@ fn takes_next(stack: &Frames) -> bool
     }
 }
 
+/// Whether one more statement may be open.
+fn has_statement_room(statements: u32) -> bool
+    ensures { result ≡ nat_lt statements 4095 }
+{
+    statements < 4095
+}
+
 fn next_term(place: Place, term: Term, from: u32) -> Result<State, Fault>
     ensures { Makes result (m.then_next (m.takes_next (stack_view place.stack)) (stack_view place.stack) place.opened place.statements (term_view term) from) }
 {
     if !takes_next(&place.stack) {
         return refused((place, term));
     }
-    if place.statements >= 4095 {
+    if !has_statement_room(place.statements) {
         return too_deep((place, term));
     }
     let statements = place.statements + 1;
@@ -320,7 +327,7 @@ fn next_term(place: Place, term: Term, from: u32) -> Result<State, Fault>
 fn let_body(name: Name, from: u32, place: Place, term: Term) -> Result<State, Fault>
     ensures { Makes result (m.Starts place.statements (m.state (m.Start true) (m.AtLet (m.InBody (Some (name_view name)) (term_view term) from) ∷ stack_view place.stack) place.opened 0 (suc place.statements))) }
 {
-    if place.statements >= 4095 {
+    if !has_statement_room(place.statements) {
         return too_deep((name, place, term));
     }
     let statements = place.statements + 1;

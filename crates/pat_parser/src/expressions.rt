@@ -268,10 +268,10 @@ fn add(
         return too_deep((place, pending, last));
     }
     let operators = place.operators + 1;
-    let sum = sum_with(alloc, pending.added, pending.multiplied, last, to)?;
+    let left = sum_with(alloc, pending.added, pending.multiplied, last, to)?;
     let next = Pending {
         compared: pending.compared,
-        added: Some((op, sum)),
+        added: Some((op, left)),
         multiplied: None,
     };
     Ok(at(
