@@ -1,3 +1,2 @@
-pub mod Scans
-pub mod Innermost
 pub mod Places
+pub mod Tops

@@ -71,7 +71,7 @@ place_below x (n ∷ names) = go (bytes_eq n x) (first_named itself x names) (pl
 
 -- ---- the table of the list
 
-eq_sym : (xs ys : List ℕ) → bytes_eq xs ys ≡ bytes_eq ys xs
+pub eq_sym : (xs ys : List ℕ) → bytes_eq xs ys ≡ bytes_eq ys xs
 eq_sym xs ys = let d = bytes_eq-Decides ys xs in same_from_decides (bytes_eq xs ys) (bytes_eq ys xs) (bytes_eq-Decides xs ys) (λ h. sym (d.0 h), λ h. d.1 (sym h))
 
 -- one more name, which wasn't there
