@@ -58,7 +58,7 @@ fn check_term(
 ) -> Result<Kind, ResolveError>
     requires { length variables.old.kinds + binders_in (term_view term.now) < 4294967296 }
     ensures found { Meets result (term_findings (heads_view heads.now) (scope_view scope.old) (length variables.old.kinds) (term_need (heads_view heads.now) (scope_view scope.old) (length variables.old.kinds) (option_map kind_view need) (term_view term.now)) (term_view term.now)) }
-    ensures kind { IfOk result (λ k. kind_view k ≡ (term_need (heads_view heads.now) (scope_view scope.old) (length variables.old.kinds) (option_map kind_view need) (term_view term.now))) }
+    ensures kind { IfOk result (λ k. kind_view k ≡ term_need (heads_view heads.now) (scope_view scope.old) (length variables.old.kinds) (option_map kind_view need) (term_view term.now)) }
     ensures kinds { OnOk result (map kind_view variables.new.kinds ≡ map kind_view variables.old.kinds ++ vars_of (heads_view heads.now) (scope_view scope.old) (length variables.old.kinds) (term_view term.now)) }
     ensures spans { OnOk result (map span_view variables.new.spans ≡ map span_view variables.old.spans ++ var_places (term_view term.now)) }
     ensures count { OnOk result (length variables.new.kinds ≡ length variables.old.kinds + binders_in (term_view term.now)) }
@@ -143,7 +143,7 @@ fn check_form(
     requires shape { is_let (term_view term.now) ≡ false }
     requires fits { length variables.old.kinds + binders_in (term_view term.now) < 4294967296 }
     ensures found { Meets result (term_findings (heads_view heads.now) (scope_view scope.old) (length variables.old.kinds) (term_need (heads_view heads.now) (scope_view scope.old) (length variables.old.kinds) (option_map kind_view need) (term_view term.now)) (term_view term.now)) }
-    ensures kind { IfOk result (λ k. kind_view k ≡ (term_need (heads_view heads.now) (scope_view scope.old) (length variables.old.kinds) (option_map kind_view need) (term_view term.now))) }
+    ensures kind { IfOk result (λ k. kind_view k ≡ term_need (heads_view heads.now) (scope_view scope.old) (length variables.old.kinds) (option_map kind_view need) (term_view term.now)) }
     ensures kinds { OnOk result (map kind_view variables.new.kinds ≡ map kind_view variables.old.kinds ++ vars_of (heads_view heads.now) (scope_view scope.old) (length variables.old.kinds) (term_view term.now)) }
     ensures spans { OnOk result (map span_view variables.new.spans ≡ map span_view variables.old.spans ++ var_places (term_view term.now)) }
     ensures count { OnOk result (length variables.new.kinds ≡ length variables.old.kinds + binders_in (term_view term.now)) }
