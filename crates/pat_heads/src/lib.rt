@@ -11,5 +11,6 @@ mod reading;
 
 pub use heads::{Heads, Signature};
 pub use names::{InterfaceTable, Names};
+pub use number::{number_params, number_type};
 pub use patterns::{check_pattern, number_pattern};
 pub use reading::read_heads;

@@ -131,7 +131,7 @@ fn number_signature(
 }
 
 /// The types of parameters, in order.
-fn number_params(
+pub fn number_params(
     alloc: Global,
     names: &Names,
     params: &[Param],
@@ -167,7 +167,7 @@ fn number_types(
 }
 
 /// A written type by numbers. Of an interface that isn't there it has the number 0 and no pattern.
-fn number_type(alloc: Global, names: &Names, of: &TreeType) -> Result<Sort, AllocError>
+pub fn number_type(alloc: Global, names: &Names, of: &TreeType) -> Result<Sort, AllocError>
     requires { All (λ t. length t.tags ≤ 32) names.now.interfaces }
     ensures number { IfOk result (λ s. sort_view s ≡ sort_of (names_view names.now) (type_view of.now)) }
     ensures place { IfOk result (λ s. sort_place s ≡ type_place (type_view of.now)) }

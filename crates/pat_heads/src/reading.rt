@@ -24,6 +24,7 @@ use std::alloc::{AllocError, Global};
 pub fn read_heads(alloc: Global, tree: &Tree) -> Result<Heads, ResolveError>
     requires { tree_size (tree_view tree.now) < 2 ^ 32 }
     ensures found { Meets result (heads_findings (interface_names (tree_view tree.now)) [] [] (tree_view tree.now)) }
+    ensures names { IfOk result (λ h. names_view h.names ≡ interface_names (tree_view tree.now)) }
     ensures heads { IfOk result (λ h. heads_view h ≡ heads_of (tree_view tree.now)) }
     ensures payloads { IfOk result (λ h. map interface_places h.interfaces ≡ payload_places (tree_view tree.now)) }
     ensures params { IfOk result (λ h. map param_places h.signatures ≡ map written_params (definitions_of (tree_view tree.now))) }
@@ -41,6 +42,7 @@ fn number_heads(alloc: Global, names: Names, decls: &[Decl]) -> Result<Heads, Al
     requires named { names_view names ≡ interface_names (map decl_view decls.now) }
     requires few { length decls.now < 2 ^ 32 }
     requires few_tags { All (λ t. length t.tags ≤ 32) names.interfaces }
+    ensures names { IfOk result (λ h. names_view h.names ≡ interface_names (map decl_view decls.now)) }
     ensures heads { IfOk result (λ h. heads_view h ≡ heads_of (map decl_view decls.now)) }
     ensures payloads { IfOk result (λ h. map interface_places h.interfaces ≡ payload_places (map decl_view decls.now)) }
     ensures params { IfOk result (λ h. map param_places h.signatures ≡ map written_params (definitions_of (map decl_view decls.now))) }

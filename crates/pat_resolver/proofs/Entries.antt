@@ -1,0 +1,8 @@
+-- The first function called main, declaration by declaration.
+use Rattle.std.proofs.Common.{ℕ, ◌+◌, Option, Some, None}
+use Rattle.pat_names.specs.Heads.{Definition}
+
+-- what was found behind so many functions
+abbrev pub behind : ℕ → Option (ℕ × Definition) → Option (ℕ × Definition)
+behind n None = None
+behind n (Some f) = Some (n + f.0, f.1)

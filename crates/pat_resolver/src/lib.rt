@@ -1,0 +1,7 @@
+//! Trees to programs: the first rule of names and kinds that a tree breaks, or its program with the places of its parts.
+#![tactic(auto)]
+
+mod entry;
+mod whole;
+
+pub use whole::resolve;
