@@ -1,11 +1,14 @@
 -- What the machine's definitions see of the parser's states.
 use Rattle.std.specs.Prelude.{List, map, length, Option, Some, None, option_map}
+use Rattle.std.specs.Global.{Box}
 use Rattle.pat_model.specs.Values as values
+use Rattle.pat_grammar.specs.Trees as trees
 use Rattle.pat_grammar.specs.Items.{Limits}
 use Rattle.pat_grammar.specs.Grammar.{Operand as AnyOperand}
 use Rattle.pat_grammar.specs.Machine as m
 use Rattle.pat_primitives.specs.declared.Op.{Op}
 use Rattle.pat_primitives.specs.Views.{op_view, polarity_view}
+use Rattle.pat_tree.specs.declared.pattern.TreePattern.{TreePattern}
 use Rattle.pat_tree.specs.Views.{span_view, name_view, pattern_view, expr_view, clause_view, term_view, type_view, message_view, param_view, decl_view}
 use Rattle.pat_machine.specs.declared.state.Operand.{Operand}
 use Rattle.pat_machine.specs.declared.state.Pending.{Pending}
@@ -37,7 +40,7 @@ use Rattle.pat_machine.specs.declared.state.Control.TheVariants as control
 use Rattle.pat_machine.specs.declared.state.State.{State}
 
 abbrev pub operand_view : Operand → AnyOperand
-operand_view a = (expr_view a.value, a.from)
+operand_view a = (expr_view a.value.value, a.from)
 
 abbrev pub left_view : Option (Op × Operand) → Option (values.Op × AnyOperand)
 left_view None = None
@@ -46,8 +49,12 @@ left_view (Some x) = Some (op_view x.0, operand_view x.1)
 abbrev pub pending_view : Pending → m.Pending
 pending_view p = record { compared = left_view p.compared; added = left_view p.added; multiplied = option_map operand_view p.multiplied }
 
+abbrev pub held_view : Option (Box TreePattern) → Option trees.Pattern
+held_view None = None
+held_view (Some b) = Some (pattern_view b.value)
+
 abbrev pub before_view : Before → m.Before
-before_view p = record { added = option_map pattern_view p.added; multiplied = option_map pattern_view p.multiplied; stars = length p.stars }
+before_view p = record { added = held_view p.added; multiplied = held_view p.multiplied; stars = length p.stars }
 
 abbrev pub head_view : Head → m.Head
 head_view (head.ToCall f) = m.ToCall (name_view f)
@@ -57,7 +64,7 @@ abbrev pub guarding_view : Guarding → m.Guarding
 guarding_view g = record { mailbox = name_view g.mailbox; pattern = pattern_view g.pattern; from = g.from; opened = g.opened; inside = g.inside; statements = g.statements; clauses = map clause_view g.clauses.items }
 
 abbrev pub clause_head_view : ClauseHead → m.ClauseHead
-clause_head_view r = record { guard = guarding_view r.guard; word = span_view r.word; tag = name_view r.tag; names = map name_view r.names }
+clause_head_view r = record { guard = guarding_view r.guard.value; word = span_view r.word; tag = name_view r.tag; names = map name_view r.names }
 
 abbrev pub interfacing_view : Interfacing → m.Interfacing
 interfacing_view i = record { decls = map decl_view i.decls; name = name_view i.name; messages = map message_view i.messages }
@@ -67,22 +74,22 @@ defining_view d = record { decls = map decl_view d.decls; name = name_view d.nam
 
 abbrev pub naming_view : Naming → m.Naming
 naming_view (naming.InterfaceName ds) = m.InterfaceName (map decl_view ds)
-naming_view (naming.MessageName i) = m.MessageName (interfacing_view i)
+naming_view (naming.MessageName i) = m.MessageName (interfacing_view i.value)
 naming_view (naming.FunctionName ds) = m.FunctionName (map decl_view ds)
-naming_view (naming.ParamName d) = m.ParamName (defining_view d)
+naming_view (naming.ParamName d) = m.ParamName (defining_view d.value)
 naming_view (naming.LetName f) = m.LetName f
 naming_view (naming.NewName f o) = m.NewName f o
 naming_view (naming.FreeName f o) = m.FreeName f o
 naming_view (naming.GuardName f) = m.GuardName f
 naming_view (naming.TagName x) = m.TagName (name_view x)
-naming_view (naming.ReceiveName g w) = m.ReceiveName (guarding_view g) (span_view w)
-naming_view (naming.BinderName r) = m.BinderName (clause_head_view r)
-naming_view (naming.FromName r) = m.FromName (clause_head_view r)
+naming_view (naming.ReceiveName g w) = m.ReceiveName (guarding_view g.value) (span_view w)
+naming_view (naming.BinderName r) = m.BinderName (clause_head_view r.value)
+naming_view (naming.FromName r) = m.FromName (clause_head_view r.value)
 
 abbrev pub type_frame_view : TypeFrame → m.TypeFrame
-type_frame_view (types.InMessage i x ps) = m.InMessage (interfacing_view i) (name_view x) (map type_view ps)
-type_frame_view (types.InParam d x) = m.InParam (defining_view d) (name_view x)
-type_frame_view (types.InResult d) = m.InResult (defining_view d)
+type_frame_view (types.InMessage i x ps) = m.InMessage (interfacing_view i.value) (name_view x) (map type_view ps)
+type_frame_view (types.InParam d x) = m.InParam (defining_view d.value) (name_view x)
+type_frame_view (types.InResult d) = m.InResult (defining_view d.value)
 
 abbrev pub pattern_frame_view : PatternFrame → m.PatternFrame
 pattern_frame_view (patterns.InTyped x q) = m.InTyped (name_view x) (polarity_view q)
@@ -97,18 +104,18 @@ expr_frame_view (exprs.InTest f) = m.InTest f
 
 abbrev pub let_frame_view : LetFrame → m.LetFrame
 let_frame_view (lets.InBound x f) = m.InBound (name_view x) f
-let_frame_view (lets.InBody x t f) = m.InBody (option_map name_view x) (term_view t) f
+let_frame_view (lets.InBody x t f) = m.InBody (option_map name_view x) (term_view t.value) f
 
 abbrev pub block_frame_view : BlockFrame → m.BlockFrame
 block_frame_view (blocks.InBlock f o s) = m.InBlock f o s
 block_frame_view (blocks.InYes e f o s) = m.InYes (expr_view e) f o s
-block_frame_view (blocks.InNo e t f o s) = m.InNo (expr_view e) (term_view t) f o s
+block_frame_view (blocks.InNo e t f o s) = m.InNo (expr_view e) (term_view t.value) f o s
 block_frame_view (blocks.InSpawn f o s) = m.InSpawn f o s
-block_frame_view (blocks.InDef d a) = m.InDef (defining_view d) (type_view a)
+block_frame_view (blocks.InDef d a) = m.InDef (defining_view d.value) (type_view a)
 
 abbrev pub clause_frame_view : ClauseFrame → m.ClauseFrame
-clause_frame_view (clauses.InFree g w) = m.InFree (guarding_view g) (span_view w)
-clause_frame_view (clauses.InReceive r x) = m.InReceive (clause_head_view r) (name_view x)
+clause_frame_view (clauses.InFree g w) = m.InFree (guarding_view g.value) (span_view w)
+clause_frame_view (clauses.InReceive r x) = m.InReceive (clause_head_view r.value) (name_view x)
 
 abbrev pub frame_view : Frame → m.Frame
 frame_view (frame.Type f) = m.AtType (type_frame_view f)
@@ -126,9 +133,9 @@ control_view (control.AtDecl b ds) = m.AtDecl b (map decl_view ds)
 control_view (control.WantName what) = m.WantName (naming_view what)
 control_view (control.GotName what x) = m.GotName (naming_view what) (name_view x)
 control_view control.FirstPayload = m.FirstPayload
-control_view (control.AfterMessage i) = m.AfterMessage (interfacing_view i)
-control_view (control.FirstParam d) = m.FirstParam (defining_view d)
-control_view (control.AfterParams d) = m.AfterParams (defining_view d)
+control_view (control.AfterMessage i) = m.AfterMessage (interfacing_view i.value)
+control_view (control.FirstParam d) = m.FirstParam (defining_view d.value)
+control_view (control.AfterParams d) = m.AfterParams (defining_view d.value)
 control_view control.WantType = m.WantType
 control_view (control.AfterTypeName x) = m.AfterTypeName (name_view x)
 control_view (control.AfterPolarity x q t) = m.AfterPolarity (name_view x) (polarity_view q) t
@@ -141,17 +148,17 @@ control_view (control.AfterPrint f) = m.AfterPrint f
 control_view (control.AfterNew f) = m.AfterNew f
 control_view (control.AfterSpawn f) = m.AfterSpawn f
 control_view (control.AfterFree f) = m.AfterFree f
-control_view (control.AfterYes e t f) = m.AfterYes (expr_view e) (term_view t) f
-control_view (control.AfterElse e t f) = m.AfterElse (expr_view e) (term_view t) f
-control_view (control.AtClause b g) = m.AtClause b (guarding_view g)
-control_view (control.AfterFreeWord g w) = m.AfterFreeWord (guarding_view g) (span_view w)
-control_view (control.FirstBinder r) = m.FirstBinder (clause_head_view r)
-control_view (control.AfterBinders r) = m.AfterBinders (clause_head_view r)
+control_view (control.AfterYes e t f) = m.AfterYes (expr_view e) (term_view t.value) f
+control_view (control.AfterElse e t f) = m.AfterElse (expr_view e) (term_view t.value) f
+control_view (control.AtClause b g) = m.AtClause b (guarding_view g.value)
+control_view (control.AfterFreeWord g w) = m.AfterFreeWord (guarding_view g.value) (span_view w)
+control_view (control.FirstBinder r) = m.FirstBinder (clause_head_view r.value)
+control_view (control.AfterBinders r) = m.AfterBinders (clause_head_view r.value)
 control_view control.FirstArg = m.FirstArg
 control_view control.Opened = m.Opened
 control_view (control.Want p) = m.Want (pending_view p)
 control_view (control.Have p a t) = m.Have (pending_view p) (operand_view a) t
-control_view (control.Done t f) = m.Done (term_view t) f
+control_view (control.Done t f) = m.Done (term_view t.value) f
 
 abbrev pub state_view : State → m.State
 state_view x = m.state (control_view x.control) (stack_view x.place.stack) x.place.opened x.place.operators x.place.statements

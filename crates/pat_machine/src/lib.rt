@@ -7,11 +7,10 @@ mod place;
 mod state;
 
 pub use fault::Fault;
-pub use lists::{
-    with_clause, with_decl, with_expr, with_message, with_name, with_param, with_type,
-};
+pub use lists::{with_clause, with_decl, with_expr, with_type};
 pub use place::{
-    at, failed, has_room, name_of, none_before, nothing, over, refused, too_deep, top, within,
+    at, boxed_term, failed, has_room, name_of, none_before, nothing, over, refused, too_deep, top,
+    within,
 };
 pub use state::{
     Before, BlockFrame, ClauseFrame, ClauseHead, Control, Defining, ExprFrame, Frame, Frames,

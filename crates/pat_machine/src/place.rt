@@ -1,7 +1,8 @@
 // States from their parts, and whether one more token may be open.
 ghost use Rattle.std.specs.Prelude.{◌≡◌, ◌∷◌, ◌+◌, nat_lt, Ok, Err};
 ghost use Rattle.pat_grammar.specs.Machine as m;
-ghost use Rattle.pat_tree.specs.Views.{span_view, name_view};
+ghost use Rattle.pat_grammar.specs.Trees as trees;
+ghost use Rattle.pat_tree.specs.Views.{span_view, name_view, term_at, term_view};
 ghost use Rattle.pat_machine.specs.Views.{pending_view, before_view, frame_view, stack_view, control_view, state_view, limits};
 ghost use Rattle.pat_machine.specs.Answers.{Gives, Makes, Tops};
 
@@ -9,7 +10,7 @@ use crate::fault::Fault;
 use crate::state::{Before, Control, Frame, Frames, Pending, Place, State};
 use pat_sequences::{Sequence, Text};
 use pat_syntax::Span;
-use pat_tree::Name;
+use pat_tree::{Form, Name, Term};
 use std::alloc::Global;
 
 /// A state with these frames, and so many brackets, operators and statements open.
@@ -48,6 +49,14 @@ pub fn name_of(text: Text, span: Span) -> Name
     ensures { name_view result ≡ m.name_at text (span_view span) }
 {
     Name { text, span }
+}
+
+/// A term in a box.
+pub fn boxed_term(alloc: Global, form: Form, from: u32, to: u32) -> Result<Box<Term>, Fault>
+    ensures { Gives (λ t. term_view t.value) result (Ok (term_at form (trees.span from to))) }
+{
+    let span = Span { from, to };
+    Ok(Box::new(alloc, Term { form, span })?)
 }
 
 /// Nothing stands before the operand.

@@ -1,4 +1,4 @@
-// What the machine is in the middle of.
+// What the machine is in the middle of. A state moves at each token, so what is large stands in boxes.
 use pat_primitives::{Op, Polarity};
 use pat_sequences::{Sequence, Stack};
 use pat_syntax::Span;
@@ -7,7 +7,7 @@ use pat_tree::{Decl, Name, Param, Term, TreeClause, TreeExpr, TreeMessage, TreeP
 /// An expression, and where its text begins, brackets included.
 #[derive(Drop)]
 pub struct Operand {
-    pub value: TreeExpr,
+    pub value: Box<TreeExpr>,
     pub from: u32,
 }
 
@@ -22,8 +22,8 @@ pub struct Pending {
 /// What stands before a factor of a pattern: a sum, a product, and stars.
 #[derive(Drop)]
 pub struct Before {
-    pub added: Option<TreePattern>,
-    pub multiplied: Option<TreePattern>,
+    pub added: Option<Box<TreePattern>>,
+    pub multiplied: Option<Box<TreePattern>>,
     pub stars: Sequence<Span>,
 }
 
@@ -49,7 +49,7 @@ pub struct Guarding {
 /// A receive clause, and the names read so far.
 #[derive(Drop)]
 pub struct ClauseHead {
-    pub guard: Guarding,
+    pub guard: Box<Guarding>,
     pub word: Span,
     pub tag: Name,
     pub names: Sequence<Name>,
@@ -75,25 +75,25 @@ pub struct Defining {
 #[derive(Drop)]
 pub enum Naming {
     InterfaceName(Sequence<Decl>),
-    MessageName(Interfacing),
+    MessageName(Box<Interfacing>),
     FunctionName(Sequence<Decl>),
-    ParamName(Defining),
+    ParamName(Box<Defining>),
     LetName(u32),
     NewName(u32, u32),
     FreeName(u32, u32),
     GuardName(u32),
     TagName(Name),
-    ReceiveName(Guarding, Span),
-    BinderName(ClauseHead),
-    FromName(ClauseHead),
+    ReceiveName(Box<Guarding>, Span),
+    BinderName(Box<ClauseHead>),
+    FromName(Box<ClauseHead>),
 }
 
 /// Where a type stands: in a message, in a parameter, or behind the parameters.
 #[derive(Drop)]
 pub enum TypeFrame {
-    InMessage(Interfacing, Name, Sequence<TreeType>),
-    InParam(Defining, Name),
-    InResult(Defining),
+    InMessage(Box<Interfacing>, Name, Sequence<TreeType>),
+    InParam(Box<Defining>, Name),
+    InResult(Box<Defining>),
 }
 
 /// Where a pattern stands: in a type, in a guard, or in a bracket.
@@ -117,7 +117,7 @@ pub enum ExprFrame {
 #[derive(Drop)]
 pub enum LetFrame {
     InBound(Name, u32),
-    InBody(Option<Name>, Term, u32),
+    InBody(Option<Name>, Box<Term>, u32),
 }
 
 /// A term in braces.
@@ -125,16 +125,16 @@ pub enum LetFrame {
 pub enum BlockFrame {
     InBlock(u32, u32, u32),
     InYes(TreeExpr, u32, u32, u32),
-    InNo(TreeExpr, Term, u32, u32, u32),
+    InNo(TreeExpr, Box<Term>, u32, u32, u32),
     InSpawn(u32, u32, u32),
-    InDef(Defining, TreeType),
+    InDef(Box<Defining>, TreeType),
 }
 
 /// The body of a clause.
 #[derive(Drop)]
 pub enum ClauseFrame {
-    InFree(Guarding, Span),
-    InReceive(ClauseHead, Name),
+    InFree(Box<Guarding>, Span),
+    InReceive(Box<ClauseHead>, Name),
 }
 
 /// What is owed. Numbers in it are where a term begins, how many brackets were open before it, and how many statements.
@@ -158,9 +158,9 @@ pub enum Control {
     WantName(Naming),
     GotName(Naming, Name),
     FirstPayload,
-    AfterMessage(Interfacing),
-    FirstParam(Defining),
-    AfterParams(Defining),
+    AfterMessage(Box<Interfacing>),
+    FirstParam(Box<Defining>),
+    AfterParams(Box<Defining>),
     WantType,
     AfterTypeName(Name),
     AfterPolarity(Name, Polarity, u32),
@@ -173,17 +173,17 @@ pub enum Control {
     AfterNew(u32),
     AfterSpawn(u32),
     AfterFree(u32),
-    AfterYes(TreeExpr, Term, u32),
-    AfterElse(TreeExpr, Term, u32),
-    AtClause(bool, Guarding),
-    AfterFreeWord(Guarding, Span),
-    FirstBinder(ClauseHead),
-    AfterBinders(ClauseHead),
+    AfterYes(TreeExpr, Box<Term>, u32),
+    AfterElse(TreeExpr, Box<Term>, u32),
+    AtClause(bool, Box<Guarding>),
+    AfterFreeWord(Box<Guarding>, Span),
+    FirstBinder(Box<ClauseHead>),
+    AfterBinders(Box<ClauseHead>),
     FirstArg,
     Opened,
     Want(Pending),
     Have(Pending, Operand, u32),
-    Done(Term, u32),
+    Done(Box<Term>, u32),
 }
 
 /// The frames, and how many brackets, operators and statements are open.

@@ -1,5 +1,5 @@
 // Declarations: interfaces and the heads of functions.
-ghost use Rattle.std.specs.Prelude.{◌+◌, map, Ok, false};
+ghost use Rattle.std.specs.Prelude.{[], ◌+◌, map, Ok, false};
 ghost use Rattle.pat_grammar.specs.Machine as m;
 ghost use Rattle.pat_syntax.specs.Views.{kind_view};
 ghost use Rattle.pat_tree.specs.Views.{span_view, name_view, type_view, decl_view};
@@ -8,7 +8,7 @@ ghost use Rattle.pat_machine.specs.Answers.{Gives, Makes};
 
 use pat_machine::{
     Control, Defining, Fault, Frame, Interfacing, Naming, Place, State, TypeFrame, at, has_room,
-    name_of, over, refused, too_deep, with_decl, with_message, with_param,
+    name_of, over, refused, too_deep, with_decl,
 };
 use pat_sequences::Sequence;
 use pat_syntax::{Mark, Reserved, Span, TokenKind};
@@ -39,41 +39,34 @@ pub fn decl(
 
 /// An interface with one message more.
 pub fn message_added(
-    begun: Interfacing,
+    begun: Box<Interfacing>,
     name: Name,
     payloads: Sequence<TreeType>,
-) -> Result<Interfacing, Fault>
-    ensures { Gives interfacing_view result (Ok (m.with_message (interfacing_view begun) (name_view name) (map type_view payloads))) }
+) -> Result<Box<Interfacing>, Fault>
+    ensures { Gives (λ i. interfacing_view i.value) result (Ok (m.with_message (interfacing_view begun.value) (name_view name) (map type_view payloads))) }
 {
-    let message = TreeMessage { name, payloads };
-    let messages = with_message(begun.messages, message)?;
-    Ok(Interfacing {
-        decls: begun.decls,
-        name: begun.name,
-        messages,
-    })
+    let mut begun = begun;
+    begun.messages.push(TreeMessage { name, payloads })?;
+    Ok(begun)
 }
 
 /// The head of a function with one parameter more.
-pub fn param_added(begun: Defining, name: Name, of: TreeType) -> Result<Defining, Fault>
-    ensures { Gives defining_view result (Ok (m.with_param (defining_view begun) (name_view name) (type_view of))) }
+pub fn param_added(begun: Box<Defining>, name: Name, of: TreeType) -> Result<Box<Defining>, Fault>
+    ensures { Gives (λ d. defining_view d.value) result (Ok (m.with_param (defining_view begun.value) (name_view name) (type_view of))) }
 {
-    let params = with_param(begun.params, Param { name, of })?;
-    Ok(Defining {
-        decls: begun.decls,
-        name: begun.name,
-        params,
-    })
+    let mut begun = begun;
+    begun.params.push(Param { name, of })?;
+    Ok(begun)
 }
 
 /// Behind a message of an interface.
 pub fn message(
     place: Place,
-    begun: Interfacing,
+    begun: Box<Interfacing>,
     kind: TokenKind,
     span: Span,
 ) -> Result<State, Fault>
-    ensures { Makes result (m.after_message (stack_view place.stack) place.opened (interfacing_view begun) (kind_view kind) (span_view span)) }
+    ensures { Makes result (m.after_message (stack_view place.stack) place.opened (interfacing_view begun.value) (kind_view kind) (span_view span)) }
 {
     match kind {
         TokenKind::Mark(Mark::Comma) => {
@@ -85,7 +78,7 @@ pub fn message(
                 decls,
                 name,
                 messages,
-            } = begun;
+            } = Box::into_inner(begun);
             let decls = with_decl(decls, Decl::Interface { name, messages })?;
             Ok(at(Control::AtDecl(false, decls), place.stack, 0, 0, 0))
         }
@@ -96,11 +89,11 @@ pub fn message(
 /// Where the first parameter may stand.
 pub fn first_param(
     place: Place,
-    begun: Defining,
+    begun: Box<Defining>,
     kind: TokenKind,
     span: Span,
 ) -> Result<State, Fault>
-    ensures { Makes result (m.first_param (stack_view place.stack) place.opened (defining_view begun) (kind_view kind) (span_view span)) }
+    ensures { Makes result (m.first_param (stack_view place.stack) place.opened (defining_view begun.value) (kind_view kind) (span_view span)) }
 {
     match kind {
         TokenKind::Name(text) => {
@@ -116,8 +109,13 @@ pub fn first_param(
 }
 
 /// Behind the parameters of a function.
-pub fn params(place: Place, begun: Defining, kind: TokenKind, span: Span) -> Result<State, Fault>
-    ensures { Makes result (m.after_params (stack_view place.stack) place.opened (defining_view begun) (kind_view kind) (span_view span)) }
+pub fn params(
+    place: Place,
+    begun: Box<Defining>,
+    kind: TokenKind,
+    span: Span,
+) -> Result<State, Fault>
+    ensures { Makes result (m.after_params (stack_view place.stack) place.opened (defining_view begun.value) (kind_view kind) (span_view span)) }
 {
     match kind {
         TokenKind::Mark(Mark::Colon) => {
@@ -126,6 +124,32 @@ pub fn params(place: Place, begun: Defining, kind: TokenKind, span: Span) -> Res
         }
         _ => refused((place, begun)),
     }
+}
+
+fn interface_begun(
+    alloc: Global,
+    decls: Sequence<Decl>,
+    name: Name,
+) -> Result<Box<Interfacing>, Fault>
+    ensures { Gives (λ i. interfacing_view i.value) result (Ok (record { decls = map decl_view decls; name = name_view name; messages = [] })) }
+{
+    let begun = Interfacing {
+        decls,
+        name,
+        messages: Sequence::new(alloc),
+    };
+    Ok(Box::new(alloc, begun)?)
+}
+
+fn function_begun(alloc: Global, decls: Sequence<Decl>, name: Name) -> Result<Box<Defining>, Fault>
+    ensures { Gives (λ d. defining_view d.value) result (Ok (record { decls = map decl_view decls; name = name_view name; params = [] })) }
+{
+    let begun = Defining {
+        decls,
+        name,
+        params: Sequence::new(alloc),
+    };
+    Ok(Box::new(alloc, begun)?)
 }
 
 /// Behind the name of an interface.
@@ -144,19 +168,10 @@ pub fn interface_named(
             if !has_room(place.opened, 0) {
                 return too_deep((place, decls, name));
             }
-            let begun = Interfacing {
-                decls,
-                name,
-                messages: Sequence::new(alloc),
-            };
-            let naming = Naming::MessageName(begun);
-            Ok(at(
-                Control::WantName(naming),
-                place.stack,
-                place.opened + 1,
-                0,
-                0,
-            ))
+            let opened = place.opened + 1;
+            let begun = interface_begun(alloc, decls, name)?;
+            let control = Control::WantName(Naming::MessageName(begun));
+            Ok(at(control, place.stack, opened, 0, 0))
         }
         _ => refused((place, decls, name)),
     }
@@ -166,12 +181,12 @@ pub fn interface_named(
 pub fn message_named(
     alloc: Global,
     place: Place,
-    begun: Interfacing,
+    begun: Box<Interfacing>,
     name: Name,
     kind: TokenKind,
     span: Span,
 ) -> Result<State, Fault>
-    ensures { Makes result (m.message_named (stack_view place.stack) place.opened (interfacing_view begun) (name_view name) (kind_view kind) (span_view span)) }
+    ensures { Makes result (m.message_named (stack_view place.stack) place.opened (interfacing_view begun.value) (name_view name) (kind_view kind) (span_view span)) }
 {
     match kind {
         TokenKind::Mark(Mark::RoundOpen) => {
@@ -203,18 +218,10 @@ pub fn function_named(
             if !has_room(place.opened, 0) {
                 return too_deep((place, decls, name));
             }
-            let begun = Defining {
-                decls,
-                name,
-                params: Sequence::new(alloc),
-            };
-            Ok(at(
-                Control::FirstParam(begun),
-                place.stack,
-                place.opened + 1,
-                0,
-                0,
-            ))
+            let opened = place.opened + 1;
+            let begun = function_begun(alloc, decls, name)?;
+            let control = Control::FirstParam(begun);
+            Ok(at(control, place.stack, opened, 0, 0))
         }
         _ => refused((place, decls, name)),
     }
@@ -223,12 +230,12 @@ pub fn function_named(
 /// Behind the name of a parameter.
 pub fn param_named(
     place: Place,
-    begun: Defining,
+    begun: Box<Defining>,
     name: Name,
     kind: TokenKind,
     span: Span,
 ) -> Result<State, Fault>
-    ensures { Makes result (m.param_named (stack_view place.stack) place.opened (defining_view begun) (name_view name) (kind_view kind) (span_view span)) }
+    ensures { Makes result (m.param_named (stack_view place.stack) place.opened (defining_view begun.value) (name_view name) (kind_view kind) (span_view span)) }
 {
     match kind {
         TokenKind::Mark(Mark::Colon) => {

@@ -10,7 +10,8 @@ ghost use Rattle.pat_parser.specs.Answers.{standing};
 
 use pat_machine::{
     BlockFrame, ClauseFrame, ClauseHead, Control, Defining, Fault, Frame, Frames, Guarding,
-    LetFrame, Naming, Place, State, at, over, refused, too_deep, top, with_clause, with_decl,
+    LetFrame, Naming, Place, State, at, boxed_term, over, refused, too_deep, top, with_clause,
+    with_decl,
 };
 use pat_syntax::{Mark, Reserved, Span, TokenKind};
 use pat_tree::{Decl, Form, Name, Term, TreeClause, TreeExpr, TreeType};
@@ -19,32 +20,26 @@ use std::alloc::Global;
 fn let_term(
     alloc: Global,
     name: Option<Name>,
-    bound: Term,
-    body: Term,
+    bound: Box<Term>,
+    body: Box<Term>,
     from: u32,
-) -> Result<Term, Fault>
-    ensures { Gives term_view result (Ok (trees.LetTerm (option_map name_view name) (term_view bound) (term_view body) (trees.span from (trees.term_at (term_view body)).to))) }
+) -> Result<Box<Term>, Fault>
+    ensures { Gives (λ t. term_view t.value) result (Ok (trees.LetTerm (option_map name_view name) (term_view bound.value) (term_view body.value) (trees.span from (trees.term_at (term_view body.value)).to))) }
 {
-    let span = Span {
-        from,
-        to: body.span.to,
-    };
-    let bound = Box::new(alloc, bound)?;
-    let body = Box::new(alloc, body)?;
-    let form = Form::Let { name, bound, body };
-    Ok(Term { form, span })
+    let to = body.span.to;
+    boxed_term(alloc, Form::Let { name, bound, body }, from, to)
 }
 
-fn put_back(frame: Frame, below: Frames, term: Term) -> Result<(Frames, Term), Fault>
-    ensures { Gives (λ p. (stack_view p.0, term_view p.1)) result (standing (frame_view frame ∷ stack_view below) (term_view term)) }
+fn put_back(frame: Frame, below: Frames, term: Box<Term>) -> Result<(Frames, Box<Term>), Fault>
+    ensures { Gives (λ p. (stack_view p.0, term_view p.1.value)) result (standing (frame_view frame ∷ stack_view below) (term_view term.value)) }
 {
     let stack = over(frame, below)?;
     Ok((stack, term))
 }
 
 /// A term with the bodies that it ends, and what stands below them.
-fn bodies(alloc: Global, stack: Frames, term: Term) -> Result<(Frames, Term), Fault>
-    ensures { Gives (λ p. (stack_view p.0, term_view p.1)) result (Ok (m.bodies (stack_view stack) (term_view term))) }
+fn bodies(alloc: Global, stack: Frames, term: Box<Term>) -> Result<(Frames, Box<Term>), Fault>
+    ensures { Gives (λ p. (stack_view p.0, term_view p.1.value)) result (Ok (m.bodies (stack_view stack) (term_view term.value))) }
 {
     let mut stack = stack;
     let mut term = term;
@@ -59,13 +54,14 @@ fn bodies(alloc: Global, stack: Frames, term: Term) -> Result<(Frames, Term), Fa
     Ok((stack, term))
 }
 
-fn guard_term(guard: Guarding, to: u32) -> Term
-    ensures { term_view result ≡ m.guard_term (guarding_view guard) to }
+fn guard_term(guard: Box<Guarding>, to: u32) -> Term
+    ensures { term_view result ≡ m.guard_term (guarding_view guard.value) to }
 {
     let span = Span {
         from: guard.from,
         to,
     };
+    let guard = Box::into_inner(guard);
     let form = Form::Guard {
         name: guard.mailbox,
         pattern: guard.pattern,
@@ -74,8 +70,14 @@ fn guard_term(guard: Guarding, to: u32) -> Term
     Term { form, span }
 }
 
-fn guard_end(first: bool, stack: Frames, guard: Guarding, span: Span) -> Result<State, Fault>
-    ensures { Makes result (m.guard_end first (stack_view stack) (guarding_view guard) (span_view span)) }
+fn guard_end(
+    alloc: Global,
+    first: bool,
+    stack: Frames,
+    guard: Box<Guarding>,
+    span: Span,
+) -> Result<State, Fault>
+    ensures { Makes result (m.guard_end first (stack_view stack) (guarding_view guard.value) (span_view span)) }
 {
     if first {
         return refused((guard, stack));
@@ -83,19 +85,20 @@ fn guard_end(first: bool, stack: Frames, guard: Guarding, span: Span) -> Result<
     let from = guard.from;
     let opened = guard.opened;
     let statements = guard.statements;
-    let control = Control::Done(guard_term(guard, span.to), from);
-    Ok(at(control, stack, opened, 0, statements))
+    let whole = Box::new(alloc, guard_term(guard, span.to))?;
+    Ok(done(whole, from, stack, opened, statements))
 }
 
 /// Where a clause may begin, and the guard may end if this isn't its first clause.
 pub fn clause(
+    alloc: Global,
     first: bool,
     stack: Frames,
-    guard: Guarding,
+    guard: Box<Guarding>,
     kind: TokenKind,
     span: Span,
 ) -> Result<State, Fault>
-    ensures { Makes result (m.clause_step first (stack_view stack) (guarding_view guard) (kind_view kind) (span_view span)) }
+    ensures { Makes result (m.clause_step first (stack_view stack) (guarding_view guard.value) (kind_view kind) (span_view span)) }
 {
     let opened = guard.inside;
     let statements = guard.statements;
@@ -123,98 +126,117 @@ pub fn clause(
             let naming = Naming::ReceiveName(guard, span);
             Ok(at(Control::WantName(naming), stack, opened, 0, statements))
         }
-        TokenKind::Mark(Mark::CurlyClose) => guard_end(first, stack, guard, span),
+        TokenKind::Mark(Mark::CurlyClose) => guard_end(alloc, first, stack, guard, span),
         _ => refused(guard),
     }
 }
 
-fn free_of(guard: Guarding, word: Span, body: Term) -> Result<Guarding, Fault>
-    ensures { Gives guarding_view result (Ok (m.free_of (guarding_view guard) (span_view word) (term_view body))) }
+fn free_of(guard: Box<Guarding>, word: Span, body: Box<Term>) -> Result<Box<Guarding>, Fault>
+    ensures { Gives (λ g. guarding_view g.value) result (Ok (m.free_of (guarding_view guard.value) (span_view word) (term_view body.value))) }
 {
-    with_clause(guard, TreeClause::Free(word, body))
+    with_clause(guard, TreeClause::Free(word, Box::into_inner(body)))
 }
 
-fn receive_of(head: ClauseHead, from: Name, body: Term) -> Result<Guarding, Fault>
-    ensures { Gives guarding_view result (Ok (m.receive_of (clause_head_view head) (name_view from) (term_view body))) }
+fn receive_of(head: Box<ClauseHead>, from: Name, body: Box<Term>) -> Result<Box<Guarding>, Fault>
+    ensures { Gives (λ g. guarding_view g.value) result (Ok (m.receive_of (clause_head_view head.value) (name_view from) (term_view body.value))) }
 {
+    let head = Box::into_inner(head);
     let clause = TreeClause::Receive {
         span: head.word,
         tag: head.tag,
         names: head.names,
         from,
-        body,
+        body: Box::into_inner(body),
     };
     with_clause(head.guard, clause)
 }
 
 fn clause_then(
+    alloc: Global,
     frame: ClauseFrame,
     below: Frames,
-    term: Term,
+    term: Box<Term>,
     kind: TokenKind,
     span: Span,
 ) -> Result<State, Fault>
-    ensures { Makes result (m.next_clause (m.AtGuard (clause_frame_view frame) ∷ stack_view below) (term_view term) (kind_view kind) (span_view span)) }
+    ensures { Makes result (m.next_clause (m.AtGuard (clause_frame_view frame) ∷ stack_view below) (term_view term.value) (kind_view kind) (span_view span)) }
 {
     match frame {
         ClauseFrame::InFree(guard, word) => {
             let guard = free_of(guard, word, term)?;
-            clause(false, below, guard, kind, span)
+            clause(alloc, false, below, guard, kind, span)
         }
         ClauseFrame::InReceive(head, from) => {
             let guard = receive_of(head, from, term)?;
-            clause(false, below, guard, kind, span)
+            clause(alloc, false, below, guard, kind, span)
         }
     }
 }
 
-fn next_clause(stack: Frames, term: Term, kind: TokenKind, span: Span) -> Result<State, Fault>
-    ensures { Makes result (m.next_clause (stack_view stack) (term_view term) (kind_view kind) (span_view span)) }
+fn next_clause(
+    alloc: Global,
+    stack: Frames,
+    term: Box<Term>,
+    kind: TokenKind,
+    span: Span,
+) -> Result<State, Fault>
+    ensures { Makes result (m.next_clause (stack_view stack) (term_view term.value) (kind_view kind) (span_view span)) }
 {
     match top(stack) {
         None => refused(term),
         Some((frame, below)) => match frame {
-            Frame::Clause(frame) => clause_then(frame, below, term, kind, span),
+            Frame::Clause(frame) => clause_then(alloc, frame, below, term, kind, span),
             other => refused((other, below, term)),
         },
     }
 }
 
-fn done(term: Term, from: u32, stack: Frames, opened: u32, statements: u32) -> State
-    ensures { state_view result ≡ m.state (m.Done (term_view term) from) (stack_view stack) opened 0 statements }
+fn done(term: Box<Term>, from: u32, stack: Frames, opened: u32, statements: u32) -> State
+    ensures { state_view result ≡ m.state (m.Done (term_view term.value) from) (stack_view stack) opened 0 statements }
 {
     at(Control::Done(term, from), stack, opened, 0, statements)
 }
 
-fn function_end(begun: Defining, of: TreeType, body: Term, stack: Frames) -> Result<State, Fault>
-    ensures { Makes result (m.Goes (m.state (m.AtDecl false (map decl_view begun.decls ++ trees.DefDecl (name_view begun.name) (map param_view begun.params) (type_view of) (term_view body) ∷ [])) (stack_view stack) 0 0 0)) }
+fn function_end(
+    begun: Box<Defining>,
+    of: TreeType,
+    body: Box<Term>,
+    stack: Frames,
+) -> Result<State, Fault>
+    ensures { Makes result (m.Goes (m.state (m.AtDecl false (map decl_view begun.value.decls ++ trees.DefDecl (name_view begun.value.name) (map param_view begun.value.params) (type_view of) (term_view body.value) ∷ [])) (stack_view stack) 0 0 0)) }
 {
     let Defining {
         decls,
         name,
         params,
-    } = begun;
+    } = Box::into_inner(begun);
     let decl = Decl::Def {
         name,
         params,
         result: of,
-        body,
+        body: Box::into_inner(body),
     };
     let decls = with_decl(decls, decl)?;
     Ok(at(Control::AtDecl(false, decls), stack, 0, 0, 0))
 }
 
-fn clause_end(frame: ClauseFrame, below: Frames, term: Term, span: Span) -> Result<State, Fault>
-    ensures { Makes result (m.block_end (m.AtGuard (clause_frame_view frame) ∷ stack_view below) (term_view term) (span_view span)) }
+fn clause_end(
+    alloc: Global,
+    frame: ClauseFrame,
+    below: Frames,
+    term: Box<Term>,
+    span: Span,
+) -> Result<State, Fault>
+    ensures { Makes result (m.block_end (m.AtGuard (clause_frame_view frame) ∷ stack_view below) (term_view term.value) (span_view span)) }
 {
     match frame {
         ClauseFrame::InFree(guard, word) => {
             let guard = free_of(guard, word, term)?;
-            guard_end(false, below, guard, span)
+            guard_end(alloc, false, below, guard, span)
         }
         ClauseFrame::InReceive(head, from) => {
             let guard = receive_of(head, from, term)?;
-            guard_end(false, below, guard, span)
+            guard_end(alloc, false, below, guard, span)
         }
     }
 }
@@ -223,10 +245,10 @@ fn brace(
     alloc: Global,
     frame: BlockFrame,
     below: Frames,
-    term: Term,
+    term: Box<Term>,
     span: Span,
 ) -> Result<State, Fault>
-    ensures { Makes result (m.block_end (m.AtBlock (block_frame_view frame) ∷ stack_view below) (term_view term) (span_view span)) }
+    ensures { Makes result (m.block_end (m.AtBlock (block_frame_view frame) ∷ stack_view below) (term_view term.value) (span_view span)) }
 {
     match frame {
         BlockFrame::InBlock(from, opened, statements) => Ok(done(
@@ -248,14 +270,14 @@ fn brace(
     }
 }
 
-fn block_end(alloc: Global, stack: Frames, term: Term, span: Span) -> Result<State, Fault>
-    ensures { Makes result (m.block_end (stack_view stack) (term_view term) (span_view span)) }
+fn block_end(alloc: Global, stack: Frames, term: Box<Term>, span: Span) -> Result<State, Fault>
+    ensures { Makes result (m.block_end (stack_view stack) (term_view term.value) (span_view span)) }
 {
     match top(stack) {
         None => refused(term),
         Some((frame, below)) => match frame {
             Frame::Block(frame) => brace(alloc, frame, below, term, span),
-            Frame::Clause(frame) => clause_end(frame, below, term, span),
+            Frame::Clause(frame) => clause_end(alloc, frame, below, term, span),
             other => refused((other, below, term)),
         },
     }
@@ -264,29 +286,20 @@ fn block_end(alloc: Global, stack: Frames, term: Term, span: Span) -> Result<Sta
 fn branch(
     alloc: Global,
     test: TreeExpr,
-    yes: Term,
-    no: Term,
+    yes: Box<Term>,
+    no: Box<Term>,
     from: u32,
     to: u32,
-) -> Result<Term, Fault>
-    ensures { Gives term_view result (Ok (trees.IfTerm (expr_view test) (term_view yes) (term_view no) (trees.span from to))) }
+) -> Result<Box<Term>, Fault>
+    ensures { Gives (λ t. term_view t.value) result (Ok (trees.IfTerm (expr_view test) (term_view yes.value) (term_view no.value) (trees.span from to))) }
 {
-    let yes = Box::new(alloc, yes)?;
-    let no = Box::new(alloc, no)?;
-    Ok(Term {
-        form: Form::If { test, yes, no },
-        span: Span { from, to },
-    })
+    boxed_term(alloc, Form::If { test, yes, no }, from, to)
 }
 
-fn spawned(alloc: Global, body: Term, from: u32, to: u32) -> Result<Term, Fault>
-    ensures { Gives term_view result (Ok (trees.SpawnTerm (term_view body) (trees.span from to))) }
+fn spawned(alloc: Global, body: Box<Term>, from: u32, to: u32) -> Result<Box<Term>, Fault>
+    ensures { Gives (λ t. term_view t.value) result (Ok (trees.SpawnTerm (term_view body.value) (trees.span from to))) }
 {
-    let body = Box::new(alloc, body)?;
-    Ok(Term {
-        form: Form::Spawn(body),
-        span: Span { from, to },
-    })
+    boxed_term(alloc, Form::Spawn(body), from, to)
 }
 
 fn takes_next(stack: &Frames) -> bool
@@ -310,8 +323,8 @@ fn has_statement_room(statements: u32) -> bool
     statements < 4095
 }
 
-fn next_term(place: Place, term: Term, from: u32) -> Result<State, Fault>
-    ensures { Makes result (m.then_next (m.takes_next (stack_view place.stack)) (stack_view place.stack) place.opened place.statements (term_view term) from) }
+fn next_term(place: Place, term: Box<Term>, from: u32) -> Result<State, Fault>
+    ensures { Makes result (m.then_next (m.takes_next (stack_view place.stack)) (stack_view place.stack) place.opened place.statements (term_view term.value) from) }
 {
     if !takes_next(&place.stack) {
         return refused((place, term));
@@ -324,8 +337,8 @@ fn next_term(place: Place, term: Term, from: u32) -> Result<State, Fault>
     Ok(at(Control::Start(true), stack, place.opened, 0, statements))
 }
 
-fn let_body(name: Name, from: u32, place: Place, term: Term) -> Result<State, Fault>
-    ensures { Makes result (m.Starts place.statements (m.state (m.Start true) (m.AtLet (m.InBody (Some (name_view name)) (term_view term) from) ∷ stack_view place.stack) place.opened 0 (suc place.statements))) }
+fn let_body(name: Name, from: u32, place: Place, term: Box<Term>) -> Result<State, Fault>
+    ensures { Makes result (m.Starts place.statements (m.state (m.Start true) (m.AtLet (m.InBody (Some (name_view name)) (term_view term.value) from) ∷ stack_view place.stack) place.opened 0 (suc place.statements))) }
 {
     if !has_statement_room(place.statements) {
         return too_deep((name, place, term));
@@ -338,8 +351,8 @@ fn let_body(name: Name, from: u32, place: Place, term: Term) -> Result<State, Fa
     Ok(at(Control::Start(true), stack, place.opened, 0, statements))
 }
 
-fn body_of_let(stack: Frames, opened: u32, statements: u32, term: Term) -> Result<State, Fault>
-    ensures { Makes result (m.then_in (stack_view stack) opened statements (term_view term)) }
+fn body_of_let(stack: Frames, opened: u32, statements: u32, term: Box<Term>) -> Result<State, Fault>
+    ensures { Makes result (m.then_in (stack_view stack) opened statements (term_view term.value)) }
 {
     match top(stack) {
         None => refused(term),
@@ -361,18 +374,18 @@ fn body_of_let(stack: Frames, opened: u32, statements: u32, term: Term) -> Resul
 fn clause_after(
     alloc: Global,
     stack: Frames,
-    term: Term,
+    term: Box<Term>,
     kind: TokenKind,
     span: Span,
 ) -> Result<State, Fault>
-    ensures { Makes result (m.next_clause (m.bodies (stack_view stack) (term_view term)).0 (m.bodies (stack_view stack) (term_view term)).1 (kind_view kind) (span_view span)) }
+    ensures { Makes result (m.next_clause (m.bodies (stack_view stack) (term_view term.value)).0 (m.bodies (stack_view stack) (term_view term.value)).1 (kind_view kind) (span_view span)) }
 {
     let (stack, term) = bodies(alloc, stack, term)?;
-    next_clause(stack, term, kind, span)
+    next_clause(alloc, stack, term, kind, span)
 }
 
-fn brace_after(alloc: Global, stack: Frames, term: Term, span: Span) -> Result<State, Fault>
-    ensures { Makes result (m.block_end (m.bodies (stack_view stack) (term_view term)).0 (m.bodies (stack_view stack) (term_view term)).1 (span_view span)) }
+fn brace_after(alloc: Global, stack: Frames, term: Box<Term>, span: Span) -> Result<State, Fault>
+    ensures { Makes result (m.block_end (m.bodies (stack_view stack) (term_view term.value)).0 (m.bodies (stack_view stack) (term_view term.value)).1 (span_view span)) }
 {
     let (stack, term) = bodies(alloc, stack, term)?;
     block_end(alloc, stack, term, span)
@@ -382,12 +395,12 @@ fn brace_after(alloc: Global, stack: Frames, term: Term, span: Span) -> Result<S
 pub fn behind_simple(
     alloc: Global,
     place: Place,
-    term: Term,
+    term: Box<Term>,
     from: u32,
     kind: TokenKind,
     span: Span,
 ) -> Result<State, Fault>
-    ensures { Makes result (m.done_step (stack_view place.stack) place.opened place.statements (term_view term) from (kind_view kind) (span_view span)) }
+    ensures { Makes result (m.done_step (stack_view place.stack) place.opened place.statements (term_view term.value) from (kind_view kind) (span_view span)) }
 {
     match kind {
         TokenKind::Mark(Mark::Semicolon) => next_term(place, term, from),

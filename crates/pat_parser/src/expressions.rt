@@ -1,18 +1,18 @@
 // Expressions.
-ghost use Rattle.std.specs.Prelude.{◌≡◌, ◌∷◌, ◌+◌, map, option_map, suc, Some, None, Ok, true, false};
+ghost use Rattle.std.specs.Prelude.{ℕ, ◌≡◌, ◌∷◌, ◌+◌, map, option_map, suc, Some, None, Ok, true, false};
 ghost use Rattle.pat_grammar.specs.Trees as trees;
 ghost use Rattle.pat_grammar.specs.Grammar as grammar;
 ghost use Rattle.pat_grammar.specs.Machine as m;
 ghost use Rattle.pat_syntax.specs.Views.{kind_view};
 ghost use Rattle.pat_primitives.specs.Views.{op_view};
-ghost use Rattle.pat_tree.specs.Views.{span_view, expr_view, expr_at, term_view};
-ghost use Rattle.pat_machine.specs.Views.{operand_view, left_view, pending_view, head_view, stack_view, state_view};
+ghost use Rattle.pat_tree.specs.Views.{span_view, expr_view, expr_at, term_at, term_view};
+ghost use Rattle.pat_machine.specs.Views.{operand_view, left_view, pending_view, head_view, stack_view};
 ghost use Rattle.pat_machine.specs.Answers.{Gives, Makes};
 
 use crate::ends::behind_simple;
 use pat_machine::{
     BlockFrame, Control, ExprFrame, Fault, Frame, Frames, Head, Operand, Pending, Place, State, at,
-    has_room, nothing, over, refused, too_deep, top, with_expr,
+    boxed_term, failed, has_room, nothing, over, refused, too_deep, top, with_expr,
 };
 use pat_primitives::Op;
 use pat_sequences::Sequence;
@@ -24,12 +24,9 @@ fn binary(alloc: Global, op: Op, left: Operand, right: Operand, to: u32) -> Resu
     ensures { Gives operand_view result (Ok (grammar.combined (op_view op) (operand_view left) (operand_view right) to)) }
 {
     let from = left.from;
-    let left = Box::new(alloc, left.value)?;
-    let right = Box::new(alloc, right.value)?;
-    let value = TreeExpr {
-        form: ExprForm::Op(op, left, right),
-        span: Span { from, to },
-    };
+    let form = ExprForm::Op(op, left.value, right.value);
+    let span = Span { from, to };
+    let value = Box::new(alloc, TreeExpr { form, span })?;
     Ok(Operand { value, from })
 }
 
@@ -82,30 +79,12 @@ fn whole(alloc: Global, pending: Pending, last: Operand, to: u32) -> Result<Oper
     joined(alloc, pending.compared, sum, to)
 }
 
-fn made_of(head: Head, args: Sequence<TreeExpr>, to: u32) -> Term
-    ensures { term_view result ≡ m.made (head_view head) (map expr_view args) to }
+fn made_of(head: Head, args: Sequence<TreeExpr>) -> Form
+    ensures { (to : ℕ) → term_at result (trees.span (m.head_from (head_view head)) to) ≡ m.made (head_view head) (map expr_view args) to }
 {
     match head {
-        Head::ToCall(name) => {
-            let span = Span {
-                from: name.span.from,
-                to,
-            };
-            Term {
-                form: Form::Call { name, args },
-                span,
-            }
-        }
-        Head::ToSend(target, tag) => {
-            let span = Span {
-                from: target.span.from,
-                to,
-            };
-            Term {
-                form: Form::Send { target, tag, args },
-                span,
-            }
-        }
+        Head::ToCall(name) => Form::Call { name, args },
+        Head::ToSend(target, tag) => Form::Send { target, tag, args },
     }
 }
 
@@ -119,21 +98,23 @@ fn head_from(head: &Head) -> u32
 }
 
 fn args_end(
+    alloc: Global,
     head: Head,
     args: Sequence<TreeExpr>,
     to: u32,
     stack: Frames,
     opened: u32,
     statements: u32,
-) -> State
-    ensures { state_view result ≡ m.state (m.Done (m.made (head_view head) (map expr_view args) to) (m.head_from (head_view head))) (stack_view stack) opened 0 statements }
+) -> Result<State, Fault>
+    ensures { Makes result (m.Goes (m.state (m.Done (m.made (head_view head) (map expr_view args) to) (m.head_from (head_view head))) (stack_view stack) opened 0 statements)) }
 {
     let from = head_from(&head);
-    let control = Control::Done(made_of(head, args, to), from);
-    at(control, stack, opened, 0, statements)
+    let term = boxed_term(alloc, made_of(head, args), from, to)?;
+    Ok(at(Control::Done(term, from), stack, opened, 0, statements))
 }
 
 fn close(
+    alloc: Global,
     stack: Frames,
     operators: u32,
     statements: u32,
@@ -154,15 +135,17 @@ fn close(
                 Ok(at(control, below, opened, operators, statements))
             }
             Frame::Expr(ExprFrame::InPrint(from, opened)) => {
-                let term = Term {
-                    form: Form::Print(last.value),
-                    span: Span { from, to: span.to },
-                };
+                let term = boxed_term(
+                    alloc,
+                    Form::Print(Box::into_inner(last.value)),
+                    from,
+                    span.to,
+                )?;
                 Ok(at(Control::Done(term, from), below, opened, 0, statements))
             }
             Frame::Expr(ExprFrame::InArgs(head, args, opened)) => {
-                let args = with_expr(args, last.value)?;
-                Ok(args_end(head, args, span.to, below, opened, statements))
+                let args = with_expr(args, Box::into_inner(last.value))?;
+                args_end(alloc, head, args, span.to, below, opened, statements)
             }
             other => refused((other, below, last)),
         },
@@ -176,7 +159,7 @@ fn comma(stack: Frames, opened: u32, statements: u32, last: Operand) -> Result<S
         None => refused(last),
         Some((frame, below)) => match frame {
             Frame::Expr(ExprFrame::InArgs(head, args, before)) => {
-                let args = with_expr(args, last.value)?;
+                let args = with_expr(args, Box::into_inner(last.value))?;
                 let stack = over(Frame::Expr(ExprFrame::InArgs(head, args, before)), below)?;
                 Ok(at(Control::Want(nothing()), stack, opened, 0, statements))
             }
@@ -192,12 +175,17 @@ fn test_end(
     statements: u32,
     last: Operand,
 ) -> Result<State, Fault>
-    ensures { Makes result (m.Opens opened 0 (m.state (m.Start true) (m.AtBlock (m.InYes (expr_view last.value) from opened statements) ∷ stack_view stack) (suc opened) 0 statements)) }
+    ensures { Makes result (m.Opens opened 0 (m.state (m.Start true) (m.AtBlock (m.InYes (expr_view last.value.value) from opened statements) ∷ stack_view stack) (suc opened) 0 statements)) }
 {
     if !has_room(opened, 0) {
         return too_deep((stack, last));
     }
-    let frame = Frame::Block(BlockFrame::InYes(last.value, from, opened, statements));
+    let frame = Frame::Block(BlockFrame::InYes(
+        Box::into_inner(last.value),
+        from,
+        opened,
+        statements,
+    ));
     let stack = over(frame, stack)?;
     Ok(at(Control::Start(true), stack, opened + 1, 0, statements))
 }
@@ -214,16 +202,26 @@ fn open(stack: Frames, opened: u32, statements: u32, last: Operand) -> Result<St
     }
 }
 
-fn value_term(last: Operand, to: u32) -> Term
-    ensures { term_view result ≡ trees.ValueTerm (expr_view last.value) (trees.span last.from to) }
+fn value_term(alloc: Global, last: Operand, to: u32) -> Result<Box<Term>, Fault>
+    ensures { Gives (λ t. term_view t.value) result (Ok (trees.ValueTerm (expr_view last.value.value) (trees.span last.from to))) }
 {
-    Term {
-        form: Form::Value(last.value),
-        span: Span {
-            from: last.from,
-            to,
-        },
-    }
+    let from = last.from;
+    boxed_term(alloc, Form::Value(Box::into_inner(last.value)), from, to)
+}
+
+fn behind_value(
+    alloc: Global,
+    place: Place,
+    last: Operand,
+    to: u32,
+    kind: TokenKind,
+    span: Span,
+) -> Result<State, Fault>
+    ensures { Makes result (m.done_step (stack_view place.stack) place.opened place.statements (trees.ValueTerm (expr_view last.value.value) (trees.span last.from to)) last.from (kind_view kind) (span_view span)) }
+{
+    let from = last.from;
+    let term = value_term(alloc, last, to)?;
+    behind_simple(alloc, place, term, from, kind, span)
 }
 
 /// Behind an expression.
@@ -239,6 +237,7 @@ fn behind_expr(
 {
     match kind {
         TokenKind::Mark(Mark::RoundClose) => close(
+            alloc,
             place.stack,
             place.operators,
             place.statements,
@@ -247,10 +246,7 @@ fn behind_expr(
         ),
         TokenKind::Mark(Mark::Comma) => comma(place.stack, place.opened, place.statements, last),
         TokenKind::Mark(Mark::CurlyOpen) => open(place.stack, place.opened, place.statements, last),
-        _ => {
-            let from = last.from;
-            behind_simple(alloc, place, value_term(last, to), from, kind, span)
-        }
+        _ => behind_value(alloc, place, last, to, kind, span),
     }
 }
 
@@ -380,33 +376,63 @@ pub fn have(
     }
 }
 
-fn leaf(place: Place, pending: Pending, form: ExprForm, span: Span) -> State
-    ensures { state_view result ≡ m.state (m.Have (pending_view pending) (expr_at form (span_view span), span.from) span.to) (stack_view place.stack) place.opened place.operators place.statements }
+/// An operand without brackets round it.
+pub fn operand(alloc: Global, form: ExprForm, span: Span) -> Result<Operand, Fault>
+    ensures { Gives operand_view result (Ok (expr_at form (span_view span), span.from)) }
 {
-    let operand = Operand {
-        value: TreeExpr { form, span },
+    let value = Box::new(alloc, TreeExpr { form, span })?;
+    Ok(Operand {
+        value,
         from: span.from,
-    };
-    let control = Control::Have(pending, operand, span.to);
-    at(
-        control,
-        place.stack,
-        place.opened,
-        place.operators,
-        place.statements,
-    )
+    })
+}
+
+fn leaf(
+    alloc: Global,
+    place: Place,
+    pending: Pending,
+    form: ExprForm,
+    span: Span,
+) -> Result<State, Fault>
+    ensures { Makes result (m.Goes (m.state (m.Have (pending_view pending) (expr_at form (span_view span), span.from) span.to) (stack_view place.stack) place.opened place.operators place.statements)) }
+{
+    match operand(alloc, form, span) {
+        Ok(operand) => {
+            let control = Control::Have(pending, operand, span.to);
+            Ok(at(
+                control,
+                place.stack,
+                place.opened,
+                place.operators,
+                place.statements,
+            ))
+        }
+        Err(fault) => failed(fault, (place, pending)),
+    }
 }
 
 /// Where an operand is wanted.
-pub fn want(place: Place, pending: Pending, kind: TokenKind, span: Span) -> Result<State, Fault>
+pub fn want(
+    alloc: Global,
+    place: Place,
+    pending: Pending,
+    kind: TokenKind,
+    span: Span,
+) -> Result<State, Fault>
     ensures { Makes result (m.want_step (stack_view place.stack) place.opened place.operators place.statements (pending_view pending) (kind_view kind) (span_view span)) }
 {
     match kind {
-        TokenKind::Name(text) => Ok(leaf(place, pending, ExprForm::Var(text), span)),
-        TokenKind::Integer(value) => Ok(leaf(place, pending, ExprForm::Int(value), span)),
-        TokenKind::Str(text) => Ok(leaf(place, pending, ExprForm::Str(text), span)),
-        TokenKind::Word(Reserved::True) => Ok(leaf(place, pending, ExprForm::Bool(true), span)),
-        TokenKind::Word(Reserved::False) => Ok(leaf(place, pending, ExprForm::Bool(false), span)),
+        TokenKind::Name(text) => leaf(alloc, place, pending, ExprForm::Var(text), span),
+        TokenKind::Integer(value) => leaf(alloc, place, pending, ExprForm::Int(value), span),
+        TokenKind::Str(text) => leaf(alloc, place, pending, ExprForm::Str(text), span),
+        TokenKind::Word(Reserved::True) => leaf(alloc, place, pending, ExprForm::Bool(true), span),
+        TokenKind::Word(Reserved::False) => leaf(
+            alloc,
+            place,
+            pending,
+            ExprForm::Bool(false),
+            span,
+        ),
         TokenKind::Mark(Mark::RoundOpen) => {
             if !has_room(place.opened, place.operators) {
                 return too_deep((place, pending));
@@ -426,19 +452,27 @@ pub fn want(place: Place, pending: Pending, kind: TokenKind, span: Span) -> Resu
     }
 }
 
-fn opened_close(stack: Frames, operators: u32, statements: u32, span: Span) -> Result<State, Fault>
+fn opened_close(
+    alloc: Global,
+    stack: Frames,
+    operators: u32,
+    statements: u32,
+    span: Span,
+) -> Result<State, Fault>
     ensures { Makes result (m.opened_close (stack_view stack) operators statements (span_view span)) }
 {
     match top(stack) {
         None => Err(Fault::Unexpected),
         Some((frame, below)) => match frame {
             Frame::Expr(ExprFrame::InBracket(pending, from, opened)) => {
-                let value = TreeExpr {
-                    form: ExprForm::Unit,
-                    span: Span { from, to: span.to },
+                let whole = Span { from, to: span.to };
+                let place = Place {
+                    stack: below,
+                    opened,
+                    operators,
+                    statements,
                 };
-                let control = Control::Have(pending, Operand { value, from }, span.to);
-                Ok(at(control, below, opened, operators, statements))
+                leaf(alloc, place, pending, ExprForm::Unit, whole)
             }
             other => refused((other, below)),
         },
@@ -446,40 +480,46 @@ fn opened_close(stack: Frames, operators: u32, statements: u32, span: Span) -> R
 }
 
 /// Behind an opening bracket of an expression.
-pub fn opened(place: Place, kind: TokenKind, span: Span) -> Result<State, Fault>
+pub fn opened(alloc: Global, place: Place, kind: TokenKind, span: Span) -> Result<State, Fault>
     ensures { Makes result (m.opened_step (stack_view place.stack) place.opened place.operators place.statements (kind_view kind) (span_view span)) }
 {
     match kind {
         TokenKind::Mark(Mark::RoundClose) => opened_close(
+            alloc,
             place.stack,
             place.operators,
             place.statements,
             span,
         ),
-        _ => want(place, nothing(), kind, span),
+        _ => want(alloc, place, nothing(), kind, span),
     }
 }
 
-fn first_close(stack: Frames, statements: u32, span: Span) -> Result<State, Fault>
+fn first_close(alloc: Global, stack: Frames, statements: u32, span: Span) -> Result<State, Fault>
     ensures { Makes result (m.first_close (stack_view stack) statements (span_view span)) }
 {
     match top(stack) {
         None => Err(Fault::Unexpected),
         Some((frame, below)) => match frame {
-            Frame::Expr(ExprFrame::InArgs(head, args, opened)) => Ok(args_end(
-                head, args, span.to, below, opened, statements,
-            )),
+            Frame::Expr(ExprFrame::InArgs(head, args, opened)) => {
+                args_end(alloc, head, args, span.to, below, opened, statements)
+            }
             other => refused((other, below)),
         },
     }
 }
 
 /// Where the first argument may stand.
-pub fn first_arg(place: Place, kind: TokenKind, span: Span) -> Result<State, Fault>
+pub fn first_arg(alloc: Global, place: Place, kind: TokenKind, span: Span) -> Result<State, Fault>
     ensures { Makes result (m.first_step (stack_view place.stack) place.opened place.operators place.statements (kind_view kind) (span_view span)) }
 {
     match kind {
-        TokenKind::Mark(Mark::RoundClose) => first_close(place.stack, place.statements, span),
-        _ => want(place, nothing(), kind, span),
+        TokenKind::Mark(Mark::RoundClose) => first_close(
+            alloc,
+            place.stack,
+            place.statements,
+            span,
+        ),
+        _ => want(alloc, place, nothing(), kind, span),
     }
 }

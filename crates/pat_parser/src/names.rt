@@ -1,5 +1,5 @@
 // Names that are wanted, and what stands behind them.
-ghost use Rattle.std.specs.Prelude.{Ok, true, false};
+ghost use Rattle.std.specs.Prelude.{[], Ok, true, false};
 ghost use Rattle.pat_grammar.specs.Machine as m;
 ghost use Rattle.pat_syntax.specs.Views.{kind_view};
 ghost use Rattle.pat_tree.specs.Views.{span_view, name_view};
@@ -10,11 +10,11 @@ use crate::declarations::{function_named, interface_named, message_named, param_
 use crate::terms::{naming, open, open_here, with_control};
 use pat_machine::{
     ClauseFrame, ClauseHead, Control, ExprFrame, Fault, Frame, Guarding, Head, LetFrame, Naming,
-    PatternFrame, Place, State, at, name_of, none_before, over, refused, with_name,
+    PatternFrame, Place, State, at, boxed_term, name_of, none_before, over, refused,
 };
 use pat_sequences::Sequence;
 use pat_syntax::{Mark, Span, TokenKind};
-use pat_tree::{Form, Name, Term};
+use pat_tree::{Form, Name};
 use std::alloc::Global;
 
 fn let_named(
@@ -42,6 +42,7 @@ fn let_named(
 }
 
 fn new_named(
+    alloc: Global,
     place: Place,
     from: u32,
     opened: u32,
@@ -53,10 +54,7 @@ fn new_named(
 {
     match kind {
         TokenKind::Mark(Mark::SquareClose) => {
-            let term = Term {
-                form: Form::New(name),
-                span: Span { from, to: span.to },
-            };
+            let term = boxed_term(alloc, Form::New(name), from, span.to)?;
             Ok(at(
                 Control::Done(term, from),
                 place.stack,
@@ -70,6 +68,7 @@ fn new_named(
 }
 
 fn free_named(
+    alloc: Global,
     place: Place,
     from: u32,
     opened: u32,
@@ -81,10 +80,7 @@ fn free_named(
 {
     match kind {
         TokenKind::Mark(Mark::RoundClose) => {
-            let term = Term {
-                form: Form::Free(name),
-                span: Span { from, to: span.to },
-            };
+            let term = boxed_term(alloc, Form::Free(name), from, span.to)?;
             Ok(at(
                 Control::Done(term, from),
                 place.stack,
@@ -143,49 +139,56 @@ fn tag_named(
 fn receive_named(
     alloc: Global,
     place: Place,
-    guard: Guarding,
+    guard: Box<Guarding>,
     word: Span,
     tag: Name,
     kind: TokenKind,
     span: Span,
 ) -> Result<State, Fault>
-    ensures { Makes result (m.receive_named (stack_view place.stack) place.opened place.statements (guarding_view guard) (span_view word) (name_view tag) (kind_view kind) (span_view span)) }
+    ensures { Makes result (m.receive_named (stack_view place.stack) place.opened place.statements (guarding_view guard.value) (span_view word) (name_view tag) (kind_view kind) (span_view span)) }
 {
     match kind {
         TokenKind::Mark(Mark::RoundOpen) => {
-            let names = Sequence::new(alloc);
-            let head = ClauseHead {
-                guard,
-                word,
-                tag,
-                names,
-            };
+            let head = clause_begun(alloc, guard, word, tag)?;
             open_here(place, Control::FirstBinder(head))
         }
         _ => refused((place, guard, tag)),
     }
 }
 
-fn binder_added(head: ClauseHead, name: Name) -> Result<ClauseHead, Fault>
-    ensures { Gives clause_head_view result (Ok (m.with_name (clause_head_view head) (name_view name))) }
+fn clause_begun(
+    alloc: Global,
+    guard: Box<Guarding>,
+    word: Span,
+    tag: Name,
+) -> Result<Box<ClauseHead>, Fault>
+    ensures { Gives (λ r. clause_head_view r.value) result (Ok (record { guard = guarding_view guard.value; word = span_view word; tag = name_view tag; names = [] })) }
 {
-    let names = with_name(head.names, name)?;
-    Ok(ClauseHead {
-        guard: head.guard,
-        word: head.word,
-        tag: head.tag,
-        names,
-    })
+    let head = ClauseHead {
+        guard,
+        word,
+        tag,
+        names: Sequence::new(alloc),
+    };
+    Ok(Box::new(alloc, head)?)
+}
+
+fn binder_added(head: Box<ClauseHead>, name: Name) -> Result<Box<ClauseHead>, Fault>
+    ensures { Gives (λ r. clause_head_view r.value) result (Ok (m.with_name (clause_head_view head.value) (name_view name))) }
+{
+    let mut head = head;
+    head.names.push(name)?;
+    Ok(head)
 }
 
 fn binder_named(
     place: Place,
-    head: ClauseHead,
+    head: Box<ClauseHead>,
     name: Name,
     kind: TokenKind,
     span: Span,
 ) -> Result<State, Fault>
-    ensures { Makes result (m.binder_named (stack_view place.stack) place.opened place.statements (clause_head_view head) (name_view name) (kind_view kind) (span_view span)) }
+    ensures { Makes result (m.binder_named (stack_view place.stack) place.opened place.statements (clause_head_view head.value) (name_view name) (kind_view kind) (span_view span)) }
 {
     match kind {
         TokenKind::Mark(Mark::Comma) => {
@@ -209,12 +212,12 @@ fn binder_named(
 
 fn from_named(
     place: Place,
-    head: ClauseHead,
+    head: Box<ClauseHead>,
     name: Name,
     kind: TokenKind,
     span: Span,
 ) -> Result<State, Fault>
-    ensures { Makes result (m.from_named (stack_view place.stack) place.opened place.statements (clause_head_view head) (name_view name) (kind_view kind) (span_view span)) }
+    ensures { Makes result (m.from_named (stack_view place.stack) place.opened place.statements (clause_head_view head.value) (name_view name) (kind_view kind) (span_view span)) }
 {
     match kind {
         TokenKind::Mark(Mark::Arrow) => {
@@ -264,8 +267,8 @@ pub fn got_name(
         Naming::FunctionName(decls) => function_named(alloc, place, decls, name, kind, span),
         Naming::ParamName(begun) => param_named(place, begun, name, kind, span),
         Naming::LetName(from) => let_named(place, from, name, kind, span),
-        Naming::NewName(from, opened) => new_named(place, from, opened, name, kind, span),
-        Naming::FreeName(from, opened) => free_named(place, from, opened, name, kind, span),
+        Naming::NewName(from, opened) => new_named(alloc, place, from, opened, name, kind, span),
+        Naming::FreeName(from, opened) => free_named(alloc, place, from, opened, name, kind, span),
         Naming::GuardName(from) => guard_named(alloc, place, from, name, kind, span),
         Naming::TagName(target) => tag_named(alloc, place, target, name, kind, span),
         Naming::ReceiveName(guard, word) => receive_named(

@@ -5,7 +5,7 @@ ghost use Rattle.pat_grammar.specs.Machine as m;
 ghost use Rattle.pat_syntax.specs.Views.{kind_view};
 ghost use Rattle.pat_primitives.specs.Views.{polarity_view};
 ghost use Rattle.pat_tree.specs.Views.{span_view, name_view, pattern_view, type_view};
-ghost use Rattle.pat_machine.specs.Views.{before_view, stack_view};
+ghost use Rattle.pat_machine.specs.Views.{before_view, held_view, stack_view};
 ghost use Rattle.pat_machine.specs.Answers.{Gives, Makes};
 
 use crate::types::{type_close, type_comma, type_open};
@@ -103,7 +103,7 @@ fn with_star(stars: Sequence<Span>, star: Span) -> Result<Sequence<Span>, Fault>
 }
 
 fn star(place: Place, before: Before, span: Span) -> Result<State, Fault>
-    ensures { Makes result (m.Opens place.opened place.operators (m.state (m.WantPattern (record { added = option_map pattern_view before.added; multiplied = option_map pattern_view before.multiplied; stars = suc (length before.stars) })) (stack_view place.stack) place.opened (suc place.operators) place.statements)) }
+    ensures { Makes result (m.Opens place.opened place.operators (m.state (m.WantPattern (record { added = held_view before.added; multiplied = held_view before.multiplied; stars = suc (length before.stars) })) (stack_view place.stack) place.opened (suc place.operators) place.statements)) }
 {
     if !has_room(place.opened, place.operators) {
         return too_deep((place, before));
@@ -136,39 +136,37 @@ fn starred(alloc: Global, stars: Sequence<Span>, pattern: TreePattern) -> Result
 
 fn product(
     alloc: Global,
-    left: Option<TreePattern>,
+    left: Option<Box<TreePattern>>,
     right: TreePattern,
 ) -> Result<TreePattern, Fault>
-    ensures { Gives pattern_view result (Ok (m.times_pattern (option_map pattern_view left) (pattern_view right))) }
+    ensures { Gives pattern_view result (Ok (m.times_pattern (held_view left) (pattern_view right))) }
 {
     match left {
         None => Ok(right),
-        Some(left) => {
-            let left = Box::new(alloc, left)?;
-            Ok(TreePattern::Prod(left, Box::new(alloc, right)?))
-        }
+        Some(left) => Ok(TreePattern::Prod(left, Box::new(alloc, right)?)),
     }
 }
 
-fn sum(alloc: Global, left: Option<TreePattern>, right: TreePattern) -> Result<TreePattern, Fault>
-    ensures { Gives pattern_view result (Ok (m.plus_pattern (option_map pattern_view left) (pattern_view right))) }
+fn sum(
+    alloc: Global,
+    left: Option<Box<TreePattern>>,
+    right: TreePattern,
+) -> Result<TreePattern, Fault>
+    ensures { Gives pattern_view result (Ok (m.plus_pattern (held_view left) (pattern_view right))) }
 {
     match left {
         None => Ok(right),
-        Some(left) => {
-            let left = Box::new(alloc, left)?;
-            Ok(TreePattern::Sum(left, Box::new(alloc, right)?))
-        }
+        Some(left) => Ok(TreePattern::Sum(left, Box::new(alloc, right)?)),
     }
 }
 
 fn product_in(
     alloc: Global,
-    multiplied: Option<TreePattern>,
+    multiplied: Option<Box<TreePattern>>,
     stars: Sequence<Span>,
     factor: TreePattern,
 ) -> Result<TreePattern, Fault>
-    ensures { Gives pattern_view result (Ok (m.times_pattern (option_map pattern_view multiplied) (m.starred (length stars) (pattern_view factor)))) }
+    ensures { Gives pattern_view result (Ok (m.times_pattern (held_view multiplied) (m.starred (length stars) (pattern_view factor)))) }
 {
     let factor = starred(alloc, stars, factor)?;
     product(alloc, multiplied, factor)
@@ -253,22 +251,18 @@ fn guard_open(
     if !has_room(opened, 0) {
         return too_deep((stack, mailbox, pattern));
     }
+    let inside = opened + 1;
     let guard = Guarding {
         mailbox,
         pattern,
         from,
         opened,
-        inside: opened + 1,
+        inside,
         statements,
         clauses: Vec::new(alloc),
     };
-    Ok(at(
-        Control::AtClause(true, guard),
-        stack,
-        opened + 1,
-        0,
-        statements,
-    ))
+    let control = Control::AtClause(true, Box::new(alloc, guard)?);
+    Ok(at(control, stack, inside, 0, statements))
 }
 
 fn open(
@@ -298,7 +292,7 @@ fn open(
 }
 
 fn dot(alloc: Global, place: Place, before: Before, factor: TreePattern) -> Result<State, Fault>
-    ensures { Makes result (m.Opens place.opened place.operators (m.state (m.WantPattern (record { added = option_map pattern_view before.added; multiplied = Some (m.product_in (before_view before) (pattern_view factor)); stars = 0 })) (stack_view place.stack) place.opened (suc place.operators) place.statements)) }
+    ensures { Makes result (m.Opens place.opened place.operators (m.state (m.WantPattern (record { added = held_view before.added; multiplied = Some (m.product_in (before_view before) (pattern_view factor)); stars = 0 })) (stack_view place.stack) place.opened (suc place.operators) place.statements)) }
 {
     if !has_room(place.opened, place.operators) {
         return too_deep((place, before, factor));
@@ -306,7 +300,7 @@ fn dot(alloc: Global, place: Place, before: Before, factor: TreePattern) -> Resu
     let product = product_in(alloc, before.multiplied, before.stars, factor)?;
     let next = Before {
         added: before.added,
-        multiplied: Some(product),
+        multiplied: Some(Box::new(alloc, product)?),
         stars: Sequence::new(alloc),
     };
     let control = Control::WantPattern(next);
@@ -327,7 +321,7 @@ fn plus(alloc: Global, place: Place, before: Before, factor: TreePattern) -> Res
     }
     let sum = whole(alloc, before, factor)?;
     let next = Before {
-        added: Some(sum),
+        added: Some(Box::new(alloc, sum)?),
         multiplied: None,
         stars: Sequence::new(alloc),
     };

@@ -4,14 +4,14 @@ ghost use Rattle.pat_grammar.specs.Trees as trees;
 ghost use Rattle.pat_grammar.specs.Machine as m;
 ghost use Rattle.pat_syntax.specs.Views.{kind_view};
 ghost use Rattle.pat_tree.specs.Views.{span_view, name_view, expr_view, term_view};
-ghost use Rattle.pat_machine.specs.Views.{operand_view, guarding_view, clause_head_view, naming_view, frame_view, stack_view, control_view, state_view};
+ghost use Rattle.pat_machine.specs.Views.{guarding_view, clause_head_view, naming_view, frame_view, stack_view, control_view, state_view};
 ghost use Rattle.pat_machine.specs.Answers.{Makes};
 ghost use Rattle.pat_syntax.specs.declared.token.TokenKind.TheVariants.{Mark as MarkToken, Word as WordToken};
 
-use crate::expressions::{have, want};
+use crate::expressions::{have, operand, want};
 use pat_machine::{
     BlockFrame, ClauseFrame, ClauseHead, Control, ExprFrame, Fault, Frame, Guarding, Head, Naming,
-    Operand, Place, State, at, has_room, name_of, nothing, over, refused, too_deep, within,
+    Place, State, at, failed, has_room, name_of, nothing, over, refused, too_deep, within,
 };
 use pat_sequences::Sequence;
 use pat_syntax::{Mark, Reserved, Span, TokenKind};
@@ -111,7 +111,13 @@ fn start_test(place: Place, span: Span) -> Result<State, Fault>
     ))
 }
 
-fn start_word(place: Place, whole: bool, word: Reserved, span: Span) -> Result<State, Fault>
+fn start_word(
+    alloc: Global,
+    place: Place,
+    whole: bool,
+    word: Reserved,
+    span: Span,
+) -> Result<State, Fault>
     ensures { Makes result (m.start_step (stack_view place.stack) place.opened place.operators place.statements whole (kind_view (WordToken word)) (span_view span)) }
 {
     match word {
@@ -122,40 +128,57 @@ fn start_word(place: Place, whole: bool, word: Reserved, span: Span) -> Result<S
         Reserved::Free => Ok(with_control(place, Control::AfterFree(span.from))),
         Reserved::If => start_test(place, span),
         Reserved::Guard => Ok(naming(place, Naming::GuardName(span.from))),
-        _ => want(place, nothing(), TokenKind::Word(word), span),
+        _ => want(alloc, place, nothing(), TokenKind::Word(word), span),
     }
 }
 
-fn start_mark(place: Place, whole: bool, mark: Mark, span: Span) -> Result<State, Fault>
+fn start_mark(
+    alloc: Global,
+    place: Place,
+    whole: bool,
+    mark: Mark,
+    span: Span,
+) -> Result<State, Fault>
     ensures { Makes result (m.start_step (stack_view place.stack) place.opened place.operators place.statements whole (kind_view (MarkToken mark)) (span_view span)) }
 {
     match mark {
         Mark::CurlyOpen => start_block(place, span),
-        _ => want(place, nothing(), TokenKind::Mark(mark), span),
+        _ => want(alloc, place, nothing(), TokenKind::Mark(mark), span),
     }
 }
 
 /// Where a term begins. A whole term may be a let.
-pub fn start(place: Place, whole: bool, kind: TokenKind, span: Span) -> Result<State, Fault>
+pub fn start(
+    alloc: Global,
+    place: Place,
+    whole: bool,
+    kind: TokenKind,
+    span: Span,
+) -> Result<State, Fault>
     ensures { Makes result (m.start_step (stack_view place.stack) place.opened place.operators place.statements whole (kind_view kind) (span_view span)) }
 {
     match kind {
         TokenKind::Name(text) => Ok(start_named(place, name_of(text, span))),
-        TokenKind::Word(word) => start_word(place, whole, word, span),
-        TokenKind::Mark(mark) => start_mark(place, whole, mark, span),
-        TokenKind::Integer(value) => want(place, nothing(), TokenKind::Integer(value), span),
-        TokenKind::Str(text) => want(place, nothing(), TokenKind::Str(text), span),
+        TokenKind::Word(word) => start_word(alloc, place, whole, word, span),
+        TokenKind::Mark(mark) => start_mark(alloc, place, whole, mark, span),
+        TokenKind::Integer(value) => want(alloc, place, nothing(), TokenKind::Integer(value), span),
+        TokenKind::Str(text) => want(alloc, place, nothing(), TokenKind::Str(text), span),
     }
 }
 
-fn variable(name: Name) -> Operand
-    ensures { operand_view result ≡ (trees.VarExpr name.text (span_view name.span), name.span.from) }
+fn behind_variable(
+    alloc: Global,
+    place: Place,
+    name: Name,
+    kind: TokenKind,
+    span: Span,
+) -> Result<State, Fault>
+    ensures { Makes result (m.have_step (stack_view place.stack) place.opened place.operators place.statements m.nothing (trees.VarExpr name.text (span_view name.span), name.span.from) name.span.to (kind_view kind) (span_view span)) }
 {
-    let Name { text, span } = name;
-    let form = ExprForm::Var(text);
-    Operand {
-        value: TreeExpr { form, span },
-        from: span.from,
+    let to = name.span.to;
+    match operand(alloc, ExprForm::Var(name.text), name.span) {
+        Ok(operand) => have(alloc, place, nothing(), operand, to, kind, span),
+        Err(fault) => failed(fault, (place, kind)),
     }
 }
 
@@ -179,10 +202,7 @@ pub fn named(
             ));
             start_args(place, frame)
         }
-        _ => {
-            let to = name.span.to;
-            have(alloc, place, nothing(), variable(name), to, kind, span)
-        }
+        _ => behind_variable(alloc, place, name, kind, span),
     }
 }
 
@@ -253,12 +273,12 @@ pub fn free(place: Place, from: u32, kind: TokenKind, span: Span) -> Result<Stat
 pub fn yes(
     place: Place,
     test: TreeExpr,
-    yes: Term,
+    yes: Box<Term>,
     from: u32,
     kind: TokenKind,
     span: Span,
 ) -> Result<State, Fault>
-    ensures { Makes result (m.after_yes (stack_view place.stack) place.opened place.statements (expr_view test) (term_view yes) from (kind_view kind) (span_view span)) }
+    ensures { Makes result (m.after_yes (stack_view place.stack) place.opened place.statements (expr_view test) (term_view yes.value) from (kind_view kind) (span_view span)) }
 {
     match kind {
         TokenKind::Word(Reserved::Else) => Ok(with_control(
@@ -273,12 +293,12 @@ pub fn yes(
 pub fn otherwise(
     place: Place,
     test: TreeExpr,
-    yes: Term,
+    yes: Box<Term>,
     from: u32,
     kind: TokenKind,
     span: Span,
 ) -> Result<State, Fault>
-    ensures { Makes result (m.after_else (stack_view place.stack) place.opened place.statements (expr_view test) (term_view yes) from (kind_view kind) (span_view span)) }
+    ensures { Makes result (m.after_else (stack_view place.stack) place.opened place.statements (expr_view test) (term_view yes.value) from (kind_view kind) (span_view span)) }
 {
     match kind {
         TokenKind::Mark(Mark::CurlyOpen) => {
@@ -298,12 +318,12 @@ pub fn otherwise(
 /// Behind `free` where a clause begins.
 pub fn free_clause(
     place: Place,
-    guard: Guarding,
+    guard: Box<Guarding>,
     word: Span,
     kind: TokenKind,
     span: Span,
 ) -> Result<State, Fault>
-    ensures { Makes result (m.after_free_word (stack_view place.stack) place.opened place.statements (guarding_view guard) (span_view word) (kind_view kind) (span_view span)) }
+    ensures { Makes result (m.after_free_word (stack_view place.stack) place.opened place.statements (guarding_view guard.value) (span_view word) (kind_view kind) (span_view span)) }
 {
     match kind {
         TokenKind::Mark(Mark::Arrow) => {
@@ -323,11 +343,11 @@ pub fn free_clause(
 /// Where the first name of a receive clause may stand.
 pub fn first_binder(
     place: Place,
-    head: ClauseHead,
+    head: Box<ClauseHead>,
     kind: TokenKind,
     span: Span,
 ) -> Result<State, Fault>
-    ensures { Makes result (m.first_binder (stack_view place.stack) place.opened place.statements (clause_head_view head) (kind_view kind) (span_view span)) }
+    ensures { Makes result (m.first_binder (stack_view place.stack) place.opened place.statements (clause_head_view head.value) (kind_view kind) (span_view span)) }
 {
     match kind {
         TokenKind::Name(text) => {
@@ -349,8 +369,13 @@ pub fn first_binder(
 }
 
 /// Behind the names of a receive clause.
-pub fn binders(place: Place, head: ClauseHead, kind: TokenKind, span: Span) -> Result<State, Fault>
-    ensures { Makes result (m.after_binders (stack_view place.stack) place.opened place.statements (clause_head_view head) (kind_view kind) (span_view span)) }
+pub fn binders(
+    place: Place,
+    head: Box<ClauseHead>,
+    kind: TokenKind,
+    span: Span,
+) -> Result<State, Fault>
+    ensures { Makes result (m.after_binders (stack_view place.stack) place.opened place.statements (clause_head_view head.value) (kind_view kind) (span_view span)) }
 {
     match kind {
         TokenKind::Word(Reserved::From) => Ok(naming(place, Naming::FromName(head))),

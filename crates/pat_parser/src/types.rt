@@ -21,14 +21,14 @@ use pat_tree::{Name, TreeType};
 use std::alloc::Global;
 
 fn more_payloads(
-    begun: Interfacing,
+    begun: Box<Interfacing>,
     name: Name,
     payloads: Sequence<TreeType>,
     of: TreeType,
     below: Frames,
     opened: u32,
 ) -> Result<State, Fault>
-    ensures { Makes result (m.Goes (m.state m.WantType (m.AtType (m.InMessage (interfacing_view begun) (name_view name) (map type_view payloads ++ type_view of ∷ [])) ∷ stack_view below) opened 0 0)) }
+    ensures { Makes result (m.Goes (m.state m.WantType (m.AtType (m.InMessage (interfacing_view begun.value) (name_view name) (map type_view payloads ++ type_view of ∷ [])) ∷ stack_view below) opened 0 0)) }
 {
     let payloads = with_type(payloads, of)?;
     let stack = over(
@@ -39,13 +39,13 @@ fn more_payloads(
 }
 
 fn more_params(
-    begun: Defining,
+    begun: Box<Defining>,
     name: Name,
     of: TreeType,
     below: Frames,
     opened: u32,
 ) -> Result<State, Fault>
-    ensures { Makes result (m.Goes (m.state (m.WantName (m.ParamName (m.with_param (defining_view begun) (name_view name) (type_view of)))) (stack_view below) opened 0 0)) }
+    ensures { Makes result (m.Goes (m.state (m.WantName (m.ParamName (m.with_param (defining_view begun.value) (name_view name) (type_view of)))) (stack_view below) opened 0 0)) }
 {
     let begun = param_added(begun, name, of)?;
     Ok(at(
@@ -58,39 +58,44 @@ fn more_params(
 }
 
 fn message_end(
-    begun: Interfacing,
+    begun: Box<Interfacing>,
     name: Name,
     payloads: Sequence<TreeType>,
     below: Frames,
 ) -> Result<State, Fault>
-    ensures { Makes result (m.Goes (m.state (m.AfterMessage (m.with_message (interfacing_view begun) (name_view name) (map type_view payloads))) (stack_view below) 1 0 0)) }
+    ensures { Makes result (m.Goes (m.state (m.AfterMessage (m.with_message (interfacing_view begun.value) (name_view name) (map type_view payloads))) (stack_view below) 1 0 0)) }
 {
     let begun = message_added(begun, name, payloads)?;
     Ok(at(Control::AfterMessage(begun), below, 1, 0, 0))
 }
 
 fn payloads_end(
-    begun: Interfacing,
+    begun: Box<Interfacing>,
     name: Name,
     payloads: Sequence<TreeType>,
     of: TreeType,
     below: Frames,
 ) -> Result<State, Fault>
-    ensures { Makes result (m.Goes (m.state (m.AfterMessage (m.with_message (interfacing_view begun) (name_view name) (map type_view payloads ++ type_view of ∷ []))) (stack_view below) 1 0 0)) }
+    ensures { Makes result (m.Goes (m.state (m.AfterMessage (m.with_message (interfacing_view begun.value) (name_view name) (map type_view payloads ++ type_view of ∷ []))) (stack_view below) 1 0 0)) }
 {
     let payloads = with_type(payloads, of)?;
     message_end(begun, name, payloads, below)
 }
 
-fn params_end(begun: Defining, name: Name, of: TreeType, below: Frames) -> Result<State, Fault>
-    ensures { Makes result (m.Goes (m.state (m.AfterParams (m.with_param (defining_view begun) (name_view name) (type_view of))) (stack_view below) 0 0 0)) }
+fn params_end(begun: Box<Defining>, name: Name, of: TreeType, below: Frames) -> Result<State, Fault>
+    ensures { Makes result (m.Goes (m.state (m.AfterParams (m.with_param (defining_view begun.value) (name_view name) (type_view of))) (stack_view below) 0 0 0)) }
 {
     let begun = param_added(begun, name, of)?;
     Ok(at(Control::AfterParams(begun), below, 0, 0, 0))
 }
 
-fn result_end(begun: Defining, of: TreeType, below: Frames, opened: u32) -> Result<State, Fault>
-    ensures { Makes result (m.Opens opened 0 (m.state (m.Start true) (m.AtBlock (m.InDef (defining_view begun) (type_view of)) ∷ stack_view below) (suc opened) 0 0)) }
+fn result_end(
+    begun: Box<Defining>,
+    of: TreeType,
+    below: Frames,
+    opened: u32,
+) -> Result<State, Fault>
+    ensures { Makes result (m.Opens opened 0 (m.state (m.Start true) (m.AtBlock (m.InDef (defining_view begun.value) (type_view of)) ∷ stack_view below) (suc opened) 0 0)) }
 {
     if !has_room(opened, 0) {
         return too_deep((begun, of));
