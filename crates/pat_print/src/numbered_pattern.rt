@@ -12,6 +12,7 @@ ghost use Rattle.pat_canonical.specs.Canonical.{pattern_onto};
 ghost use Rattle.pat_print.specs.Parts.{bytes_of};
 ghost use Rattle.pat_print.specs.PatternText.{tag_names, opening, closing, enclosed, is_sum, is_sum_or_product, pat_text, written_with};
 
+use crate::atoms::put_integer;
 use pat_core::Interface;
 use pat_patterns::Pattern;
 use std::alloc::{AllocError, Global};
@@ -114,11 +115,9 @@ fn put_tag(out: &mut Vec<u8>, interface: &Interface, tag: u8) -> Result<(), Allo
 }
 
 /// Appends a variable: its number behind a dollar sign.
-#[inline(never)]
 fn put_variable(alloc: Global, out: &mut Vec<u8>, number: u32) -> Result<(), AllocError>
     ensures { OnOk result (out.new.items ≡ out.old.items ++ 36 ∷ decimal number) }
 {
-    let digits = number.to_string(alloc)?;
     put(out, b"$")?;
-    put(out, digits.as_bytes())
+    put_integer(alloc, out, i64::from(number))
 }
