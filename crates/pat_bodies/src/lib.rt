@@ -10,4 +10,5 @@ mod names;
 mod variables;
 
 pub use bodies::check_body;
-pub use variables::Variables;
+pub use kinds::kind_of_sort;
+pub use variables::{Variables, bind};

@@ -1,1 +1,5 @@
 pub mod Entries
+pub mod Rows
+pub mod Room
+pub mod Definitions
+pub mod Wholes

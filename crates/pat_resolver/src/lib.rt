@@ -2,6 +2,8 @@
 #![tactic(auto)]
 
 mod entry;
+mod functions;
+mod heads;
 mod whole;
 
 pub use whole::resolve;

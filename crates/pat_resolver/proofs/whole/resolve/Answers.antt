@@ -1,27 +1,9 @@
-use Rattle.std.proofs.lemmas.Result.{err_from_is_err_and}
-use Rattle.std.proofs.Common.{List, [], ◌++◌, length, map, refl, ap, subst, arith}
-use Rattle.std.proofs.lemmas.List.{length-map}
-use Rattle.pat_names.specs.Heads.{interface_names, heads_of, definitions_of}
-use Rattle.pat_names.specs.Findings.{heads_findings, main_findings, main_of, bodies_findings, findings}
-use Rattle.pat_tree.specs.Views.{tree_view, decl_view}
-use Rattle.pat_tree.specs.declared.tree.Decl.{Decl}
-use Rattle.pat_resolution.specs.Results.{Refuses}
-use Rattle.pat_resolution.proofs.Firsts.{refused, refuses_behind}
-use Rattle.pat_heads.proofs.Size.{within_size}
+use Rattle.pat_tree.specs.Views.{tree_view}
+use Rattle.pat_resolver.proofs.Wholes.{formed, names_kept}
 use Rattle.pat_resolver.proofs.whole.resolve.Goals as goal
 
-pub find_main-requires : goal.find_main-requires
-find_main-requires c =
-    let decls : List Decl = c.args.tree.now.decls in
-    omega (arith, within_size (map decl_view decls), length-map decls decl_view, ap length c.as_slice.ensures, c.requires)
+pub returns-clause-well_formed : goal.returns-clause-well_formed
+returns-clause-well_formed c = λ written. formed c.args.end (tree_view c.args.tree.now) c.whole_tree.result written c.whole_tree.ensures.found c.whole_tree.ensures.program
 
-pub returns-in_err-_main-clause-found : goal.returns-in_err-_main-clause-found
-returns-in_err-_main-clause-found c =
-    let p = err_from_is_err_and c.from_residual-in_err-_main.result c.from_residual-in_err-_main.ensures.1 in
-    let e = c.in_err-_main.field-0.0 in
-    let t = tree_view c.args.tree.now in
-    let heads = heads_findings (interface_names t) [] [] t in
-    let main = main_findings c.args.end (main_of t) in
-    let bodies = bodies_findings (interface_names t) (heads_of t) (definitions_of t) in
-    let first = subst (λ (ds : List Decl). Refuses e (main_findings c.args.end (main_of (map decl_view ds)))) c.as_slice.ensures c.in_err-_main.ensures.found in
-    refused c.from_residual-in_err-_main.result p.0 e (heads ++ main) bodies (findings c.args.end t) p.1 p.2 (refuses_behind e heads main c.in_ok-_heads.ensures.found first) refl
+pub returns-clause-named : goal.returns-clause-named
+returns-clause-named c = λ written. names_kept (tree_view c.args.tree.now) c.whole_tree.result written c.whole_tree.ensures.program
