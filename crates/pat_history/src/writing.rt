@@ -4,7 +4,7 @@ ghost use Rattle.std.specs.Fmt.{decimal};
 ghost use Rattle.pat_reduce.specs.Views.{act_view, entry_view};
 ghost use Rattle.pat_history.specs.HistoryText.{act_word, entry_line, history_text, NamesNoMessage};
 
-use crate::push_number;
+use pat_decimal::push_number;
 use pat_reduce::{Act, Entry};
 use std::alloc::{AllocError, Global};
 

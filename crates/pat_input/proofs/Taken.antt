@@ -19,4 +19,4 @@ at_end had before left old new n total (Failed e) none small end read piece is =
 at_end had before left old new n total (Done input) none small end (bytes, taken, has, long) (piece, more, fed, short) is =
     let both = length-append bytes piece in
     let all : length (bytes ++ piece) ≡ total = omega (arith, both, long, short, none) in
-    (bytes ++ piece, record { taken = consumes_both had before left bytes piece taken more; all = λ l. end }, is (bytes ++ piece) (fed bytes has) all (omega (arith, all, small)))
+    (bytes ++ piece, record { taken = consumes_both had before left bytes piece taken more; within = omega (arith, all, small); all = λ l. end }, is (bytes ++ piece) (fed bytes has) all (omega (arith, all, small)))

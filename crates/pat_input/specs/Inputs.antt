@@ -1,11 +1,12 @@
 -- What was read of a source, and what it divides into.
-use Rattle.std.specs.Prelude.{◌≡◌, ◌<◌, ◌≤◌, ◌++◌, ℕ, List, length, map}
+use Rattle.std.specs.Prelude.{◌≡◌, ◌≢◌, ◌<◌, ◌≤◌, ◌++◌, ℕ, suc, List, length, map}
 use Rattle.std.specs.declared.option.Option.{Option}
 use Rattle.std.specs.Io.KnownBytes.{Consumes, IsAtEnd}
 use Rattle.pat_lexical.specs.Divisions.{Divides}
 use Rattle.pat_syntax.specs.Views.{token_view}
 use Rattle.pat_lexer.specs.Lexed.{Lexed, HasRead}
 use Rattle.pat_lexer.specs.Reads.{IsAnswer}
+use Rattle.pat_lexer.specs.declared.error.LexError.TheVariants.{NoMemory}
 use Rattle.pat_input.specs.declared.reading.Input.{Input}
 use Rattle.pat_input.specs.declared.reading.Input.TheVariants.{TooLong, Refused, Tokens}
 
@@ -13,15 +14,16 @@ use Rattle.pat_input.specs.declared.reading.Input.TheVariants.{TooLong, Refused,
 abbrev pub limit : ℕ
 limit = 1048576
 
--- the bytes are what the source gave: all that it had, or more than the limit
+-- the bytes are what the source gave: all that it had, or one byte more than the limit
 pub record IsInput (had left : Option (List ℕ)) (bytes : List ℕ) : Type 0 where
   pub taken : Consumes had left bytes
+  pub within : length bytes ≤ suc limit
   pub all : length bytes ≤ limit → IsAtEnd left
 
 -- the bytes are too many, are refused, or divide into the tokens
 abbrev pub IsRead : List ℕ → Input → Type 0
 IsRead bytes TooLong = limit < length bytes
-IsRead bytes (Refused e) = (length bytes ≤ limit) × IsAnswer bytes e
+IsRead bytes (Refused e) = (length bytes ≤ limit) × (e ≢ NoMemory) × IsAnswer bytes e
 IsRead bytes (Tokens ts end) = (length bytes ≤ limit) × Divides bytes (map token_view ts.items) × (end ≡ length bytes)
 
 -- the lexer has read the piece besides

@@ -3,7 +3,7 @@ ghost use Rattle.std.specs.Prelude.{◌≡◌, ◌++◌, map, IfOk, OnOk};
 ghost use Rattle.pat_reduce.specs.Views.{config_view, entry_view, outcome_view, threads_view};
 ghost use Rattle.pat_lines.specs.RunText.{output_line, output_text, outcome_line, numbers_text, run_text};
 
-use pat_history::push_number;
+use pat_decimal::push_number;
 use pat_reduce::{Config, Outcome, ThreadState};
 use pat_run::Finished;
 use pat_sequences::Text;

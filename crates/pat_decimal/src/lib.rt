@@ -1,4 +1,6 @@
-// Numbers in decimal.
+//! Numbers in decimal.
+#![tactic(auto)]
+
 ghost use Rattle.std.specs.Prelude.{◌≡◌, ◌++◌, OnOk};
 ghost use Rattle.std.specs.Fmt.{decimal};
 
