@@ -4,6 +4,8 @@
 mod call;
 #[cfg(test)]
 mod tests;
+#[cfg(test)]
+mod texts;
 
 use call::pat;
 use pat_ports::{OpenGate, StdSink, StdSource};

@@ -1,8 +1,12 @@
 ghost use Rattle.std.specs.Prelude.{◌<◌};
 
 use super::pat;
+use super::texts::TEXTS;
+use pat_front::Verdict;
 use pat_ports::{MemSink, MemSource, OpenGate};
-use pat_session::{Status, Verdict};
+use pat_resolution::ResolveKind;
+use pat_session::Status;
+use pat_syntax::Span;
 use std::alloc::{AllocError, Global};
 use std::test::Fail;
 
@@ -35,82 +39,194 @@ fn answer(
     Ok((status, sink.taken().to_vec(alloc)?))
 }
 
+fn broken(kind: ResolveKind, from: u32, to: u32) -> Status {
+    Status::Refused(Verdict::Resolve(kind, Span { from, to }))
+}
+
 #[test]
-fn rows(rt: HostRuntime) -> Result<(), Fail> {
-    let alloc = rt.alloc();
-    let refused = Status::Refused(Verdict::NotYet);
-    let run: &[&str] = &["run"];
-    let rows: [(&[&str], &[u8], Status, &[u8]); 18] = [
-        (run, FIRST, Status::Ok, FIRST_TEXT),
+fn run_rows(rt: HostRuntime) -> Result<(), Fail> {
+    let not_yet = Status::Refused(Verdict::NotYet);
+    let rows: [(&[u8], Status, &[u8]); 18] = [
+        (FIRST, Status::Ok, FIRST_TEXT),
         (
-            run,
             b"def main(): Unit { () }\n",
             Status::Ok,
             b"%%history\n0 0 0 end\n%%output\ndone 1\n",
         ),
-        (run, b"", refused, NOT_YET),
         (
-            run,
-            b"def main(): Unit { let x = 2 in x }",
-            refused,
-            NOT_YET,
+            b"",
+            Status::Refused(Verdict::Syntax(0)),
+            b"syntax error at 0\n",
         ),
         (
-            run,
+            b"def main(): Unit { let x = 2 in x }",
+            broken(ResolveKind::WrongKind, 32, 33),
+            b"wrong kind at 32-33\n",
+        ),
+        (
             b"def main(): Unit { let x = () in x }",
             Status::Ok,
             b"%%history\n0 0 2 end\n%%output\ndone 3\n",
         ),
         (
-            run,
-            b"def main(): Unit { let x = 1in print(x) }",
+            b"def main(): Unit { let x1 = 1in { print((x1)) } } // done",
             Status::Ok,
             b"%%history\n0 0 2 print\n0 0 0 end\n%%output\nout 1\ndone 4\n",
         ),
         (
-            run,
             b"def main(): Unit { print(9223372036854775807 + 1) }",
             Status::Ok,
             b"%%history\n0 0 0 print\n0 0 0 end\n%%output\nout -9223372036854775808\ndone 2\n",
         ),
         (
-            run,
             b"def main(): Unit { let x = 1 in let x = x + 1 in print(x - 10 * x) }",
             Status::Ok,
             b"%%history\n0 0 4 print\n0 0 0 end\n%%output\nout -18\ndone 6\n",
         ),
         (
-            run,
+            b"def main(): Unit { print(1); print(2) }",
+            Status::Ok,
+            b"%%history\n0 0 1 print\n0 0 1 print\n0 0 0 end\n%%output\nout 1\nout 2\ndone 5\n",
+        ),
+        (
             b"def main(): Unit { print(9223372036854775808) }",
-            refused,
+            Status::Refused(Verdict::NumberTooWide(25)),
+            b"number too wide at 25\n",
+        ),
+        (
+            b"def main(): Unit { print(y) }",
+            broken(ResolveKind::UnknownName, 25, 26),
+            b"unknown name at 25-26\n",
+        ),
+        (
+            b"def main(): Unit { \xff }",
+            Status::Refused(Verdict::Syntax(19)),
+            b"syntax error at 19\n",
+        ),
+        // An interface, a second function, another term, a string, a truth value and a comparison aren't run yet.
+        (
+            b"interface I { m() } def main(): Unit { () }",
+            not_yet,
             NOT_YET,
         ),
         (
-            run,
-            b"def main(): Unit { let x1 = 1 in print(x1) }",
-            refused,
+            b"def f(): Int { 1 } def main(): Unit { () }",
+            not_yet,
             NOT_YET,
         ),
-        (run, b"def main(): Unit { print(y) }", refused, NOT_YET),
-        (run, b"def main(): Unit { print(()) }", refused, NOT_YET),
-        (
-            run,
-            b"def main(): Unit { () } // a comment",
-            refused,
-            NOT_YET,
-        ),
-        (run, b"def main(): Unit { \xff }", refused, NOT_YET),
-        (&[], FIRST, Status::Usage, USAGE),
-        (&["run", "run"], FIRST, Status::Usage, USAGE),
-        (&["runs"], FIRST, Status::Usage, USAGE),
-        (&["check"], FIRST, Status::Usage, USAGE),
+        (b"def main(): Unit { spawn { () } }", not_yet, NOT_YET),
+        (b"def main(): Unit { print(\"a\") }", not_yet, NOT_YET),
+        (b"def main(): Unit { print(true) }", not_yet, NOT_YET),
+        (b"def main(): Unit { print(1 < 2) }", not_yet, NOT_YET),
     ];
-    for (words, input, status, text) in rows {
-        for piece in [1, 8, 4096] {
-            let (came, taken) = answer(alloc, words, input, (piece, piece), (0, 0))?;
-            assert_eq!(rt; came, status, "of {:?}", input);
-            assert_eq!(rt; taken.as_slice(), text, "of {:?}", input);
+    try_rows(&rt, "run", &rows)
+}
+
+#[test]
+fn print_rows(rt: HostRuntime) -> Result<(), Fail> {
+    let rows: [(&[u8], Status, &[u8]); 12] = [
+        (
+            b"def main():Unit{print((1+2)*3)}",
+            Status::Ok,
+            b"def main(): Unit { print((1 + 2) * 3) }\n",
+        ),
+        (
+            b"interface I{m(),n(Int,I!m)}def main():Unit{let a=new[I]in guard a:m.*n+1{free->()receive m()from b->free(b)}}",
+            Status::Ok,
+            b"interface I { m(), n(Int, I!m) }\ndef main(): Unit { let a = new[I] in guard a : m.*n + 1 { free -> () receive m() from b -> free(b) } }\n",
+        ),
+        (
+            b"def main(): Unit { print(1 + true) }",
+            broken(ResolveKind::WrongKind, 29, 33),
+            b"wrong kind at 29-33\n",
+        ),
+        (
+            b"def main(): Unit { f() }",
+            broken(ResolveKind::UnknownName, 19, 20),
+            b"unknown name at 19-20\n",
+        ),
+        (
+            b"interface I { m(I!0) }\ndef main(): Unit { () }\n",
+            broken(ResolveKind::EmptySending, 16, 19),
+            b"empty sending type at 16-19\n",
+        ),
+        (
+            b"def f(): Unit { () }",
+            broken(ResolveKind::UnknownName, 20, 20),
+            b"unknown name at 20-20\n",
+        ),
+        (
+            b"def main(x: Int): Unit { () }",
+            broken(ResolveKind::WrongArity, 4, 8),
+            b"wrong arity at 4-8\n",
+        ),
+        (
+            b"interface I { m(), m() } def main(): Unit { () }",
+            broken(ResolveKind::Twice, 19, 20),
+            b"twice at 19-20\n",
+        ),
+        (
+            b"interface I { m() } def main(): Unit { let a = new[I] in a ! n() }",
+            broken(ResolveKind::ForeignTag, 61, 62),
+            b"foreign tag at 61-62\n",
+        ),
+        (
+            b"def main(): Unit { ()",
+            Status::Refused(Verdict::Syntax(21)),
+            b"syntax error at 21\n",
+        ),
+        // What the text's characters are comes before how its tokens are ordered.
+        (
+            b"def def @",
+            Status::Refused(Verdict::Syntax(8)),
+            b"syntax error at 8\n",
+        ),
+        (
+            b"//\xff\ndef main(): Unit { () }\n",
+            Status::Refused(Verdict::Syntax(0)),
+            b"syntax error at 0\n",
+        ),
+    ];
+    try_rows(&rt, "print", &rows)
+}
+
+// Each input, in pieces of 1, 2 and 4,096 bytes.
+fn try_rows(rt: &HostRuntime, word: &str, rows: &[(&[u8], Status, &[u8])]) -> Result<(), Fail> {
+    let alloc = rt.alloc();
+    for (input, status, text) in rows {
+        for piece in [1, 2, 4096] {
+            let (came, taken) = answer(alloc, &[word], input, (piece, piece), (0, 0))?;
+            assert_eq!(rt; came, *status, "of {:?}", *input);
+            assert_eq!(rt; taken.as_slice(), *text, "of {:?}", *input);
         }
+    }
+    Ok(())
+}
+
+#[test]
+fn each_rule_where_it_is_first_broken(rt: HostRuntime) -> Result<(), Fail> {
+    let alloc = rt.alloc();
+    for (input, text) in TEXTS {
+        let (_, taken) = answer(alloc, &["print"], input, (4096, 4096), (0, 0))?;
+        assert_eq!(rt; taken.as_slice(), *text, "of {:?}", *input);
+    }
+    Ok(())
+}
+
+#[test]
+fn words_that_are_no_command(rt: HostRuntime) -> Result<(), Fail> {
+    let alloc = rt.alloc();
+    let rows: [&[&str]; 5] = [
+        &[],
+        &["run", "run"],
+        &["runs"],
+        &["check"],
+        &["print", "run"],
+    ];
+    for words in rows {
+        let (came, taken) = answer(alloc, words, FIRST, (8, 8), (0, 0))?;
+        assert_eq!(rt; came, Status::Usage);
+        assert_eq!(rt; taken.as_slice(), USAGE);
     }
     Ok(())
 }
@@ -152,18 +268,18 @@ fn an_entry_has_256_steps_at_most(rt: HostRuntime) -> Result<(), Fail> {
 }
 
 #[test]
-fn an_input_has_4096_bytes_at_most(rt: HostRuntime) -> Result<(), Fail> {
+fn a_program_has_1048576_bytes_at_most(rt: HostRuntime) -> Result<(), Fail> {
     let alloc = rt.alloc();
+    let too_long = Status::Refused(Verdict::TooLong);
     for (blanks, status, text) in [
-        (4048, Status::Ok, FIRST_TEXT),
-        (4049, Status::Refused(Verdict::NotYet), NOT_YET),
-        (9000, Status::Refused(Verdict::NotYet), NOT_YET),
+        (1_048_528, Status::Ok, FIRST_TEXT),
+        (1_048_529, too_long, b"too long\n".as_slice()),
     ] {
         let mut input = FIRST.to_vec(alloc)?;
         for _ in 0..blanks {
-            input.push(b'\n')?;
+            input.push(b' ')?;
         }
-        let (came, taken) = answer(alloc, &["run"], input.as_slice(), (512, 512), (0, 0))?;
+        let (came, taken) = answer(alloc, &["run"], input.as_slice(), (8192, 512), (0, 0))?;
         assert_eq!(rt; came, status, "with {} blanks", blanks);
         assert_eq!(rt; taken.as_slice(), text, "with {} blanks", blanks);
     }

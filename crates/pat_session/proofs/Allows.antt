@@ -1,17 +1,36 @@
 -- What an answer allows, and what follows from it.
-use Rattle.std.proofs.Common.{◌≡◌, ◌≤◌, ℕ, List, [], length, Option, Result, Ok as Done, Err as Failed, Vec, Global, refl, sym, ◌∙◌, subst, inl, inr, ⊎_elim, ◌⊎◌}
-use Rattle.std.specs.Prelude.{IfOk}
+use Rattle.std.proofs.Common.{◌≡◌, ◌≤◌, ℕ, true, false, List, [], ◌∷◌, length, Option, Result, Ok as Done, Err as Failed, Vec, Global, refl, sym, ap, ◌∙◌, subst, inl, inr, ⊎_elim, ◌⊎◌, arith}
+use Rattle.std.specs.Prelude.{IfOk, codes}
 use Rattle.std.specs.Io.KnownBytes.{IsAtEnd, Appends}
 use Rattle.pat_model.specs.Programs.{Program}
 use Rattle.pat_model.specs.Runs.{Outcome, EndDone, EndWaiting, EndFull, EndBudget}
 use Rattle.pat_model.specs.Faults.{IsSafe}
-use Rattle.pat_straight.specs.Spelling.{SpellsProgram}
+use Rattle.pat_grammar.specs.Trees.{Tree}
+use Rattle.pat_canonical.specs.Text.{canonical_text}
+use Rattle.pat_plain.specs.Straight.{is_straight}
+use Rattle.pat_input.specs.Inputs.{IsInput}
+use Rattle.pat_front.specs.Lines.{line_of_verdict}
+use Rattle.pat_front.specs.Texts.{IsProgramText, IsRefusal}
+use Rattle.pat_front.specs.declared.verdict.Verdict.{Verdict}
+use Rattle.pat_front.specs.declared.verdict.Verdict.TheVariants.{NotYet}
 use Rattle.pat_session.specs.declared.status.Status.{Status}
 use Rattle.pat_session.specs.declared.status.Status.TheVariants.{Ok, Refused, Usage, ReadFault, WriteFault, NoMemory, Budget}
-use Rattle.pat_session.specs.declared.status.Verdict.TheVariants.{NotYet}
-use Rattle.pat_session.specs.Ports.{IsInput, IsCutShort, Written}
-use Rattle.pat_session.specs.Allowed.{IsRunCommand, EndsWith, RunShows, IsProgramText, IsNotYet, AllowedRun, Allowed, not_yet_line, usage_line}
-use Rattle.pat_session.specs.Answers.{Completes, Answers, IsAccepted, AcceptsSafe, ShowsRun, RefusesNotYet}
+use Rattle.pat_session.specs.declared.words.Command.{Command}
+use Rattle.pat_session.specs.declared.words.Command.TheVariants.{Print, Run}
+use Rattle.pat_session.specs.Ports.{IsCutShort, Written}
+use Rattle.pat_session.specs.Allowed.{IsCommand, HasCommand, EndsWith, RunShows, IsRunnable, IsRunRefusal, AllowedPrint, AllowedRun, AllowedTo, Allowed, usage_line}
+use Rattle.pat_session.specs.Answers.{Completes, BreaksOff, Answers, IsAccepted, AcceptsSafe, ShowsRun, ShowsTree, ShowsVerdict}
+
+-- ---- words
+
+abbrev first_length : List (List ℕ) → ℕ
+first_length [] = 0
+first_length (w ∷ ws) = length w
+
+not_both : (words : List (List ℕ)) → IsCommand Run words → IsCommand Print words → ⊥
+not_both words run print = let clash : 3 ≡ 5 = ap first_length (sym run ∙ print) in absurd (omega (arith, clash))
+
+-- ---- runs
 
 -- a run ends with no other status than these two
 only_two : (o : Outcome) (s : Status) → EndsWith o s → (s ≡ Ok) ⊎ (s ≡ Budget)
@@ -20,41 +39,57 @@ only_two EndBudget s h = inr h
 only_two EndWaiting s h = absurd h
 only_two EndFull s h = absurd h
 
--- what a run of the program that the bytes spell shows is allowed
-pub allowed_run : (bytes : List ℕ) (p : Program) (text : List ℕ) (s : Status) → length bytes ≤ 4096 → SpellsProgram bytes p → IsSafe p → RunShows p text s → AllowedRun bytes text s
-allowed_run bytes p text s small spelled safe shows =
-    let t : IsProgramText bytes = record { small = small; program = p; spelled = spelled; safe = safe } in
+-- what a run of a straight-line program of the bytes shows is allowed
+pub allowed_run : (bytes : List ℕ) (t : Tree) (p : Program) (text : List ℕ) (s : Status) → IsProgramText bytes t p → is_straight p ≡ true → IsSafe p → RunShows p text s → AllowedRun bytes text s
+allowed_run bytes t p text s spelled straight safe shows =
+    let r : IsRunnable bytes = record { tree = t; program = p; spelled = spelled; straight = straight; safe = safe } in
     ⊎_elim
-    (λ (e : s ≡ Ok). subst (λ k. AllowedRun bytes text k) (sym e) (t, subst (λ k. RunShows p text k) e shows))
-    (λ (e : s ≡ Budget). subst (λ k. AllowedRun bytes text k) (sym e) (t, subst (λ k. RunShows p text k) e shows))
+    (λ (e : s ≡ Ok). subst (λ k. AllowedRun bytes text k) (sym e) (r, subst (λ k. RunShows p text k) e shows))
+    (λ (e : s ≡ Budget). subst (λ k. AllowedRun bytes text k) (sym e) (r, subst (λ k. RunShows p text k) e shows))
     (only_two shows.0 s shows.1)
 
--- the line that refuses what is no program is allowed
-pub allowed_refusal : (bytes text : List ℕ) (s : Status) → IsNotYet bytes → text ≡ not_yet_line → s ≡ Refused NotYet → AllowedRun bytes text s
-allowed_refusal bytes text s refused shown is = subst (λ k. AllowedRun bytes text k) (sym is) (refused, shown)
+-- ---- refusals
+
+-- a line that refuses the bytes is allowed of each command
+pub allowed_refusal : (c : Command) (bytes text : List ℕ) (s : Status) (v : Verdict) → s ≡ Refused v → IsRefusal bytes v → text ≡ line_of_verdict v → AllowedTo c bytes text s
+allowed_refusal Print bytes text s v is refused shown = subst (λ k. AllowedPrint bytes text k) (sym is) (refused, shown)
+allowed_refusal Run bytes text s v is refused shown = subst (λ k. AllowedRun bytes text k) (sym is) (inl refused, shown)
 
 -- the same of a result
-pub allowed_runs : {E : Type 0} (bytes : List ℕ) (p : Program) → length bytes ≤ 4096 → SpellsProgram bytes p → IsSafe p → (r : Result (Vec ℕ Global × Status) E) → IfOk r (λ a. RunShows p a.0.items a.1) → IfOk r (λ a. AllowedRun bytes a.0.items a.1)
-allowed_runs bytes p small spelled safe (Done a) h = allowed_run bytes p a.0.items a.1 small spelled safe h
-allowed_runs bytes p small spelled safe (Failed e) h = tt
+pub allowed_refusals : {E : Type 0} (c : Command) (bytes : List ℕ) (r : Result (Vec ℕ Global × Status) E) → IfOk r (λ a. (v : Verdict) × (a.1 ≡ Refused v) × IsRefusal bytes v × (a.0.items ≡ line_of_verdict v)) → IfOk r (λ a. AllowedTo c bytes a.0.items a.1)
+allowed_refusals c bytes (Done a) (v, is, refused, shown) = allowed_refusal c bytes a.0.items a.1 v is refused shown
+allowed_refusals c bytes (Failed e) h = tt
 
-pub allowed_refusals : {E : Type 0} (bytes : List ℕ) → IsNotYet bytes → (r : Result (Vec ℕ Global × Status) E) → IfOk r (λ a. (a.0.items ≡ not_yet_line) × (a.1 ≡ Refused NotYet)) → IfOk r (λ a. AllowedRun bytes a.0.items a.1)
-allowed_refusals bytes refused (Done a) h = allowed_refusal bytes a.0.items a.1 refused h.0 h.1
-allowed_refusals bytes refused (Failed e) h = tt
+-- ---- no fault is allowed
 
--- no text is allowed with a fault or without memory
-pub no_fault : (bytes text : List ℕ) (s : Status) → AllowedRun bytes text s → (s ≡ WriteFault → ⊥) × (s ≡ ReadFault → ⊥)
-no_fault bytes text s a = (λ e. subst (λ k. AllowedRun bytes text k) e a, λ e. subst (λ k. AllowedRun bytes text k) e a)
+no_usage : (c : Command) (bytes text : List ℕ) → AllowedTo c bytes text Usage → ⊥
+no_usage Print bytes text a = a
+no_usage Run bytes text a = a
 
--- what is allowed of a run command is allowed of its words
-of_command : (words : List (List ℕ)) (bytes text : List ℕ) (s : Status) → IsRunCommand words → AllowedRun bytes text s → Allowed words bytes text s
-of_command words bytes text Ok command a = (command, a)
-of_command words bytes text (Refused v) command a = (command, a)
-of_command words bytes text Usage command a = absurd a
-of_command words bytes text ReadFault command a = (command, a)
-of_command words bytes text WriteFault command a = (command, a)
-of_command words bytes text NoMemory command a = (command, a)
-of_command words bytes text Budget command a = (command, a)
+no_read : (c : Command) (bytes text : List ℕ) → AllowedTo c bytes text ReadFault → ⊥
+no_read Print bytes text a = a
+no_read Run bytes text a = a
+
+no_write : (c : Command) (bytes text : List ℕ) → AllowedTo c bytes text WriteFault → ⊥
+no_write Print bytes text a = a
+no_write Run bytes text a = a
+
+no_memory : (c : Command) (bytes text : List ℕ) → AllowedTo c bytes text NoMemory → ⊥
+no_memory Print bytes text a = a
+no_memory Run bytes text a = a
+
+pub not_a_write_fault : (c : Command) (bytes text : List ℕ) (s : Status) → AllowedTo c bytes text s → s ≡ WriteFault → ⊥
+not_a_write_fault c bytes text s a e = no_write c bytes text (subst (λ k. AllowedTo c bytes text k) e a)
+
+-- what is allowed of a command is allowed of its words
+of_command : (words : List (List ℕ)) (c : Command) (bytes text : List ℕ) (s : Status) → IsCommand c words → AllowedTo c bytes text s → Allowed words bytes text s
+of_command words c bytes text Ok command a = (c, command, a)
+of_command words c bytes text (Refused v) command a = (c, command, a)
+of_command words c bytes text Usage command a = absurd (no_usage c bytes text a)
+of_command words c bytes text ReadFault command a = (c, command, a)
+of_command words c bytes text WriteFault command a = (c, command, a)
+of_command words c bytes text NoMemory command a = (c, command, a)
+of_command words c bytes text Budget command a = (c, command, a)
 
 module _ (words : List (List ℕ)) (had left old new : Option (List ℕ)) where
   -- what was written whole is answered
@@ -63,83 +98,128 @@ module _ (words : List (List ℕ)) (had left old new : Option (List ℕ)) where
   completed (Refused v) c = c
   completed Usage c = c
   completed Budget c = c
-  completed ReadFault c = absurd c.allowed.1
-  completed WriteFault c = absurd c.allowed.1
-  completed NoMemory c = absurd c.allowed.1
+  completed ReadFault c = let a = c.allowed in absurd (no_read a.0 c.bytes c.text a.2)
+  completed WriteFault c = let a = c.allowed in absurd (no_write a.0 c.bytes c.text a.2)
+  completed NoMemory c = let a = c.allowed in absurd (no_memory a.0 c.bytes c.text a.2)
 
   -- what was written, whole or not, is answered
-  pub answered : (bytes text : List ℕ) (s result : Status) → (IsRunCommand words → IsInput had left bytes) → Allowed words bytes text s → Written old new text s result → Answers words had left old new result
+  answered : (bytes text : List ℕ) (s result : Status) → (HasCommand words → IsInput had left bytes) → Allowed words bytes text s → Written old new text s result → Answers words had left old new result
   answered bytes text s result input allowed written =
       ⊎_elim
       (λ (w : (result ≡ s) × Appends old new text). subst (λ k. Answers words had left old new k) (sym w.0) (completed s (record { bytes = bytes; text = text; input = input; allowed = allowed; written = w.1 })))
-      (λ (w : (result ≡ WriteFault) × IsCutShort old new text). subst (λ k. Answers words had left old new k) (sym w.0) (record { bytes = bytes; text = text; status = s; input = input; allowed = allowed; cut = w.1 }))
+      (λ (w : (result ≡ WriteFault) × IsCutShort old new text). let cut : BreaksOff words had left old new = record { bytes = bytes; text = text; status = s; input = input; allowed = allowed; cut = w.1 } in subst (λ k. Answers words had left old new k) (sym w.0) cut)
       written
 
-  pub answered_run : (bytes text : List ℕ) (s result : Status) → IsInput had left bytes → AllowedRun bytes text s → Written old new text s result → IsRunCommand words → Answers words had left old new result
-  answered_run bytes text s result input allowed written command =
-      answered bytes text s result (λ _. input) (of_command words bytes text s command allowed) written
+  pub answered_command : (c : Command) (bytes text : List ℕ) (s result : Status) → IsInput had left bytes → AllowedTo c bytes text s → Written old new text s result → IsCommand c words → Answers words had left old new result
+  answered_command c bytes text s result input allowed written command =
+      answered bytes text s result (λ _. input) (of_command words c bytes text s command allowed) written
 
-  pub answered_usage : (result : Status) → (IsRunCommand words → ⊥) → Written old new usage_line Usage result → Answers words had left old new result
+  pub answered_usage : (result : Status) → (HasCommand words → ⊥) → Written old new usage_line Usage result → Answers words had left old new result
   answered_usage result none written = answered [] usage_line Usage result (λ command. absurd (none command)) (none, refl) written
 
   at_status : (s t : Status) → s ≡ t → Answers words had left old new s → Answers words had left old new t
   at_status s t e a = subst (λ k. Answers words had left old new k) e a
 
   -- usage is answered where the words are no command
-  pub usage_only : (s : Status) → Answers words had left old new s → s ≡ Usage → IsRunCommand words → ⊥
+  pub usage_only : (s : Status) → Answers words had left old new s → s ≡ Usage → HasCommand words → ⊥
   usage_only s a e = let c : Completes words had left old new Usage = at_status s Usage e a in c.allowed.0
 
-  whole : (bytes : List ℕ) → IsInput had left bytes → length bytes ≤ 4096 → IsAtEnd left
-  whole bytes input small = input.all small
+  -- ---- run
 
-  safe_input : (s : Status) (c : Completes words had left old new s) → IsRunCommand words → (t : IsProgramText c.bytes) → AcceptsSafe had left
-  safe_input s c command t = record {
-    bytes = c.bytes;
-    program = t.program;
-    input = c.input command;
-    whole = whole c.bytes (c.input command) t.small;
-    spelled = t.spelled;
-    safe = t.safe;
+  -- what is allowed of a run command is allowed of `run`
+  is_run : (c : Command) (bytes text : List ℕ) (s : Status) → IsCommand Run words → IsCommand c words → AllowedTo c bytes text s → AllowedRun bytes text s
+  is_run Run bytes text s run command a = a
+  is_run Print bytes text s run command a = absurd (not_both words run command)
+
+  safe_input : (bytes : List ℕ) → IsInput had left bytes → (r : IsRunnable bytes) → AcceptsSafe had left
+  safe_input bytes input r = record {
+    bytes = bytes;
+    tree = r.tree;
+    program = r.program;
+    input = input;
+    whole = input.all r.spelled.tree.small;
+    spelled = r.spelled;
+    safe = r.safe;
   }
 
   -- what is accepted is safe
-  pub accepts_safe : (s : Status) → Answers words had left old new s → IsAccepted s → AcceptsSafe had left
-  accepts_safe s a is =
+  pub accepts_safe : (s : Status) → Answers words had left old new s → IsCommand Run words → IsAccepted s → AcceptsSafe had left
+  accepts_safe s a run is =
       ⊎_elim
-      (λ (e : s ≡ Ok). let c : Completes words had left old new Ok = at_status s Ok e a in safe_input Ok c c.allowed.0 c.allowed.1.0)
-      (λ (e : s ≡ Budget). let c : Completes words had left old new Budget = at_status s Budget e a in safe_input Budget c c.allowed.0 c.allowed.1.0)
+      (λ (e : s ≡ Ok). let c : Completes words had left old new Ok = at_status s Ok e a in let k = c.allowed in safe_input c.bytes (c.input (Run, run)) (is_run k.0 c.bytes c.text Ok run k.1 k.2).0)
+      (λ (e : s ≡ Budget). let c : Completes words had left old new Budget = at_status s Budget e a in let k = c.allowed in safe_input c.bytes (c.input (Run, run)) (is_run k.0 c.bytes c.text Budget run k.1 k.2).0)
       is
 
-  shown_run : (s : Status) (c : Completes words had left old new s) → IsRunCommand words → (t : IsProgramText c.bytes) → RunShows t.program c.text s → ShowsRun had left old new s
-  shown_run s c command t shows = record {
-    bytes = c.bytes;
-    program = t.program;
-    text = c.text;
-    input = c.input command;
-    whole = whole c.bytes (c.input command) t.small;
-    spelled = t.spelled;
+  shown_run : (s : Status) (bytes text : List ℕ) → IsInput had left bytes → (r : IsRunnable bytes) → RunShows r.program text s → Appends old new text → ShowsRun had left old new s
+  shown_run s bytes text input r shows written = record {
+    bytes = bytes;
+    tree = r.tree;
+    program = r.program;
+    text = text;
+    input = input;
+    whole = input.all r.spelled.tree.small;
+    spelled = r.spelled;
+    safe = r.safe;
     shown = shows;
-    written = c.written;
+    written = written;
   }
 
   -- what is accepted shows its run
-  pub shows_run : (s : Status) → Answers words had left old new s → IsAccepted s → ShowsRun had left old new s
-  shows_run s a is =
+  pub shows_run : (s : Status) → Answers words had left old new s → IsCommand Run words → IsAccepted s → ShowsRun had left old new s
+  shows_run s a run is =
       ⊎_elim
-      (λ (e : s ≡ Ok). subst (λ k. ShowsRun had left old new k) (sym e) (let c : Completes words had left old new Ok = at_status s Ok e a in shown_run Ok c c.allowed.0 c.allowed.1.0 c.allowed.1.1))
-      (λ (e : s ≡ Budget). subst (λ k. ShowsRun had left old new k) (sym e) (let c : Completes words had left old new Budget = at_status s Budget e a in shown_run Budget c c.allowed.0 c.allowed.1.0 c.allowed.1.1))
+      (λ (e : s ≡ Ok).
+      let c : Completes words had left old new Ok = at_status s Ok e a in
+      let k = c.allowed in
+      let shown = is_run k.0 c.bytes c.text Ok run k.1 k.2 in
+      subst (λ o. ShowsRun had left old new o) (sym e) (shown_run Ok c.bytes c.text (c.input (Run, run)) shown.0 shown.1 c.written))
+      (λ (e : s ≡ Budget).
+      let c : Completes words had left old new Budget = at_status s Budget e a in
+      let k = c.allowed in
+      let shown = is_run k.0 c.bytes c.text Budget run k.1 k.2 in
+      subst (λ o. ShowsRun had left old new o) (sym e) (shown_run Budget c.bytes c.text (c.input (Run, run)) shown.0 shown.1 c.written))
       is
 
-  -- what is refused is too long or spells no program
-  pub refuses : (s : Status) → Answers words had left old new s → s ≡ Refused NotYet → RefusesNotYet had left old new
-  refuses s a e =
-      let c : Completes words had left old new (Refused NotYet) = at_status s (Refused NotYet) e a in
-      record { bytes = c.bytes; input = c.input c.allowed.0; refused = c.allowed.1.0; written = subst (λ l. Appends old new l) c.allowed.1.1 c.written }
+  -- ---- print
+
+  is_print : (c : Command) (bytes text : List ℕ) (s : Status) → IsCommand Print words → IsCommand c words → AllowedTo c bytes text s → AllowedPrint bytes text s
+  is_print Print bytes text s print command a = a
+  is_print Run bytes text s print command a = absurd (not_both words command print)
+
+  -- what is printed is the canonical text
+  pub shows_tree : (s : Status) → Answers words had left old new s → IsCommand Print words → s ≡ Ok → ShowsTree had left old new
+  shows_tree s a print e =
+      let c : Completes words had left old new Ok = at_status s Ok e a in
+      let k = c.allowed in
+      let shown = is_print k.0 c.bytes c.text Ok print k.1 k.2 in
+      record {
+        bytes = c.bytes;
+        tree = shown.0;
+        program = shown.1;
+        input = c.input (Print, print);
+        whole = (c.input (Print, print)).all shown.2.tree.small;
+        spelled = shown.2;
+        written = subst (λ l. Appends old new l) shown.3 c.written;
+      }
+
+  -- ---- refusals
+
+  verdict_text : (c : Command) (bytes text : List ℕ) (v : Verdict) → AllowedTo c bytes text (Refused v) → (text ≡ line_of_verdict v) × AllowedTo c bytes (line_of_verdict v) (Refused v)
+  verdict_text Print bytes text v a = (a.1, (a.0, refl))
+  verdict_text Run bytes text v a = (a.1, (a.0, refl))
+
+  -- a refusal is a verdict of the command
+  pub shows_verdict : (s : Status) → Answers words had left old new s → (v : Verdict) → s ≡ Refused v → ShowsVerdict words had left old new v
+  shows_verdict s a v e =
+      let c : Completes words had left old new (Refused v) = at_status s (Refused v) e a in
+      let k = c.allowed in
+      let shown = verdict_text k.0 c.bytes c.text v k.2 in
+      record { bytes = c.bytes; command = k.0; asked = k.1; input = c.input (k.0, k.1); refused = shown.1; written = subst (λ l. Appends old new l) shown.0 c.written }
 
   -- a text that was written whole or not is not the answer of a fault of the source
-  pub no_read_fault : (bytes text : List ℕ) (s result : Status) → AllowedRun bytes text s → Written old new text s result → result ≡ ReadFault → ⊥
-  no_read_fault bytes text s result allowed written e =
+  pub no_read_fault : (c : Command) (bytes text : List ℕ) (s result : Status) → AllowedTo c bytes text s → Written old new text s result → result ≡ ReadFault → ⊥
+  no_read_fault c bytes text s result allowed written e =
       ⊎_elim
-      (λ (w : (result ≡ s) × Appends old new text). (no_fault bytes text s allowed).1 (sym w.0 ∙ e))
+      (λ (w : (result ≡ s) × Appends old new text). no_read c bytes text (subst (λ k. AllowedTo c bytes text k) (sym w.0 ∙ e) allowed))
       (λ (w : (result ≡ WriteFault) × IsCutShort old new text). let clash : WriteFault ≡ ReadFault = sym w.0 ∙ e in cc)
       written

@@ -14,7 +14,8 @@ use Rattle.pat_reduce.specs.declared.history.Outcome.TheVariants.{Waiting as Cod
 use Rattle.pat_reduce.specs.Views.{config_view, entry_view, outcome_view}
 use Rattle.pat_lines.specs.RunText.{run_text}
 use Rattle.pat_session.specs.declared.status.Status.{Status}
-use Rattle.pat_session.specs.Allowed.{NeverWaits, EndsWith, RunShows}
+use Rattle.pat_plain.specs.Laws.{NeverWaits}
+use Rattle.pat_session.specs.Allowed.{EndsWith, RunShows}
 
 waits : (threads can full spent : Bool) → (if not threads then Some EndDone else if not can then Some EndWaiting else if full then Some EndFull else if spent then Some EndBudget else None) ≡ Some EndWaiting → (threads ≡ true) × (can ≡ false)
 waits false can full spent h = cc
@@ -56,6 +57,7 @@ run_shows q p f text s same r shown ends =
         replayed = r.replayed;
         workers = jobs_workers q 100000 (start q) (map entry_view f.entries) (config_view f.config) r.jobs;
         jobs = r.jobs;
+        turns = r.turns;
         ends = r.ends;
         shown = shown ∙ ap (λ n. run_text (map entry_view f.entries) (config_view f.config) (outcome_view f.outcome) n) r.counted;
       },

@@ -1,14 +1,9 @@
--- What a call takes from its source and gives to its sink, where these tell their bytes.
-use Rattle.std.specs.Prelude.{◌≡◌, ◌⊎◌, ◌<◌, ◌≤◌, ℕ, List, length, take}
+-- What a call gives to its sink, where it tells its bytes.
+use Rattle.std.specs.Prelude.{◌≡◌, ◌⊎◌, ◌<◌, ℕ, List, length, take}
 use Rattle.std.specs.declared.option.Option.{Option}
-use Rattle.std.specs.Io.KnownBytes.{Consumes, IsAtEnd, Appends}
+use Rattle.std.specs.Io.KnownBytes.{Appends}
 use Rattle.pat_session.specs.declared.status.Status.{Status}
 use Rattle.pat_session.specs.declared.status.Status.TheVariants.{WriteFault}
-
--- the bytes are what the source gave: all that it had, or more than the limit
-pub record IsInput (had left : Option (List ℕ)) (bytes : List ℕ) : Type 0 where
-  pub taken : Consumes had left bytes
-  pub all : length bytes ≤ 4096 → IsAtEnd left
 
 -- the sink took a front of the text that isn't all of it
 abbrev pub IsCutShort : Option (List ℕ) → Option (List ℕ) → List ℕ → Type 0

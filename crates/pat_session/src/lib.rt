@@ -2,11 +2,12 @@
 #![tactic(auto)]
 
 mod answer;
-mod input;
 mod output;
 mod session;
 mod status;
+mod straight;
 mod words;
 
 pub use session::pat;
-pub use status::{Status, Verdict};
+pub use status::Status;
+pub use words::Command;

@@ -2,6 +2,8 @@
 ghost use Rattle.std.specs.Prelude.{◌≡◌};
 ghost use Rattle.pat_session.specs.Statuses.{status_code};
 
+use pat_front::Verdict;
+
 /// What a call of `pat` came to.
 #[derive(Clone, Copy, Debug, PartialEq, Eq)]
 pub enum Status {
@@ -15,13 +17,6 @@ pub enum Status {
     NoMemory,
     /// The steps of a run are spent.
     Budget,
-}
-
-/// Why an input was refused.
-#[derive(Clone, Copy, Debug, PartialEq, Eq)]
-pub enum Verdict {
-    /// It is too long, or no program of the form that is read so far.
-    NotYet,
 }
 
 impl Status {

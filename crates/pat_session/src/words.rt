@@ -1,13 +1,34 @@
 // The words of a call.
-ghost use Rattle.std.specs.Prelude.{◌↔◌, map, IsTrue, string_bytes};
-ghost use Rattle.pat_session.specs.Allowed.{IsRunCommand};
+ghost use Rattle.std.specs.Prelude.{◌∷◌, [], map, string_bytes, IfSome, IfNone};
+ghost use Rattle.pat_session.specs.Allowed.{IsCommand, HasCommand};
 
-/// Whether the words are a run command.
-pub fn is_run(words: &[String]) -> bool
-    ensures { IsTrue result ↔ IsRunCommand (map string_bytes words.now) }
+/// What a call is asked to do.
+#[derive(Clone, Copy, Debug, PartialEq, Eq)]
+pub enum Command {
+    /// Print the canonical text of a program.
+    Print,
+    /// Run a program.
+    Run,
+}
+
+/// The command that the words ask for, if they are one.
+pub fn command_of(words: &[String]) -> Option<Command>
+    ensures some { IfSome result (λ c. IsCommand c (map string_bytes words.now)) }
+    ensures none { IfNone result (HasCommand (map string_bytes words.now) → ⊥) }
 {
     match words {
-        [word] => word.as_str() == "run",
-        _ => false,
+        [word] => named(word.as_bytes()),
+        _ => None,
+    }
+}
+
+fn named(word: &[u8]) -> Option<Command>
+    ensures some { IfSome result (λ c. IsCommand c (word.now ∷ [])) }
+    ensures none { IfNone result (HasCommand (word.now ∷ []) → ⊥) }
+{
+    match word {
+        b"print" => Some(Command::Print),
+        b"run" => Some(Command::Run),
+        _ => None,
     }
 }

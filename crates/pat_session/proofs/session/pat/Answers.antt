@@ -1,5 +1,5 @@
 use Rattle.std.proofs.Common.{map, string_bytes}
-use Rattle.pat_session.proofs.Allows.{usage_only, accepts_safe, shows_run, refuses}
+use Rattle.pat_session.proofs.Allows.{usage_only, accepts_safe, shows_run, shows_tree, shows_verdict}
 use Rattle.pat_session.proofs.session.pat.Goals as goal
 
 pub returns-clause-usage : goal.returns-clause-usage
@@ -11,5 +11,8 @@ returns-clause-accepted_is_safe g c = accepts_safe (map string_bytes c.args.word
 pub returns-clause-run : goal.returns-clause-run
 returns-clause-run g c = shows_run (map string_bytes c.args.words.now) (g.S.Source.rest c.args.source.now) (g.S.Source.rest c.respond.new.source) (g.K.Sink.taken c.args.sink.now) (g.K.Sink.taken c.respond.new.sink) c.respond.result c.respond.ensures.output
 
-pub returns-clause-not_yet : goal.returns-clause-not_yet
-returns-clause-not_yet g c = refuses (map string_bytes c.args.words.now) (g.S.Source.rest c.args.source.now) (g.S.Source.rest c.respond.new.source) (g.K.Sink.taken c.args.sink.now) (g.K.Sink.taken c.respond.new.sink) c.respond.result c.respond.ensures.output
+pub returns-clause-printed : goal.returns-clause-printed
+returns-clause-printed g c = shows_tree (map string_bytes c.args.words.now) (g.S.Source.rest c.args.source.now) (g.S.Source.rest c.respond.new.source) (g.K.Sink.taken c.args.sink.now) (g.K.Sink.taken c.respond.new.sink) c.respond.result c.respond.ensures.output
+
+pub returns-clause-refused : goal.returns-clause-refused
+returns-clause-refused g c = shows_verdict (map string_bytes c.args.words.now) (g.S.Source.rest c.args.source.now) (g.S.Source.rest c.respond.new.source) (g.K.Sink.taken c.args.sink.now) (g.K.Sink.taken c.respond.new.sink) c.respond.result c.respond.ensures.output

@@ -1,0 +1,3 @@
+pub mod Fewness
+pub mod Resolved
+pub mod OneVerdict

@@ -1,0 +1,10 @@
+//! From the tokens of a text to its tree and its program, or to the verdict on it.
+#![tactic(auto)]
+
+mod front;
+mod laws;
+mod verdict;
+
+pub use front::{FrontError, program_of, tree_of};
+pub use laws::verdict_law;
+pub use verdict::{Verdict, verdict_line};

@@ -1,0 +1,92 @@
+// Verdicts on a text, and the lines that say them.
+ghost use Rattle.std.specs.Prelude.{◌≡◌, ◌++◌, ◌∷◌, [], IfOk, OnOk};
+ghost use Rattle.std.specs.Fmt.{decimal};
+ghost use Rattle.pat_front.specs.Lines.{rule_words, place_words, verdict_text, line_of_verdict};
+
+use pat_decimal::push_number;
+use pat_resolution::ResolveKind;
+use pat_syntax::Span;
+use std::alloc::{AllocError, Global};
+
+/// Why a text was refused. Offsets are in bytes, counted from 0.
+#[derive(Clone, Copy, Debug, PartialEq, Eq)]
+pub enum Verdict {
+    /// It has more bytes than a program may have.
+    TooLong,
+    /// No token may stand at the offset, or not this one, or the text ends too early.
+    Syntax(u32),
+    /// At the offset stands an integer above 9223372036854775807.
+    NumberTooWide(u32),
+    /// The token at the offset is the 256th open bracket or operator, or the 4,096th open statement.
+    TooDeep(u32),
+    /// The first rule of names and kinds that is broken, and where.
+    Resolve(ResolveKind, Span),
+    /// It is a program of a form that isn't run so far.
+    NotYet,
+}
+
+/// The line that says a verdict.
+pub fn verdict_line(alloc: Global, verdict: Verdict) -> Result<Vec<u8>, AllocError>
+    ensures { IfOk result (λ text. text.items ≡ line_of_verdict verdict) }
+{
+    let mut text = Vec::new(alloc);
+    push_verdict(alloc, &mut text, verdict)?;
+    text.push(b'\n')?;
+    Ok(text)
+}
+
+fn push_verdict(alloc: Global, text: &mut Vec<u8>, verdict: Verdict) -> Result<(), AllocError>
+    ensures { OnOk result (text.new.items ≡ text.old.items ++ verdict_text verdict) }
+{
+    match verdict {
+        Verdict::TooLong => push_words(text, b"too long"),
+        Verdict::Syntax(offset) => push_at(alloc, text, b"syntax error at ", offset),
+        Verdict::NumberTooWide(offset) => push_at(alloc, text, b"number too wide at ", offset),
+        Verdict::TooDeep(offset) => push_at(alloc, text, b"too deep at ", offset),
+        Verdict::Resolve(kind, span) => push_broken(alloc, text, kind, span),
+        Verdict::NotYet => push_words(text, b"not yet"),
+    }
+}
+
+fn push_words(text: &mut Vec<u8>, words: &[u8]) -> Result<(), AllocError>
+    ensures { OnOk result (text.new.items ≡ text.old.items ++ words.now) }
+{
+    text.extend_from_slice(words)?;
+    Ok(())
+}
+
+// Words, and an offset.
+fn push_at(alloc: Global, text: &mut Vec<u8>, words: &[u8], offset: u32) -> Result<(), AllocError>
+    ensures { OnOk result (text.new.items ≡ text.old.items ++ (words.now ++ decimal offset)) }
+{
+    push_words(text, words)?;
+    push_number(alloc, text, offset as u64)
+}
+
+// A broken rule, and a place.
+fn push_broken(
+    alloc: Global,
+    text: &mut Vec<u8>,
+    kind: ResolveKind,
+    span: Span,
+) -> Result<(), AllocError>
+    ensures { OnOk result (text.new.items ≡ text.old.items ++ (rule_words kind ++ place_words span)) }
+{
+    push_words(text, words_of(kind))?;
+    push_at(alloc, text, b" at ", span.from)?;
+    push_at(alloc, text, b"-", span.to)
+}
+
+fn words_of(kind: ResolveKind) -> &'static [u8]
+    ensures { result.now ≡ rule_words kind }
+{
+    match kind {
+        ResolveKind::UnknownName => b"unknown name",
+        ResolveKind::Twice => b"twice",
+        ResolveKind::WrongArity => b"wrong arity",
+        ResolveKind::WrongKind => b"wrong kind",
+        ResolveKind::ForeignTag => b"foreign tag",
+        ResolveKind::EmptySending => b"empty sending type",
+        ResolveKind::TooManyTags => b"too many tags",
+    }
+}
