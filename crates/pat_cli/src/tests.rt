@@ -8,6 +8,7 @@ use pat_resolution::ResolveKind;
 use pat_session::Status;
 use pat_syntax::Span;
 use std::alloc::{AllocError, Global};
+use std::process::Abort;
 use std::test::Fail;
 
 const FIRST: &[u8] = b"def main(): Unit { let x = 2 in print(x * 21) }\n";
@@ -119,7 +120,7 @@ fn run_rows(rt: HostRuntime) -> Result<(), Fail> {
         (b"def main(): Unit { print(true) }", not_yet, NOT_YET),
         (b"def main(): Unit { print(1 < 2) }", not_yet, NOT_YET),
     ];
-    try_rows(&rt, "run", &rows)
+    try_rows(&rt, rt.alloc(), "run", &rows)
 }
 
 #[test]
@@ -187,12 +188,16 @@ fn print_rows(rt: HostRuntime) -> Result<(), Fail> {
             b"syntax error at 0\n",
         ),
     ];
-    try_rows(&rt, "print", &rows)
+    try_rows(&rt, rt.alloc(), "print", &rows)
 }
 
 // Each input, in pieces of 1, 2 and 4,096 bytes.
-fn try_rows(rt: &HostRuntime, word: &str, rows: &[(&[u8], Status, &[u8])]) -> Result<(), Fail> {
-    let alloc = rt.alloc();
+fn try_rows(
+    rt: &impl Abort,
+    alloc: Global,
+    word: &str,
+    rows: &[(&[u8], Status, &[u8])],
+) -> Result<(), Fail> {
     for (input, status, text) in rows {
         for piece in [1, 2, 4096] {
             let (came, taken) = answer(alloc, &[word], input, (piece, piece), (0, 0))?;
