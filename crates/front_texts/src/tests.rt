@@ -92,7 +92,7 @@ fn canonical(alloc: Global, text: &str) -> Result<String, AllocError> {
     let Ok(tokens) = tokens_of(alloc, bytes, 4096) else {
         return String::from_str(alloc, "no tokens");
     };
-    match parse(alloc, tokens.as_slice(), bytes.len() as u32) {
+    match parse(alloc, tokens, bytes.len() as u32) {
         Ok(tree) => shown(alloc, print(alloc, &tree)?),
         Err(ParseError::Unexpected(at)) => format!(in alloc; "unexpected {at}"),
         Err(ParseError::TooDeep(at)) => format!(in alloc; "too deep {at}"),

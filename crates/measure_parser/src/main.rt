@@ -80,7 +80,7 @@ fn lexed(alloc: Global, text: &[u8]) -> Option<Vec<Token>> {
     tokens_of(alloc, text, 65536).ok()
 }
 
-fn parsed(alloc: Global, tokens: &[Token], text: &[u8]) -> Option<Tree> {
+fn parsed(alloc: Global, tokens: Vec<Token>, text: &[u8]) -> Option<Tree> {
     if text.len() > 100_000_000 {
         return None;
     }
@@ -101,12 +101,12 @@ fn measure(rt: &impl Clock, alloc: Global, text: &[u8], rounds: usize) -> io::Re
         both: u128::MAX,
         declarations: 0,
     };
-    // A round's time ends before its tokens and its tree are dropped.
+    // A round's time ends before its tree is dropped.
     for _ in 0..rounds {
         let start = Instant::now(rt)?;
         if let Some(tokens) = lexed(alloc, text) {
             let middle = start.elapsed(rt)?;
-            let tree = parsed(alloc, tokens.as_slice(), text);
+            let tree = parsed(alloc, tokens, text);
             let end = start.elapsed(rt)?;
             best.lexer = best.lexer.min(middle.as_nanos());
             best.both = best.both.min(end.as_nanos());

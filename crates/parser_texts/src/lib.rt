@@ -60,7 +60,7 @@ pub fn outcome(alloc: Global, text: &[u8]) -> Result<String, AllocError> {
     }
     match tokens_of(alloc, text, 65536) {
         Err(_) => String::from_str(alloc, "no tokens"),
-        Ok(tokens) => match parse(alloc, tokens.as_slice(), text.len() as u32) {
+        Ok(tokens) => match parse(alloc, tokens, text.len() as u32) {
             Ok(tree) => format!(in alloc; "tree of {}", tree.decls.len()),
             Err(ParseError::Unexpected(at)) => format!(in alloc; "unexpected {at}"),
             Err(ParseError::TooDeep(at)) => format!(in alloc; "too deep {at}"),

@@ -39,7 +39,7 @@ pub fn tree_of(alloc: Global, input: Input) -> Result<(Tree, u32), FrontError>
     match input {
         Input::TooLong => Err(FrontError::Refused(Verdict::TooLong)),
         Input::Refused(refusal) => Err(of_lexer(refusal)),
-        Input::Tokens(tokens, end) => match pat_parser::parse(alloc, tokens.as_slice(), end) {
+        Input::Tokens(tokens, end) => match pat_parser::parse(alloc, tokens, end) {
             Ok(tree) => Ok((tree, end)),
             Err(refusal) => Err(of_parser(refusal)),
         },

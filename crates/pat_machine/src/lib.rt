@@ -9,11 +9,12 @@ mod state;
 pub use fault::Fault;
 pub use lists::{with_clause, with_decl, with_expr, with_type};
 pub use place::{
-    at, boxed_term, failed, has_room, name_of, none_before, nothing, over, refused, too_deep, top,
-    within,
+    at, boxed_term, failed, has_room, leading, levels, name_of, over, parts_before, refused,
+    too_deep, top, waiting, within,
 };
 pub use state::{
-    Before, BlockFrame, ClauseFrame, ClauseHead, Control, Defining, ExprFrame, Frame, Frames,
-    Guarding, Head, Interfacing, LetFrame, Naming, Operand, PatternFrame, Pending, Place, State,
-    TypeFrame,
+    Before, BlockFrame, ClauseControl, ClauseFrame, ClauseHead, Control, DeclControl, Defining,
+    ExprControl, ExprFrame, Frame, Frames, Guarding, Head, Interfacing, Leading, LetFrame,
+    NameControl, Naming, Operand, PatternControl, PatternFrame, Pending, Place, State, TermControl,
+    TypeControl, TypeFrame, Waiting,
 };

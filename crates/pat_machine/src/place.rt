@@ -3,18 +3,19 @@ ghost use Rattle.std.specs.Prelude.{◌≡◌, ◌∷◌, ◌+◌, nat_lt, Ok, E
 ghost use Rattle.pat_grammar.specs.Machine as m;
 ghost use Rattle.pat_grammar.specs.Trees as trees;
 ghost use Rattle.pat_tree.specs.Views.{span_view, name_view, term_at, term_view};
-ghost use Rattle.pat_machine.specs.Views.{pending_view, before_view, frame_view, stack_view, control_view, state_view, limits};
+ghost use Rattle.pat_machine.specs.Views.{pending_view, waiting_view, before_view, leading_view, frame_view, stack_view, control_view, state_view, limits};
 ghost use Rattle.pat_machine.specs.Answers.{Gives, Makes, Tops};
 
 use crate::fault::Fault;
-use crate::state::{Before, Control, Frame, Frames, Pending, Place, State};
+use crate::state::{Before, Control, Frame, Frames, Leading, Pending, Place, State, Waiting};
 use pat_sequences::{Sequence, Text};
 use pat_syntax::Span;
 use pat_tree::{Form, Name, Term};
 use std::alloc::Global;
 
 /// A state with these frames, and so many brackets, operators and statements open.
-pub fn at(control: Control, stack: Frames, opened: u32, operators: u32, statements: u32) -> State
+#[inline(always)]
+pub fn at(control: Control, stack: Frames, opened: u16, operators: u16, statements: u16) -> State
     ensures { state_view result ≡ m.state (control_view control) (stack_view stack) opened operators statements }
 {
     State {
@@ -29,6 +30,7 @@ pub fn at(control: Control, stack: Frames, opened: u32, operators: u32, statemen
 }
 
 /// One frame more.
+#[inline(always)]
 pub fn over(frame: Frame, below: Frames) -> Result<Frames, Fault>
     ensures { Gives stack_view result (Ok (frame_view frame ∷ stack_view below)) }
 {
@@ -38,7 +40,7 @@ pub fn over(frame: Frame, below: Frames) -> Result<Frames, Fault>
 }
 
 /// Whether one more bracket or operator may be open.
-pub fn has_room(opened: u32, operators: u32) -> bool
+pub fn has_room(opened: u16, operators: u16) -> bool
     ensures { result ≡ nat_lt (opened + operators) 255 }
 {
     u64::from(opened) + u64::from(operators) < 255
@@ -59,26 +61,46 @@ pub fn boxed_term(alloc: Global, form: Form, from: u32, to: u32) -> Result<Box<T
     Ok(Box::new(alloc, Term { form, span })?)
 }
 
-/// Nothing stands before the operand.
-pub fn nothing() -> Pending
-    ensures { pending_view result ≡ m.nothing }
+/// What stands before an operand, level by level.
+pub fn levels(waiting: Waiting) -> Pending
+    ensures { pending_view result ≡ waiting_view waiting }
 {
-    Pending {
-        compared: None,
-        added: None,
-        multiplied: None,
+    match waiting {
+        Some(pending) => Box::into_inner(pending),
+        None => Pending {
+            compared: None,
+            added: None,
+            multiplied: None,
+        },
     }
 }
 
-/// Nothing stands before the factor.
-pub fn none_before(alloc: Global) -> Before
-    ensures { before_view result ≡ m.none_before }
+/// What stands before the next operand.
+pub fn waiting(alloc: Global, pending: Pending) -> Result<Waiting, Fault>
+    ensures { Gives waiting_view result (Ok (pending_view pending)) }
 {
-    Before {
-        added: None,
-        multiplied: None,
-        stars: Sequence::new(alloc),
+    Ok(Some(Box::new(alloc, pending)?))
+}
+
+/// What stands before a factor: sum, product and stars.
+pub fn parts_before(alloc: Global, leading: Leading) -> Before
+    ensures { before_view result ≡ leading_view leading }
+{
+    match leading {
+        Some(before) => Box::into_inner(before),
+        None => Before {
+            added: None,
+            multiplied: None,
+            stars: Sequence::new(alloc),
+        },
     }
+}
+
+/// What stands before the next factor.
+pub fn leading(alloc: Global, before: Before) -> Result<Leading, Fault>
+    ensures { Gives leading_view result (Ok (before_view before)) }
+{
+    Ok(Some(Box::new(alloc, before)?))
 }
 
 /// The top frame, and what stands below it.
@@ -118,8 +140,8 @@ pub fn within(
     frame: Frame,
     below: Frames,
     control: Control,
-    opened: u32,
-    statements: u32,
+    opened: u16,
+    statements: u16,
 ) -> Result<State, Fault>
     ensures { Gives state_view result (Ok (m.state (control_view control) (frame_view frame ∷ stack_view below) opened 0 statements)) }
 {

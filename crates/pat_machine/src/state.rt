@@ -1,5 +1,6 @@
-// What the machine is in the middle of. A state moves at each token, so what is large stands in boxes.
-use pat_primitives::{Op, Polarity};
+// What the machine is in the middle of. A state moves at each token, so what is large stands in boxes, and what counts open
+// tokens has 16 bits: up to 128 bytes, its answer included, a state moves without a call.
+use pat_primitives::{Base, Op, Polarity};
 use pat_sequences::{Sequence, Stack};
 use pat_syntax::Span;
 use pat_tree::{Decl, Name, Param, Term, TreeClause, TreeExpr, TreeMessage, TreePattern, TreeType};
@@ -7,7 +8,7 @@ use pat_tree::{Decl, Name, Param, Term, TreeClause, TreeExpr, TreeMessage, TreeP
 /// An expression, and where its text begins, brackets included.
 #[derive(Drop)]
 pub struct Operand {
-    pub value: Box<TreeExpr>,
+    pub value: TreeExpr,
     pub from: u32,
 }
 
@@ -19,6 +20,9 @@ pub struct Pending {
     pub multiplied: Option<Operand>,
 }
 
+/// The same, where anything stands there: before most operands nothing does.
+pub type Waiting = Option<Box<Pending>>;
+
 /// What stands before a factor of a pattern: a sum, a product, and stars.
 #[derive(Drop)]
 pub struct Before {
@@ -26,6 +30,9 @@ pub struct Before {
     pub multiplied: Option<Box<TreePattern>>,
     pub stars: Sequence<Span>,
 }
+
+/// The same, where anything stands there.
+pub type Leading = Option<Box<Before>>;
 
 /// A call or a send whose arguments are being read.
 #[derive(Drop)]
@@ -40,9 +47,9 @@ pub struct Guarding {
     pub mailbox: Name,
     pub pattern: TreePattern,
     pub from: u32,
-    pub opened: u32,
-    pub inside: u32,
-    pub statements: u32,
+    pub opened: u16,
+    pub inside: u16,
+    pub statements: u16,
     pub clauses: Vec<TreeClause>,
 }
 
@@ -79,8 +86,8 @@ pub enum Naming {
     FunctionName(Sequence<Decl>),
     ParamName(Box<Defining>),
     LetName(u32),
-    NewName(u32, u32),
-    FreeName(u32, u32),
+    NewName(u32, u16),
+    FreeName(u32, u16),
     GuardName(u32),
     TagName(Name),
     ReceiveName(Box<Guarding>, Span),
@@ -101,15 +108,15 @@ pub enum TypeFrame {
 pub enum PatternFrame {
     InTyped(Name, Polarity),
     InGuarded(Name, u32),
-    InPatternBracket(Before, u32),
+    InPatternBracket(Leading, u16),
 }
 
 /// Where an expression stands: in a bracket, in a print, among arguments, or as a test.
 #[derive(Drop)]
 pub enum ExprFrame {
-    InBracket(Pending, u32, u32),
-    InPrint(u32, u32),
-    InArgs(Head, Sequence<TreeExpr>, u32),
+    InBracket(Waiting, u32, u16),
+    InPrint(u32, u16),
+    InArgs(Head, Sequence<TreeExpr>, u16),
     InTest(u32),
 }
 
@@ -123,10 +130,10 @@ pub enum LetFrame {
 /// A term in braces.
 #[derive(Drop)]
 pub enum BlockFrame {
-    InBlock(u32, u32, u32),
-    InYes(TreeExpr, u32, u32, u32),
-    InNo(TreeExpr, Box<Term>, u32, u32, u32),
-    InSpawn(u32, u32, u32),
+    InBlock(u32, u16, u16),
+    InYes(TreeExpr, u32, u16, u16),
+    InNo(TreeExpr, Box<Term>, u32, u16, u16),
+    InSpawn(u32, u16, u16),
     InDef(Box<Defining>, TreeType),
 }
 
@@ -151,22 +158,42 @@ pub enum Frame {
 /// The frames, the innermost on top.
 pub type Frames = Stack<Frame>;
 
-/// What may come next.
+/// What may come next among declarations, in an interface, or in the head of a function.
 #[derive(Drop)]
-pub enum Control {
+pub enum DeclControl {
     AtDecl(bool, Sequence<Decl>),
-    WantName(Naming),
-    GotName(Naming, Name),
-    FirstPayload,
     AfterMessage(Box<Interfacing>),
     FirstParam(Box<Defining>),
     AfterParams(Box<Defining>),
+}
+
+/// Where a name is wanted, or behind it.
+#[derive(Drop)]
+pub enum NameControl {
+    WantName(Naming),
+    GotName(Naming, Name),
+}
+
+/// What may come next in a type.
+#[derive(Drop)]
+pub enum TypeControl {
+    FirstPayload,
     WantType,
     AfterTypeName(Name),
     AfterPolarity(Name, Polarity, u32),
-    HaveType(TreeType),
-    WantPattern(Before),
-    HavePattern(Before, TreePattern, u32),
+    HaveBase(Base, Span),
+}
+
+/// What may come next in a pattern.
+#[derive(Drop)]
+pub enum PatternControl {
+    WantPattern(Leading),
+    HavePattern(Leading, TreePattern, u32),
+}
+
+/// What may come next in a term that is no expression, or behind a term.
+#[derive(Drop)]
+pub enum TermControl {
     Start(bool),
     Named(Name),
     AfterPrint(u32),
@@ -175,24 +202,46 @@ pub enum Control {
     AfterFree(u32),
     AfterYes(TreeExpr, Box<Term>, u32),
     AfterElse(TreeExpr, Box<Term>, u32),
+    Done(Box<Term>, u32),
+}
+
+/// What may come next in a guard, or in the head of a clause.
+#[derive(Drop)]
+pub enum ClauseControl {
     AtClause(bool, Box<Guarding>),
     AfterFreeWord(Box<Guarding>, Span),
     FirstBinder(Box<ClauseHead>),
     AfterBinders(Box<ClauseHead>),
+}
+
+/// What may come next in an expression, or where one may begin.
+#[derive(Drop)]
+pub enum ExprControl {
     FirstArg,
     Opened,
-    Want(Pending),
-    Have(Pending, Operand, u32),
-    Done(Box<Term>, u32),
+    Want(Waiting),
+    Have(Waiting, Operand, u32),
+}
+
+/// What may come next.
+#[derive(Drop)]
+pub enum Control {
+    Declaration(DeclControl),
+    Name(NameControl),
+    Type(TypeControl),
+    Pattern(PatternControl),
+    Term(TermControl),
+    Clause(ClauseControl),
+    Expr(ExprControl),
 }
 
 /// The frames, and how many brackets, operators and statements are open.
 #[derive(Drop)]
 pub struct Place {
     pub stack: Frames,
-    pub opened: u32,
-    pub operators: u32,
-    pub statements: u32,
+    pub opened: u16,
+    pub operators: u16,
+    pub statements: u16,
 }
 
 #[derive(Drop)]

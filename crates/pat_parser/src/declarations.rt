@@ -7,8 +7,8 @@ ghost use Rattle.pat_machine.specs.Views.{interfacing_view, defining_view, stack
 ghost use Rattle.pat_machine.specs.Answers.{Gives, Makes};
 
 use pat_machine::{
-    Control, Defining, Fault, Frame, Interfacing, Naming, Place, State, TypeFrame, at, has_room,
-    name_of, over, refused, too_deep, with_decl,
+    Control, DeclControl, Defining, Fault, Frame, Interfacing, NameControl, Naming, Place, State,
+    TypeControl, TypeFrame, at, has_room, name_of, over, refused, too_deep, with_decl,
 };
 use pat_sequences::Sequence;
 use pat_syntax::{Mark, Reserved, Span, TokenKind};
@@ -27,11 +27,23 @@ pub fn decl(
     match kind {
         TokenKind::Word(Reserved::Interface) => {
             let naming = Naming::InterfaceName(decls);
-            Ok(at(Control::WantName(naming), place.stack, place.opened, 0, 0))
+            Ok(at(
+                Control::Name(NameControl::WantName(naming)),
+                place.stack,
+                place.opened,
+                0,
+                0,
+            ))
         }
         TokenKind::Word(Reserved::Def) => {
             let naming = Naming::FunctionName(decls);
-            Ok(at(Control::WantName(naming), place.stack, place.opened, 0, 0))
+            Ok(at(
+                Control::Name(NameControl::WantName(naming)),
+                place.stack,
+                place.opened,
+                0,
+                0,
+            ))
         }
         _ => refused((place, decls)),
     }
@@ -71,7 +83,13 @@ pub fn message(
     match kind {
         TokenKind::Mark(Mark::Comma) => {
             let naming = Naming::MessageName(begun);
-            Ok(at(Control::WantName(naming), place.stack, place.opened, 0, 0))
+            Ok(at(
+                Control::Name(NameControl::WantName(naming)),
+                place.stack,
+                place.opened,
+                0,
+                0,
+            ))
         }
         TokenKind::Mark(Mark::CurlyClose) => {
             let Interfacing {
@@ -80,7 +98,13 @@ pub fn message(
                 messages,
             } = Box::into_inner(begun);
             let decls = with_decl(decls, Decl::Interface { name, messages })?;
-            Ok(at(Control::AtDecl(false, decls), place.stack, 0, 0, 0))
+            Ok(at(
+                Control::Declaration(DeclControl::AtDecl(false, decls)),
+                place.stack,
+                0,
+                0,
+                0,
+            ))
         }
         _ => refused((place, begun)),
     }
@@ -98,11 +122,17 @@ pub fn first_param(
     match kind {
         TokenKind::Name(text) => {
             let naming = Naming::ParamName(begun);
-            let control = Control::GotName(naming, name_of(text, span));
+            let control = Control::Name(NameControl::GotName(naming, name_of(text, span)));
             Ok(at(control, place.stack, place.opened, 0, 0))
         }
         TokenKind::Mark(Mark::RoundClose) => {
-            Ok(at(Control::AfterParams(begun), place.stack, 0, 0, 0))
+            Ok(at(
+                Control::Declaration(DeclControl::AfterParams(begun)),
+                place.stack,
+                0,
+                0,
+                0,
+            ))
         }
         _ => refused((place, begun)),
     }
@@ -120,7 +150,13 @@ pub fn params(
     match kind {
         TokenKind::Mark(Mark::Colon) => {
             let stack = over(Frame::Type(TypeFrame::InResult(begun)), place.stack)?;
-            Ok(at(Control::WantType, stack, place.opened, 0, 0))
+            Ok(at(
+                Control::Type(TypeControl::WantType),
+                stack,
+                place.opened,
+                0,
+                0,
+            ))
         }
         _ => refused((place, begun)),
     }
@@ -170,7 +206,7 @@ pub fn interface_named(
             }
             let opened = place.opened + 1;
             let begun = interface_begun(alloc, decls, name)?;
-            let control = Control::WantName(Naming::MessageName(begun));
+            let control = Control::Name(NameControl::WantName(Naming::MessageName(begun)));
             Ok(at(control, place.stack, opened, 0, 0))
         }
         _ => refused((place, decls, name)),
@@ -196,7 +232,13 @@ pub fn message_named(
             let opened = place.opened + 1;
             let frame = Frame::Type(TypeFrame::InMessage(begun, name, Sequence::new(alloc)));
             let stack = over(frame, place.stack)?;
-            Ok(at(Control::FirstPayload, stack, opened, 0, 0))
+            Ok(at(
+                Control::Type(TypeControl::FirstPayload),
+                stack,
+                opened,
+                0,
+                0,
+            ))
         }
         _ => refused((place, begun, name)),
     }
@@ -220,7 +262,7 @@ pub fn function_named(
             }
             let opened = place.opened + 1;
             let begun = function_begun(alloc, decls, name)?;
-            let control = Control::FirstParam(begun);
+            let control = Control::Declaration(DeclControl::FirstParam(begun));
             Ok(at(control, place.stack, opened, 0, 0))
         }
         _ => refused((place, decls, name)),
@@ -240,7 +282,13 @@ pub fn param_named(
     match kind {
         TokenKind::Mark(Mark::Colon) => {
             let stack = over(Frame::Type(TypeFrame::InParam(begun, name)), place.stack)?;
-            Ok(at(Control::WantType, stack, place.opened, 0, 0))
+            Ok(at(
+                Control::Type(TypeControl::WantType),
+                stack,
+                place.opened,
+                0,
+                0,
+            ))
         }
         _ => refused((place, begun, name)),
     }

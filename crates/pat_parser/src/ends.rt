@@ -9,9 +9,9 @@ ghost use Rattle.pat_machine.specs.Answers.{Gives, Makes};
 ghost use Rattle.pat_parser.specs.Answers.{standing};
 
 use pat_machine::{
-    BlockFrame, ClauseFrame, ClauseHead, Control, Defining, Fault, Frame, Frames, Guarding,
-    LetFrame, Naming, Place, State, at, boxed_term, over, refused, too_deep, top, with_clause,
-    with_decl,
+    BlockFrame, ClauseControl, ClauseFrame, ClauseHead, Control, DeclControl, Defining, Fault,
+    Frame, Frames, Guarding, LetFrame, NameControl, Naming, Place, State, TermControl, at,
+    boxed_term, over, refused, too_deep, top, with_clause, with_decl,
 };
 use pat_syntax::{Mark, Reserved, Span, TokenKind};
 use pat_tree::{Decl, Form, Name, Term, TreeClause, TreeExpr, TreeType};
@@ -106,7 +106,7 @@ pub fn clause(
         TokenKind::Word(Reserved::Fail) => {
             let guard = with_clause(guard, TreeClause::Fail(span))?;
             Ok(at(
-                Control::AtClause(false, guard),
+                Control::Clause(ClauseControl::AtClause(false, guard)),
                 stack,
                 opened,
                 0,
@@ -115,7 +115,7 @@ pub fn clause(
         }
         TokenKind::Word(Reserved::Free) => {
             Ok(at(
-                Control::AfterFreeWord(guard, span),
+                Control::Clause(ClauseControl::AfterFreeWord(guard, span)),
                 stack,
                 opened,
                 0,
@@ -124,7 +124,13 @@ pub fn clause(
         }
         TokenKind::Word(Reserved::Receive) => {
             let naming = Naming::ReceiveName(guard, span);
-            Ok(at(Control::WantName(naming), stack, opened, 0, statements))
+            Ok(at(
+                Control::Name(NameControl::WantName(naming)),
+                stack,
+                opened,
+                0,
+                statements,
+            ))
         }
         TokenKind::Mark(Mark::CurlyClose) => guard_end(alloc, first, stack, guard, span),
         _ => refused(guard),
@@ -191,10 +197,16 @@ fn next_clause(
     }
 }
 
-fn done(term: Box<Term>, from: u32, stack: Frames, opened: u32, statements: u32) -> State
+fn done(term: Box<Term>, from: u32, stack: Frames, opened: u16, statements: u16) -> State
     ensures { state_view result ≡ m.state (m.Done (term_view term.value) from) (stack_view stack) opened 0 statements }
 {
-    at(Control::Done(term, from), stack, opened, 0, statements)
+    at(
+        Control::Term(TermControl::Done(term, from)),
+        stack,
+        opened,
+        0,
+        statements,
+    )
 }
 
 fn function_end(
@@ -217,7 +229,13 @@ fn function_end(
         body: Box::into_inner(body),
     };
     let decls = with_decl(decls, decl)?;
-    Ok(at(Control::AtDecl(false, decls), stack, 0, 0, 0))
+    Ok(at(
+        Control::Declaration(DeclControl::AtDecl(false, decls)),
+        stack,
+        0,
+        0,
+        0,
+    ))
 }
 
 fn clause_end(
@@ -255,7 +273,7 @@ fn brace(
             term, from, below, opened, statements,
         )),
         BlockFrame::InYes(test, from, opened, statements) => {
-            let control = Control::AfterYes(test, term, from);
+            let control = Control::Term(TermControl::AfterYes(test, term, from));
             Ok(at(control, below, opened, 0, statements))
         }
         BlockFrame::InNo(test, yes, from, opened, statements) => {
@@ -317,7 +335,7 @@ fn takes_next(stack: &Frames) -> bool
 }
 
 /// Whether one more statement may be open.
-fn has_statement_room(statements: u32) -> bool
+fn has_statement_room(statements: u16) -> bool
     ensures { result ≡ nat_lt statements 4095 }
 {
     statements < 4095
@@ -334,7 +352,13 @@ fn next_term(place: Place, term: Box<Term>, from: u32) -> Result<State, Fault>
     }
     let statements = place.statements + 1;
     let stack = over(Frame::Let(LetFrame::InBody(None, term, from)), place.stack)?;
-    Ok(at(Control::Start(true), stack, place.opened, 0, statements))
+    Ok(at(
+        Control::Term(TermControl::Start(true)),
+        stack,
+        place.opened,
+        0,
+        statements,
+    ))
 }
 
 fn let_body(name: Name, from: u32, place: Place, term: Box<Term>) -> Result<State, Fault>
@@ -348,10 +372,16 @@ fn let_body(name: Name, from: u32, place: Place, term: Box<Term>) -> Result<Stat
         Frame::Let(LetFrame::InBody(Some(name), term, from)),
         place.stack,
     )?;
-    Ok(at(Control::Start(true), stack, place.opened, 0, statements))
+    Ok(at(
+        Control::Term(TermControl::Start(true)),
+        stack,
+        place.opened,
+        0,
+        statements,
+    ))
 }
 
-fn body_of_let(stack: Frames, opened: u32, statements: u32, term: Box<Term>) -> Result<State, Fault>
+fn body_of_let(stack: Frames, opened: u16, statements: u16, term: Box<Term>) -> Result<State, Fault>
     ensures { Makes result (m.then_in (stack_view stack) opened statements (term_view term.value)) }
 {
     match top(stack) {

@@ -6,13 +6,14 @@ ghost use Rattle.pat_grammar.specs.Machine as m;
 ghost use Rattle.pat_syntax.specs.Views.{kind_view};
 ghost use Rattle.pat_primitives.specs.Views.{op_view};
 ghost use Rattle.pat_tree.specs.Views.{span_view, expr_view, expr_at, term_at, term_view};
-ghost use Rattle.pat_machine.specs.Views.{operand_view, left_view, pending_view, head_view, stack_view};
+ghost use Rattle.pat_machine.specs.Views.{state_view, operand_view, left_view, pending_view, waiting_view, head_view, stack_view};
 ghost use Rattle.pat_machine.specs.Answers.{Gives, Makes};
 
 use crate::ends::behind_simple;
 use pat_machine::{
-    BlockFrame, Control, ExprFrame, Fault, Frame, Frames, Head, Operand, Pending, Place, State, at,
-    boxed_term, failed, has_room, nothing, over, refused, too_deep, top, with_expr,
+    BlockFrame, Control, ExprControl, ExprFrame, Fault, Frame, Frames, Head, Operand, Pending,
+    Place, State, TermControl, Waiting, at, boxed_term, has_room, levels, over, refused, too_deep,
+    top, waiting, with_expr,
 };
 use pat_primitives::Op;
 use pat_sequences::Sequence;
@@ -24,9 +25,11 @@ fn binary(alloc: Global, op: Op, left: Operand, right: Operand, to: u32) -> Resu
     ensures { Gives operand_view result (Ok (grammar.combined (op_view op) (operand_view left) (operand_view right) to)) }
 {
     let from = left.from;
-    let form = ExprForm::Op(op, left.value, right.value);
+    let left = Box::new(alloc, left.value)?;
+    let right = Box::new(alloc, right.value)?;
+    let form = ExprForm::Op(op, left, right);
     let span = Span { from, to };
-    let value = Box::new(alloc, TreeExpr { form, span })?;
+    let value = TreeExpr { form, span };
     Ok(Operand { value, from })
 }
 
@@ -71,12 +74,21 @@ fn sum_with(
     joined(alloc, added, product, to)
 }
 
-/// The whole expression that ends with this operand.
-fn whole(alloc: Global, pending: Pending, last: Operand, to: u32) -> Result<Operand, Fault>
+fn levels_with(alloc: Global, pending: Pending, last: Operand, to: u32) -> Result<Operand, Fault>
     ensures { Gives operand_view result (Ok (m.whole_of (pending_view pending) (operand_view last) to)) }
 {
     let sum = sum_with(alloc, pending.added, pending.multiplied, last, to)?;
     joined(alloc, pending.compared, sum, to)
+}
+
+/// The whole expression that ends with this operand.
+fn whole(alloc: Global, pending: Waiting, last: Operand, to: u32) -> Result<Operand, Fault>
+    ensures { Gives operand_view result (Ok (m.whole_of (waiting_view pending) (operand_view last) to)) }
+{
+    match pending {
+        None => Ok(last),
+        Some(pending) => levels_with(alloc, Box::into_inner(pending), last, to),
+    }
 }
 
 fn made_of(head: Head, args: Sequence<TreeExpr>) -> Form
@@ -103,21 +115,27 @@ fn args_end(
     args: Sequence<TreeExpr>,
     to: u32,
     stack: Frames,
-    opened: u32,
-    statements: u32,
+    opened: u16,
+    statements: u16,
 ) -> Result<State, Fault>
     ensures { Makes result (m.Goes (m.state (m.Done (m.made (head_view head) (map expr_view args) to) (m.head_from (head_view head))) (stack_view stack) opened 0 statements)) }
 {
     let from = head_from(&head);
     let term = boxed_term(alloc, made_of(head, args), from, to)?;
-    Ok(at(Control::Done(term, from), stack, opened, 0, statements))
+    Ok(at(
+        Control::Term(TermControl::Done(term, from)),
+        stack,
+        opened,
+        0,
+        statements,
+    ))
 }
 
 fn close(
     alloc: Global,
     stack: Frames,
-    operators: u32,
-    statements: u32,
+    operators: u16,
+    statements: u16,
     last: Operand,
     span: Span,
 ) -> Result<State, Fault>
@@ -131,20 +149,21 @@ fn close(
                     value: last.value,
                     from,
                 };
-                let control = Control::Have(pending, operand, span.to);
+                let control = Control::Expr(ExprControl::Have(pending, operand, span.to));
                 Ok(at(control, below, opened, operators, statements))
             }
             Frame::Expr(ExprFrame::InPrint(from, opened)) => {
-                let term = boxed_term(
-                    alloc,
-                    Form::Print(Box::into_inner(last.value)),
-                    from,
-                    span.to,
-                )?;
-                Ok(at(Control::Done(term, from), below, opened, 0, statements))
+                let term = boxed_term(alloc, Form::Print(last.value), from, span.to)?;
+                Ok(at(
+                    Control::Term(TermControl::Done(term, from)),
+                    below,
+                    opened,
+                    0,
+                    statements,
+                ))
             }
             Frame::Expr(ExprFrame::InArgs(head, args, opened)) => {
-                let args = with_expr(args, Box::into_inner(last.value))?;
+                let args = with_expr(args, last.value)?;
                 args_end(alloc, head, args, span.to, below, opened, statements)
             }
             other => refused((other, below, last)),
@@ -152,16 +171,22 @@ fn close(
     }
 }
 
-fn comma(stack: Frames, opened: u32, statements: u32, last: Operand) -> Result<State, Fault>
+fn comma(stack: Frames, opened: u16, statements: u16, last: Operand) -> Result<State, Fault>
     ensures { Makes result (m.end_comma (stack_view stack) opened statements (operand_view last)) }
 {
     match top(stack) {
         None => refused(last),
         Some((frame, below)) => match frame {
             Frame::Expr(ExprFrame::InArgs(head, args, before)) => {
-                let args = with_expr(args, Box::into_inner(last.value))?;
+                let args = with_expr(args, last.value)?;
                 let stack = over(Frame::Expr(ExprFrame::InArgs(head, args, before)), below)?;
-                Ok(at(Control::Want(nothing()), stack, opened, 0, statements))
+                Ok(at(
+                    Control::Expr(ExprControl::Want(None)),
+                    stack,
+                    opened,
+                    0,
+                    statements,
+                ))
             }
             other => refused((other, below, last)),
         },
@@ -171,26 +196,27 @@ fn comma(stack: Frames, opened: u32, statements: u32, last: Operand) -> Result<S
 fn test_end(
     stack: Frames,
     from: u32,
-    opened: u32,
-    statements: u32,
+    opened: u16,
+    statements: u16,
     last: Operand,
 ) -> Result<State, Fault>
-    ensures { Makes result (m.Opens opened 0 (m.state (m.Start true) (m.AtBlock (m.InYes (expr_view last.value.value) from opened statements) ∷ stack_view stack) (suc opened) 0 statements)) }
+    ensures { Makes result (m.Opens opened 0 (m.state (m.Start true) (m.AtBlock (m.InYes (expr_view last.value) from opened statements) ∷ stack_view stack) (suc opened) 0 statements)) }
 {
     if !has_room(opened, 0) {
         return too_deep((stack, last));
     }
-    let frame = Frame::Block(BlockFrame::InYes(
-        Box::into_inner(last.value),
-        from,
-        opened,
-        statements,
-    ));
+    let frame = Frame::Block(BlockFrame::InYes(last.value, from, opened, statements));
     let stack = over(frame, stack)?;
-    Ok(at(Control::Start(true), stack, opened + 1, 0, statements))
+    Ok(at(
+        Control::Term(TermControl::Start(true)),
+        stack,
+        opened + 1,
+        0,
+        statements,
+    ))
 }
 
-fn open(stack: Frames, opened: u32, statements: u32, last: Operand) -> Result<State, Fault>
+fn open(stack: Frames, opened: u16, statements: u16, last: Operand) -> Result<State, Fault>
     ensures { Makes result (m.end_open (stack_view stack) opened statements (operand_view last)) }
 {
     match top(stack) {
@@ -203,10 +229,10 @@ fn open(stack: Frames, opened: u32, statements: u32, last: Operand) -> Result<St
 }
 
 fn value_term(alloc: Global, last: Operand, to: u32) -> Result<Box<Term>, Fault>
-    ensures { Gives (λ t. term_view t.value) result (Ok (trees.ValueTerm (expr_view last.value.value) (trees.span last.from to))) }
+    ensures { Gives (λ t. term_view t.value) result (Ok (trees.ValueTerm (expr_view last.value) (trees.span last.from to))) }
 {
     let from = last.from;
-    boxed_term(alloc, Form::Value(Box::into_inner(last.value)), from, to)
+    boxed_term(alloc, Form::Value(last.value), from, to)
 }
 
 fn behind_value(
@@ -217,7 +243,7 @@ fn behind_value(
     kind: TokenKind,
     span: Span,
 ) -> Result<State, Fault>
-    ensures { Makes result (m.done_step (stack_view place.stack) place.opened place.statements (trees.ValueTerm (expr_view last.value.value) (trees.span last.from to)) last.from (kind_view kind) (span_view span)) }
+    ensures { Makes result (m.done_step (stack_view place.stack) place.opened place.statements (trees.ValueTerm (expr_view last.value) (trees.span last.from to)) last.from (kind_view kind) (span_view span)) }
 {
     let from = last.from;
     let term = value_term(alloc, last, to)?;
@@ -270,8 +296,9 @@ fn add(
         added: Some((op, left)),
         multiplied: None,
     };
+    let waiting = waiting(alloc, next)?;
     Ok(at(
-        Control::Want(next),
+        Control::Expr(ExprControl::Want(waiting)),
         place.stack,
         place.opened,
         operators,
@@ -302,8 +329,9 @@ fn compare(
         added: None,
         multiplied: None,
     };
+    let waiting = waiting(alloc, next)?;
     Ok(at(
-        Control::Want(next),
+        Control::Expr(ExprControl::Want(waiting)),
         place.stack,
         place.opened,
         operators,
@@ -330,8 +358,9 @@ fn multiply(
         added: pending.added,
         multiplied: Some(product),
     };
+    let waiting = waiting(alloc, next)?;
     Ok(at(
-        Control::Want(next),
+        Control::Expr(ExprControl::Want(waiting)),
         place.stack,
         place.opened,
         operators,
@@ -342,13 +371,13 @@ fn multiply(
 fn behind_whole(
     alloc: Global,
     place: Place,
-    pending: Pending,
+    pending: Waiting,
     last: Operand,
     to: u32,
     kind: TokenKind,
     span: Span,
 ) -> Result<State, Fault>
-    ensures { Makes result (m.end_step (stack_view place.stack) place.opened place.operators place.statements (m.whole_of (pending_view pending) (operand_view last) to) to (kind_view kind) (span_view span)) }
+    ensures { Makes result (m.end_step (stack_view place.stack) place.opened place.operators place.statements (m.whole_of (waiting_view pending) (operand_view last) to) to (kind_view kind) (span_view span)) }
 {
     let whole = whole(alloc, pending, last, to)?;
     behind_expr(alloc, place, whole, to, kind, span)
@@ -358,81 +387,65 @@ fn behind_whole(
 pub fn have(
     alloc: Global,
     place: Place,
-    pending: Pending,
+    pending: Waiting,
     last: Operand,
     to: u32,
     kind: TokenKind,
     span: Span,
 ) -> Result<State, Fault>
-    ensures { Makes result (m.have_step (stack_view place.stack) place.opened place.operators place.statements (pending_view pending) (operand_view last) to (kind_view kind) (span_view span)) }
+    ensures { Makes result (m.have_step (stack_view place.stack) place.opened place.operators place.statements (waiting_view pending) (operand_view last) to (kind_view kind) (span_view span)) }
 {
     match kind {
-        TokenKind::Mark(Mark::Star) => multiply(alloc, place, pending, last, to),
-        TokenKind::Mark(Mark::Plus) => add(alloc, place, pending, last, to, Op::Add),
-        TokenKind::Mark(Mark::Minus) => add(alloc, place, pending, last, to, Op::Sub),
-        TokenKind::Mark(Mark::DoubleEquals) => compare(alloc, place, pending, last, to, Op::Equal),
-        TokenKind::Mark(Mark::Less) => compare(alloc, place, pending, last, to, Op::Less),
+        TokenKind::Mark(Mark::Star) => multiply(alloc, place, levels(pending), last, to),
+        TokenKind::Mark(Mark::Plus) => add(alloc, place, levels(pending), last, to, Op::Add),
+        TokenKind::Mark(Mark::Minus) => add(alloc, place, levels(pending), last, to, Op::Sub),
+        TokenKind::Mark(Mark::DoubleEquals) => compare(
+            alloc,
+            place,
+            levels(pending),
+            last,
+            to,
+            Op::Equal,
+        ),
+        TokenKind::Mark(Mark::Less) => compare(alloc, place, levels(pending), last, to, Op::Less),
         _ => behind_whole(alloc, place, pending, last, to, kind, span),
     }
 }
 
 /// An operand without brackets round it.
-pub fn operand(alloc: Global, form: ExprForm, span: Span) -> Result<Operand, Fault>
-    ensures { Gives operand_view result (Ok (expr_at form (span_view span), span.from)) }
+pub fn operand(form: ExprForm, span: Span) -> Operand
+    ensures { operand_view result ≡ (expr_at form (span_view span), span.from) }
 {
-    let value = Box::new(alloc, TreeExpr { form, span })?;
-    Ok(Operand {
+    let value = TreeExpr { form, span };
+    Operand {
         value,
         from: span.from,
-    })
-}
-
-fn leaf(
-    alloc: Global,
-    place: Place,
-    pending: Pending,
-    form: ExprForm,
-    span: Span,
-) -> Result<State, Fault>
-    ensures { Makes result (m.Goes (m.state (m.Have (pending_view pending) (expr_at form (span_view span), span.from) span.to) (stack_view place.stack) place.opened place.operators place.statements)) }
-{
-    match operand(alloc, form, span) {
-        Ok(operand) => {
-            let control = Control::Have(pending, operand, span.to);
-            Ok(at(
-                control,
-                place.stack,
-                place.opened,
-                place.operators,
-                place.statements,
-            ))
-        }
-        Err(fault) => failed(fault, (place, pending)),
     }
 }
 
+fn leaf(place: Place, pending: Waiting, form: ExprForm, span: Span) -> State
+    ensures { state_view result ≡ m.state (m.Have (waiting_view pending) (expr_at form (span_view span), span.from) span.to) (stack_view place.stack) place.opened place.operators place.statements }
+{
+    let control = Control::Expr(ExprControl::Have(pending, operand(form, span), span.to));
+    at(
+        control,
+        place.stack,
+        place.opened,
+        place.operators,
+        place.statements,
+    )
+}
+
 /// Where an operand is wanted.
-pub fn want(
-    alloc: Global,
-    place: Place,
-    pending: Pending,
-    kind: TokenKind,
-    span: Span,
-) -> Result<State, Fault>
-    ensures { Makes result (m.want_step (stack_view place.stack) place.opened place.operators place.statements (pending_view pending) (kind_view kind) (span_view span)) }
+pub fn want(place: Place, pending: Waiting, kind: TokenKind, span: Span) -> Result<State, Fault>
+    ensures { Makes result (m.want_step (stack_view place.stack) place.opened place.operators place.statements (waiting_view pending) (kind_view kind) (span_view span)) }
 {
     match kind {
-        TokenKind::Name(text) => leaf(alloc, place, pending, ExprForm::Var(text), span),
-        TokenKind::Integer(value) => leaf(alloc, place, pending, ExprForm::Int(value), span),
-        TokenKind::Str(text) => leaf(alloc, place, pending, ExprForm::Str(text), span),
-        TokenKind::Word(Reserved::True) => leaf(alloc, place, pending, ExprForm::Bool(true), span),
-        TokenKind::Word(Reserved::False) => leaf(
-            alloc,
-            place,
-            pending,
-            ExprForm::Bool(false),
-            span,
-        ),
+        TokenKind::Name(text) => Ok(leaf(place, pending, ExprForm::Var(text), span)),
+        TokenKind::Integer(value) => Ok(leaf(place, pending, ExprForm::Int(value), span)),
+        TokenKind::Str(text) => Ok(leaf(place, pending, ExprForm::Str(text), span)),
+        TokenKind::Word(Reserved::True) => Ok(leaf(place, pending, ExprForm::Bool(true), span)),
+        TokenKind::Word(Reserved::False) => Ok(leaf(place, pending, ExprForm::Bool(false), span)),
         TokenKind::Mark(Mark::RoundOpen) => {
             if !has_room(place.opened, place.operators) {
                 return too_deep((place, pending));
@@ -441,7 +454,7 @@ pub fn want(
             let frame = Frame::Expr(ExprFrame::InBracket(pending, span.from, place.opened));
             let stack = over(frame, place.stack)?;
             Ok(at(
-                Control::Opened,
+                Control::Expr(ExprControl::Opened),
                 stack,
                 opened,
                 place.operators,
@@ -452,13 +465,7 @@ pub fn want(
     }
 }
 
-fn opened_close(
-    alloc: Global,
-    stack: Frames,
-    operators: u32,
-    statements: u32,
-    span: Span,
-) -> Result<State, Fault>
+fn opened_close(stack: Frames, operators: u16, statements: u16, span: Span) -> Result<State, Fault>
     ensures { Makes result (m.opened_close (stack_view stack) operators statements (span_view span)) }
 {
     match top(stack) {
@@ -472,7 +479,7 @@ fn opened_close(
                     operators,
                     statements,
                 };
-                leaf(alloc, place, pending, ExprForm::Unit, whole)
+                Ok(leaf(place, pending, ExprForm::Unit, whole))
             }
             other => refused((other, below)),
         },
@@ -480,22 +487,21 @@ fn opened_close(
 }
 
 /// Behind an opening bracket of an expression.
-pub fn opened(alloc: Global, place: Place, kind: TokenKind, span: Span) -> Result<State, Fault>
+pub fn opened(place: Place, kind: TokenKind, span: Span) -> Result<State, Fault>
     ensures { Makes result (m.opened_step (stack_view place.stack) place.opened place.operators place.statements (kind_view kind) (span_view span)) }
 {
     match kind {
         TokenKind::Mark(Mark::RoundClose) => opened_close(
-            alloc,
             place.stack,
             place.operators,
             place.statements,
             span,
         ),
-        _ => want(alloc, place, nothing(), kind, span),
+        _ => want(place, None, kind, span),
     }
 }
 
-fn first_close(alloc: Global, stack: Frames, statements: u32, span: Span) -> Result<State, Fault>
+fn first_close(alloc: Global, stack: Frames, statements: u16, span: Span) -> Result<State, Fault>
     ensures { Makes result (m.first_close (stack_view stack) statements (span_view span)) }
 {
     match top(stack) {
@@ -520,6 +526,6 @@ pub fn first_arg(alloc: Global, place: Place, kind: TokenKind, span: Span) -> Re
             place.statements,
             span,
         ),
-        _ => want(alloc, place, nothing(), kind, span),
+        _ => want(place, None, kind, span),
     }
 }

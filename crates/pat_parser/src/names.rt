@@ -9,8 +9,9 @@ ghost use Rattle.pat_machine.specs.Answers.{Gives, Makes};
 use crate::declarations::{function_named, interface_named, message_named, param_named};
 use crate::terms::{naming, open, open_here, with_control};
 use pat_machine::{
-    ClauseFrame, ClauseHead, Control, ExprFrame, Fault, Frame, Guarding, Head, LetFrame, Naming,
-    PatternFrame, Place, State, at, boxed_term, name_of, none_before, over, refused,
+    ClauseControl, ClauseFrame, ClauseHead, Control, ExprControl, ExprFrame, Fault, Frame,
+    Guarding, Head, LetFrame, NameControl, Naming, PatternControl, PatternFrame, Place, State,
+    TermControl, at, boxed_term, name_of, over, refused,
 };
 use pat_sequences::Sequence;
 use pat_syntax::{Mark, Span, TokenKind};
@@ -30,7 +31,7 @@ fn let_named(
         TokenKind::Mark(Mark::Equals) => {
             let stack = over(Frame::Let(LetFrame::InBound(name, from)), place.stack)?;
             Ok(at(
-                Control::Start(false),
+                Control::Term(TermControl::Start(false)),
                 stack,
                 place.opened,
                 0,
@@ -45,7 +46,7 @@ fn new_named(
     alloc: Global,
     place: Place,
     from: u32,
-    opened: u32,
+    opened: u16,
     name: Name,
     kind: TokenKind,
     span: Span,
@@ -56,7 +57,7 @@ fn new_named(
         TokenKind::Mark(Mark::SquareClose) => {
             let term = boxed_term(alloc, Form::New(name), from, span.to)?;
             Ok(at(
-                Control::Done(term, from),
+                Control::Term(TermControl::Done(term, from)),
                 place.stack,
                 opened,
                 0,
@@ -71,7 +72,7 @@ fn free_named(
     alloc: Global,
     place: Place,
     from: u32,
-    opened: u32,
+    opened: u16,
     name: Name,
     kind: TokenKind,
     span: Span,
@@ -82,7 +83,7 @@ fn free_named(
         TokenKind::Mark(Mark::RoundClose) => {
             let term = boxed_term(alloc, Form::Free(name), from, span.to)?;
             Ok(at(
-                Control::Done(term, from),
+                Control::Term(TermControl::Done(term, from)),
                 place.stack,
                 opened,
                 0,
@@ -109,7 +110,7 @@ fn guard_named(
                 Frame::Pattern(PatternFrame::InGuarded(name, from)),
                 place.stack,
             )?;
-            let control = Control::WantPattern(none_before(alloc));
+            let control = Control::Pattern(PatternControl::WantPattern(None));
             Ok(at(control, stack, place.opened, 0, place.statements))
         }
         _ => refused((place, name)),
@@ -130,7 +131,7 @@ fn tag_named(
         TokenKind::Mark(Mark::RoundOpen) => {
             let head = Head::ToSend(target, tag);
             let frame = Frame::Expr(ExprFrame::InArgs(head, Sequence::new(alloc), place.opened));
-            open(place, frame, Control::FirstArg)
+            open(place, frame, Control::Expr(ExprControl::FirstArg))
         }
         _ => refused((place, target, tag)),
     }
@@ -150,7 +151,7 @@ fn receive_named(
     match kind {
         TokenKind::Mark(Mark::RoundOpen) => {
             let head = clause_begun(alloc, guard, word, tag)?;
-            open_here(place, Control::FirstBinder(head))
+            open_here(place, Control::Clause(ClauseControl::FirstBinder(head)))
         }
         _ => refused((place, guard, tag)),
     }
@@ -199,7 +200,7 @@ fn binder_named(
             let inside = head.guard.inside;
             let head = binder_added(head, name)?;
             Ok(at(
-                Control::AfterBinders(head),
+                Control::Clause(ClauseControl::AfterBinders(head)),
                 place.stack,
                 inside,
                 0,
@@ -226,7 +227,7 @@ fn from_named(
                 place.stack,
             )?;
             Ok(at(
-                Control::Start(true),
+                Control::Term(TermControl::Start(true)),
                 stack,
                 place.opened,
                 0,
@@ -243,7 +244,7 @@ pub fn want_name(place: Place, what: Naming, kind: TokenKind, span: Span) -> Res
 {
     match kind {
         TokenKind::Name(text) => {
-            let control = Control::GotName(what, name_of(text, span));
+            let control = Control::Name(NameControl::GotName(what, name_of(text, span)));
             Ok(with_control(place, control))
         }
         _ => refused((place, what)),

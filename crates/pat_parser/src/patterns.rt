@@ -5,13 +5,14 @@ ghost use Rattle.pat_grammar.specs.Machine as m;
 ghost use Rattle.pat_syntax.specs.Views.{kind_view};
 ghost use Rattle.pat_primitives.specs.Views.{polarity_view};
 ghost use Rattle.pat_tree.specs.Views.{span_view, name_view, pattern_view, type_view};
-ghost use Rattle.pat_machine.specs.Views.{before_view, held_view, stack_view};
+ghost use Rattle.pat_machine.specs.Views.{before_view, leading_view, held_view, stack_view};
 ghost use Rattle.pat_machine.specs.Answers.{Gives, Makes};
 
 use crate::types::{type_close, type_comma, type_open};
 use pat_machine::{
-    Before, Control, Fault, Frame, Frames, Guarding, PatternFrame, Place, State, at, has_room,
-    name_of, none_before, over, refused, too_deep, top,
+    Before, ClauseControl, Control, Fault, Frame, Frames, Guarding, Leading, PatternControl,
+    PatternFrame, Place, State, at, has_room, leading, name_of, over, parts_before, refused,
+    too_deep, top,
 };
 use pat_primitives::Polarity;
 use pat_sequences::Sequence;
@@ -33,15 +34,15 @@ fn constant(value: i64, span: Span) -> Option<TreePattern>
 
 fn number(
     place: Place,
-    before: Before,
+    before: Leading,
     number: Option<TreePattern>,
     span: Span,
 ) -> Result<State, Fault>
-    ensures { Makes result (m.number_step (stack_view place.stack) place.opened place.operators place.statements (before_view before) (option_map pattern_view number) (span_view span)) }
+    ensures { Makes result (m.number_step (stack_view place.stack) place.opened place.operators place.statements (leading_view before) (option_map pattern_view number) (span_view span)) }
 {
     match number {
         Some(pattern) => {
-            let control = Control::HavePattern(before, pattern, span.to);
+            let control = Control::Pattern(PatternControl::HavePattern(before, pattern, span.to));
             Ok(at(
                 control,
                 place.stack,
@@ -58,16 +59,16 @@ fn number(
 pub fn want_pattern(
     alloc: Global,
     place: Place,
-    before: Before,
+    before: Leading,
     kind: TokenKind,
     span: Span,
 ) -> Result<State, Fault>
-    ensures { Makes result (m.want_pattern (stack_view place.stack) place.opened place.operators place.statements (before_view before) (kind_view kind) (span_view span)) }
+    ensures { Makes result (m.want_pattern (stack_view place.stack) place.opened place.operators place.statements (leading_view before) (kind_view kind) (span_view span)) }
 {
     match kind {
         TokenKind::Name(text) => {
             let pattern = TreePattern::Tag(name_of(text, span));
-            let control = Control::HavePattern(before, pattern, span.to);
+            let control = Control::Pattern(PatternControl::HavePattern(before, pattern, span.to));
             Ok(at(
                 control,
                 place.stack,
@@ -77,7 +78,7 @@ pub fn want_pattern(
             ))
         }
         TokenKind::Integer(value) => number(place, before, constant(value, span), span),
-        TokenKind::Mark(Mark::Star) => star(place, before, span),
+        TokenKind::Mark(Mark::Star) => star(alloc, place, parts_before(alloc, before), span),
         TokenKind::Mark(Mark::RoundOpen) => {
             if !has_room(place.opened, place.operators) {
                 return too_deep((place, before));
@@ -87,7 +88,7 @@ pub fn want_pattern(
                 Frame::Pattern(PatternFrame::InPatternBracket(before, place.opened)),
                 place.stack,
             )?;
-            let control = Control::WantPattern(none_before(alloc));
+            let control = Control::Pattern(PatternControl::WantPattern(None));
             Ok(at(control, stack, opened, place.operators, place.statements))
         }
         _ => refused((place, before)),
@@ -102,7 +103,7 @@ fn with_star(stars: Sequence<Span>, star: Span) -> Result<Sequence<Span>, Fault>
     Ok(stars)
 }
 
-fn star(place: Place, before: Before, span: Span) -> Result<State, Fault>
+fn star(alloc: Global, place: Place, before: Before, span: Span) -> Result<State, Fault>
     ensures { Makes result (m.Opens place.opened place.operators (m.state (m.WantPattern (record { added = held_view before.added; multiplied = held_view before.multiplied; stars = suc (length before.stars) })) (stack_view place.stack) place.opened (suc place.operators) place.statements)) }
 {
     if !has_room(place.opened, place.operators) {
@@ -113,7 +114,7 @@ fn star(place: Place, before: Before, span: Span) -> Result<State, Fault>
         multiplied: before.multiplied,
         stars: with_star(before.stars, span)?,
     };
-    let control = Control::WantPattern(next);
+    let control = Control::Pattern(PatternControl::WantPattern(leading(alloc, next)?));
     Ok(at(
         control,
         place.stack,
@@ -173,11 +174,20 @@ fn product_in(
 }
 
 /// The whole pattern that ends with the factor.
-fn whole(alloc: Global, before: Before, factor: TreePattern) -> Result<TreePattern, Fault>
+fn whole_in(alloc: Global, before: Before, factor: TreePattern) -> Result<TreePattern, Fault>
     ensures { Gives pattern_view result (Ok (m.whole_in (before_view before) (pattern_view factor))) }
 {
     let product = product_in(alloc, before.multiplied, before.stars, factor)?;
     sum(alloc, before.added, product)
+}
+
+fn whole(alloc: Global, before: Leading, factor: TreePattern) -> Result<TreePattern, Fault>
+    ensures { Gives pattern_view result (Ok (m.whole_in (leading_view before) (pattern_view factor))) }
+{
+    match before {
+        None => Ok(factor),
+        Some(before) => whole_in(alloc, Box::into_inner(before), factor),
+    }
 }
 
 fn typed_by(name: Name, polarity: Polarity, pattern: TreePattern, to: u32) -> TreeType
@@ -197,8 +207,8 @@ fn typed_by(name: Name, polarity: Polarity, pattern: TreePattern, to: u32) -> Tr
 
 fn close(
     stack: Frames,
-    operators: u32,
-    statements: u32,
+    operators: u16,
+    statements: u16,
     pattern: TreePattern,
     to: u32,
     span: Span,
@@ -209,7 +219,9 @@ fn close(
         None => refused(pattern),
         Some((frame, below)) => match frame {
             Frame::Pattern(PatternFrame::InPatternBracket(before, opened)) => {
-                let control = Control::HavePattern(before, pattern, span.to);
+                let control = Control::Pattern(PatternControl::HavePattern(
+                    before, pattern, span.to,
+                ));
                 Ok(at(control, below, opened, operators, statements))
             }
             Frame::Pattern(PatternFrame::InTyped(name, polarity)) => type_close(
@@ -221,7 +233,7 @@ fn close(
     }
 }
 
-fn comma(stack: Frames, opened: u32, pattern: TreePattern, to: u32) -> Result<State, Fault>
+fn comma(stack: Frames, opened: u16, pattern: TreePattern, to: u32) -> Result<State, Fault>
     ensures { Makes result (m.pattern_comma (stack_view stack) opened (pattern_view pattern) to) }
 {
     match top(stack) {
@@ -242,8 +254,8 @@ fn guard_open(
     stack: Frames,
     mailbox: Name,
     from: u32,
-    opened: u32,
-    statements: u32,
+    opened: u16,
+    statements: u16,
     pattern: TreePattern,
 ) -> Result<State, Fault>
     ensures { Makes result (m.Opens opened 0 (m.state (m.AtClause true (record { mailbox = name_view mailbox; pattern = pattern_view pattern; from = from; opened = opened; inside = suc opened; statements = statements; clauses = [] })) (stack_view stack) (suc opened) 0 statements)) }
@@ -261,15 +273,15 @@ fn guard_open(
         statements,
         clauses: Vec::new(alloc),
     };
-    let control = Control::AtClause(true, Box::new(alloc, guard)?);
+    let control = Control::Clause(ClauseControl::AtClause(true, Box::new(alloc, guard)?));
     Ok(at(control, stack, inside, 0, statements))
 }
 
 fn open(
     alloc: Global,
     stack: Frames,
-    opened: u32,
-    statements: u32,
+    opened: u16,
+    statements: u16,
     pattern: TreePattern,
     to: u32,
 ) -> Result<State, Fault>
@@ -303,7 +315,7 @@ fn dot(alloc: Global, place: Place, before: Before, factor: TreePattern) -> Resu
         multiplied: Some(Box::new(alloc, product)?),
         stars: Sequence::new(alloc),
     };
-    let control = Control::WantPattern(next);
+    let control = Control::Pattern(PatternControl::WantPattern(leading(alloc, next)?));
     Ok(at(
         control,
         place.stack,
@@ -319,13 +331,13 @@ fn plus(alloc: Global, place: Place, before: Before, factor: TreePattern) -> Res
     if !has_room(place.opened, place.operators) {
         return too_deep((place, before, factor));
     }
-    let sum = whole(alloc, before, factor)?;
+    let sum = whole_in(alloc, before, factor)?;
     let next = Before {
         added: Some(Box::new(alloc, sum)?),
         multiplied: None,
         stars: Sequence::new(alloc),
     };
-    let control = Control::WantPattern(next);
+    let control = Control::Pattern(PatternControl::WantPattern(leading(alloc, next)?));
     Ok(at(
         control,
         place.stack,
@@ -339,17 +351,17 @@ fn plus(alloc: Global, place: Place, before: Before, factor: TreePattern) -> Res
 pub fn have_pattern(
     alloc: Global,
     place: Place,
-    before: Before,
+    before: Leading,
     factor: TreePattern,
     to: u32,
     kind: TokenKind,
     span: Span,
 ) -> Result<State, Fault>
-    ensures { Makes result (m.have_pattern (stack_view place.stack) place.opened place.operators place.statements (before_view before) (pattern_view factor) to (kind_view kind) (span_view span)) }
+    ensures { Makes result (m.have_pattern (stack_view place.stack) place.opened place.operators place.statements (leading_view before) (pattern_view factor) to (kind_view kind) (span_view span)) }
 {
     match kind {
-        TokenKind::Mark(Mark::Dot) => dot(alloc, place, before, factor),
-        TokenKind::Mark(Mark::Plus) => plus(alloc, place, before, factor),
+        TokenKind::Mark(Mark::Dot) => dot(alloc, place, parts_before(alloc, before), factor),
+        TokenKind::Mark(Mark::Plus) => plus(alloc, place, parts_before(alloc, before), factor),
         TokenKind::Mark(Mark::RoundClose) => {
             let pattern = whole(alloc, before, factor)?;
             close(

@@ -10,8 +10,9 @@ ghost use Rattle.pat_syntax.specs.declared.token.TokenKind.TheVariants.{Mark as 
 
 use crate::expressions::{have, operand, want};
 use pat_machine::{
-    BlockFrame, ClauseFrame, ClauseHead, Control, ExprFrame, Fault, Frame, Guarding, Head, Naming,
-    Place, State, at, failed, has_room, name_of, nothing, over, refused, too_deep, within,
+    BlockFrame, ClauseControl, ClauseFrame, ClauseHead, Control, ExprControl, ExprFrame, Fault,
+    Frame, Guarding, Head, NameControl, Naming, Place, State, TermControl, at, has_room, name_of,
+    over, refused, too_deep, within,
 };
 use pat_sequences::Sequence;
 use pat_syntax::{Mark, Reserved, Span, TokenKind};
@@ -23,7 +24,7 @@ pub fn naming(place: Place, naming: Naming) -> State
     ensures { state_view result ≡ m.state (m.WantName (naming_view naming)) (stack_view place.stack) place.opened 0 place.statements }
 {
     at(
-        Control::WantName(naming),
+        Control::Name(NameControl::WantName(naming)),
         place.stack,
         place.opened,
         0,
@@ -83,14 +84,20 @@ fn start_block(place: Place, span: Span) -> Result<State, Fault>
     let opened = place.opened + 1;
     let frame = Frame::Block(BlockFrame::InBlock(span.from, place.opened, place.statements));
     let stack = over(frame, place.stack)?;
-    Ok(at(Control::Start(true), stack, opened, 0, place.statements))
+    Ok(at(
+        Control::Term(TermControl::Start(true)),
+        stack,
+        opened,
+        0,
+        place.statements,
+    ))
 }
 
 fn start_named(place: Place, name: Name) -> State
     ensures { state_view result ≡ m.state (m.Named (name_view name)) (stack_view place.stack) place.opened place.operators place.statements }
 {
     at(
-        Control::Named(name),
+        Control::Term(TermControl::Named(name)),
         place.stack,
         place.opened,
         place.operators,
@@ -103,7 +110,7 @@ fn start_test(place: Place, span: Span) -> Result<State, Fault>
 {
     let stack = over(Frame::Expr(ExprFrame::InTest(span.from)), place.stack)?;
     Ok(at(
-        Control::Want(nothing()),
+        Control::Expr(ExprControl::Want(None)),
         stack,
         place.opened,
         0,
@@ -111,58 +118,46 @@ fn start_test(place: Place, span: Span) -> Result<State, Fault>
     ))
 }
 
-fn start_word(
-    alloc: Global,
-    place: Place,
-    whole: bool,
-    word: Reserved,
-    span: Span,
-) -> Result<State, Fault>
+fn start_word(place: Place, whole: bool, word: Reserved, span: Span) -> Result<State, Fault>
     ensures { Makes result (m.start_step (stack_view place.stack) place.opened place.operators place.statements whole (kind_view (WordToken word)) (span_view span)) }
 {
     match word {
         Reserved::Let => start_let(whole, place, span),
-        Reserved::Print => Ok(with_control(place, Control::AfterPrint(span.from))),
-        Reserved::New => Ok(with_control(place, Control::AfterNew(span.from))),
-        Reserved::Spawn => Ok(with_control(place, Control::AfterSpawn(span.from))),
-        Reserved::Free => Ok(with_control(place, Control::AfterFree(span.from))),
+        Reserved::Print => Ok(with_control(
+            place,
+            Control::Term(TermControl::AfterPrint(span.from)),
+        )),
+        Reserved::New => Ok(with_control(place, Control::Term(TermControl::AfterNew(span.from)))),
+        Reserved::Spawn => Ok(with_control(
+            place,
+            Control::Term(TermControl::AfterSpawn(span.from)),
+        )),
+        Reserved::Free => Ok(with_control(place, Control::Term(TermControl::AfterFree(span.from)))),
         Reserved::If => start_test(place, span),
         Reserved::Guard => Ok(naming(place, Naming::GuardName(span.from))),
-        _ => want(alloc, place, nothing(), TokenKind::Word(word), span),
+        _ => want(place, None, TokenKind::Word(word), span),
     }
 }
 
-fn start_mark(
-    alloc: Global,
-    place: Place,
-    whole: bool,
-    mark: Mark,
-    span: Span,
-) -> Result<State, Fault>
+fn start_mark(place: Place, whole: bool, mark: Mark, span: Span) -> Result<State, Fault>
     ensures { Makes result (m.start_step (stack_view place.stack) place.opened place.operators place.statements whole (kind_view (MarkToken mark)) (span_view span)) }
 {
     match mark {
         Mark::CurlyOpen => start_block(place, span),
-        _ => want(alloc, place, nothing(), TokenKind::Mark(mark), span),
+        _ => want(place, None, TokenKind::Mark(mark), span),
     }
 }
 
 /// Where a term begins. A whole term may be a let.
-pub fn start(
-    alloc: Global,
-    place: Place,
-    whole: bool,
-    kind: TokenKind,
-    span: Span,
-) -> Result<State, Fault>
+pub fn start(place: Place, whole: bool, kind: TokenKind, span: Span) -> Result<State, Fault>
     ensures { Makes result (m.start_step (stack_view place.stack) place.opened place.operators place.statements whole (kind_view kind) (span_view span)) }
 {
     match kind {
         TokenKind::Name(text) => Ok(start_named(place, name_of(text, span))),
-        TokenKind::Word(word) => start_word(alloc, place, whole, word, span),
-        TokenKind::Mark(mark) => start_mark(alloc, place, whole, mark, span),
-        TokenKind::Integer(value) => want(alloc, place, nothing(), TokenKind::Integer(value), span),
-        TokenKind::Str(text) => want(alloc, place, nothing(), TokenKind::Str(text), span),
+        TokenKind::Word(word) => start_word(place, whole, word, span),
+        TokenKind::Mark(mark) => start_mark(place, whole, mark, span),
+        TokenKind::Integer(value) => want(place, None, TokenKind::Integer(value), span),
+        TokenKind::Str(text) => want(place, None, TokenKind::Str(text), span),
     }
 }
 
@@ -176,10 +171,8 @@ fn behind_variable(
     ensures { Makes result (m.have_step (stack_view place.stack) place.opened place.operators place.statements m.nothing (trees.VarExpr name.text (span_view name.span), name.span.from) name.span.to (kind_view kind) (span_view span)) }
 {
     let to = name.span.to;
-    match operand(alloc, ExprForm::Var(name.text), name.span) {
-        Ok(operand) => have(alloc, place, nothing(), operand, to, kind, span),
-        Err(fault) => failed(fault, (place, kind)),
-    }
+    let operand = operand(ExprForm::Var(name.text), name.span);
+    have(alloc, place, None, operand, to, kind, span)
 }
 
 /// Behind a name with which a term begins.
@@ -214,7 +207,13 @@ fn start_args(place: Place, frame: Frame) -> Result<State, Fault>
     }
     let opened = place.opened + 1;
     let stack = over(frame, place.stack)?;
-    Ok(at(Control::FirstArg, stack, opened, 0, place.statements))
+    Ok(at(
+        Control::Expr(ExprControl::FirstArg),
+        stack,
+        opened,
+        0,
+        place.statements,
+    ))
 }
 
 /// Behind `print`.
@@ -224,7 +223,7 @@ pub fn print(place: Place, from: u32, kind: TokenKind, span: Span) -> Result<Sta
     match kind {
         TokenKind::Mark(Mark::RoundOpen) => {
             let frame = Frame::Expr(ExprFrame::InPrint(from, place.opened));
-            open(place, frame, Control::Want(nothing()))
+            open(place, frame, Control::Expr(ExprControl::Want(None)))
         }
         _ => Err(Fault::Unexpected),
     }
@@ -237,7 +236,7 @@ pub fn new(place: Place, from: u32, kind: TokenKind, span: Span) -> Result<State
     match kind {
         TokenKind::Mark(Mark::SquareOpen) => {
             let naming = Naming::NewName(from, place.opened);
-            open_here(place, Control::WantName(naming))
+            open_here(place, Control::Name(NameControl::WantName(naming)))
         }
         _ => Err(Fault::Unexpected),
     }
@@ -250,7 +249,7 @@ pub fn spawn(place: Place, from: u32, kind: TokenKind, span: Span) -> Result<Sta
     match kind {
         TokenKind::Mark(Mark::CurlyOpen) => {
             let frame = Frame::Block(BlockFrame::InSpawn(from, place.opened, place.statements));
-            open(place, frame, Control::Start(true))
+            open(place, frame, Control::Term(TermControl::Start(true)))
         }
         _ => Err(Fault::Unexpected),
     }
@@ -263,7 +262,7 @@ pub fn free(place: Place, from: u32, kind: TokenKind, span: Span) -> Result<Stat
     match kind {
         TokenKind::Mark(Mark::RoundOpen) => {
             let naming = Naming::FreeName(from, place.opened);
-            open_here(place, Control::WantName(naming))
+            open_here(place, Control::Name(NameControl::WantName(naming)))
         }
         _ => Err(Fault::Unexpected),
     }
@@ -283,7 +282,7 @@ pub fn yes(
     match kind {
         TokenKind::Word(Reserved::Else) => Ok(with_control(
             place,
-            Control::AfterElse(test, yes, from),
+            Control::Term(TermControl::AfterElse(test, yes, from)),
         )),
         _ => refused((place, test, yes)),
     }
@@ -309,7 +308,7 @@ pub fn otherwise(
                 place.opened,
                 place.statements,
             ));
-            open(place, frame, Control::Start(true))
+            open(place, frame, Control::Term(TermControl::Start(true)))
         }
         _ => refused((place, test, yes)),
     }
@@ -329,7 +328,7 @@ pub fn free_clause(
         TokenKind::Mark(Mark::Arrow) => {
             let stack = over(Frame::Clause(ClauseFrame::InFree(guard, word)), place.stack)?;
             Ok(at(
-                Control::Start(true),
+                Control::Term(TermControl::Start(true)),
                 stack,
                 place.opened,
                 0,
@@ -351,13 +350,16 @@ pub fn first_binder(
 {
     match kind {
         TokenKind::Name(text) => {
-            let control = Control::GotName(Naming::BinderName(head), name_of(text, span));
+            let control = Control::Name(NameControl::GotName(
+                Naming::BinderName(head),
+                name_of(text, span),
+            ));
             Ok(with_control(place, control))
         }
         TokenKind::Mark(Mark::RoundClose) => {
             let inside = head.guard.inside;
             Ok(at(
-                Control::AfterBinders(head),
+                Control::Clause(ClauseControl::AfterBinders(head)),
                 place.stack,
                 inside,
                 0,

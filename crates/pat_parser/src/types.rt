@@ -11,8 +11,9 @@ ghost use Rattle.pat_machine.specs.Answers.{Makes};
 use crate::declarations::{message_added, param_added};
 use crate::patterns::want_pattern;
 use pat_machine::{
-    BlockFrame, Control, Defining, Fault, Frame, Frames, Interfacing, Naming, PatternFrame, Place,
-    State, TypeFrame, at, has_room, name_of, none_before, over, refused, too_deep, top, with_type,
+    BlockFrame, Control, DeclControl, Defining, Fault, Frame, Frames, Interfacing, NameControl,
+    Naming, PatternControl, PatternFrame, Place, State, TermControl, TypeControl, TypeFrame, at,
+    has_room, name_of, over, refused, too_deep, top, with_type,
 };
 use pat_primitives::{Base, Polarity};
 use pat_sequences::Sequence;
@@ -26,7 +27,7 @@ fn more_payloads(
     payloads: Sequence<TreeType>,
     of: TreeType,
     below: Frames,
-    opened: u32,
+    opened: u16,
 ) -> Result<State, Fault>
     ensures { Makes result (m.Goes (m.state m.WantType (m.AtType (m.InMessage (interfacing_view begun.value) (name_view name) (map type_view payloads ++ type_view of ∷ [])) ∷ stack_view below) opened 0 0)) }
 {
@@ -35,7 +36,7 @@ fn more_payloads(
         Frame::Type(TypeFrame::InMessage(begun, name, payloads)),
         below,
     )?;
-    Ok(at(Control::WantType, stack, opened, 0, 0))
+    Ok(at(Control::Type(TypeControl::WantType), stack, opened, 0, 0))
 }
 
 fn more_params(
@@ -43,13 +44,13 @@ fn more_params(
     name: Name,
     of: TreeType,
     below: Frames,
-    opened: u32,
+    opened: u16,
 ) -> Result<State, Fault>
     ensures { Makes result (m.Goes (m.state (m.WantName (m.ParamName (m.with_param (defining_view begun.value) (name_view name) (type_view of)))) (stack_view below) opened 0 0)) }
 {
     let begun = param_added(begun, name, of)?;
     Ok(at(
-        Control::WantName(Naming::ParamName(begun)),
+        Control::Name(NameControl::WantName(Naming::ParamName(begun))),
         below,
         opened,
         0,
@@ -66,7 +67,13 @@ fn message_end(
     ensures { Makes result (m.Goes (m.state (m.AfterMessage (m.with_message (interfacing_view begun.value) (name_view name) (map type_view payloads))) (stack_view below) 1 0 0)) }
 {
     let begun = message_added(begun, name, payloads)?;
-    Ok(at(Control::AfterMessage(begun), below, 1, 0, 0))
+    Ok(at(
+        Control::Declaration(DeclControl::AfterMessage(begun)),
+        below,
+        1,
+        0,
+        0,
+    ))
 }
 
 fn payloads_end(
@@ -86,14 +93,20 @@ fn params_end(begun: Box<Defining>, name: Name, of: TreeType, below: Frames) -> 
     ensures { Makes result (m.Goes (m.state (m.AfterParams (m.with_param (defining_view begun.value) (name_view name) (type_view of))) (stack_view below) 0 0 0)) }
 {
     let begun = param_added(begun, name, of)?;
-    Ok(at(Control::AfterParams(begun), below, 0, 0, 0))
+    Ok(at(
+        Control::Declaration(DeclControl::AfterParams(begun)),
+        below,
+        0,
+        0,
+        0,
+    ))
 }
 
 fn result_end(
     begun: Box<Defining>,
     of: TreeType,
     below: Frames,
-    opened: u32,
+    opened: u16,
 ) -> Result<State, Fault>
     ensures { Makes result (m.Opens opened 0 (m.state (m.Start true) (m.AtBlock (m.InDef (defining_view begun.value) (type_view of)) ∷ stack_view below) (suc opened) 0 0)) }
 {
@@ -101,11 +114,17 @@ fn result_end(
         return too_deep((begun, of));
     }
     let stack = over(Frame::Block(BlockFrame::InDef(begun, of)), below)?;
-    Ok(at(Control::Start(true), stack, opened + 1, 0, 0))
+    Ok(at(
+        Control::Term(TermControl::Start(true)),
+        stack,
+        opened + 1,
+        0,
+        0,
+    ))
 }
 
 /// A comma behind a type.
-pub fn type_comma(stack: Frames, opened: u32, of: TreeType) -> Result<State, Fault>
+pub fn type_comma(stack: Frames, opened: u16, of: TreeType) -> Result<State, Fault>
     ensures { Makes result (m.type_comma (stack_view stack) opened (type_view of)) }
 {
     match top(stack) {
@@ -139,7 +158,7 @@ pub fn type_close(stack: Frames, of: TreeType) -> Result<State, Fault>
 }
 
 /// A brace behind a type.
-pub fn type_open(stack: Frames, opened: u32, of: TreeType) -> Result<State, Fault>
+pub fn type_open(stack: Frames, opened: u16, of: TreeType) -> Result<State, Fault>
     ensures { Makes result (m.type_open (stack_view stack) opened (type_view of)) }
 {
     match top(stack) {
@@ -151,10 +170,17 @@ pub fn type_open(stack: Frames, opened: u32, of: TreeType) -> Result<State, Faul
     }
 }
 
-/// Behind a type.
-pub fn have_type(place: Place, of: TreeType, kind: TokenKind, span: Span) -> Result<State, Fault>
-    ensures { Makes result (m.type_step (stack_view place.stack) place.opened (type_view of) (kind_view kind) (span_view span)) }
+/// Behind a base type.
+pub fn have_base(
+    place: Place,
+    base: Base,
+    at: Span,
+    kind: TokenKind,
+    span: Span,
+) -> Result<State, Fault>
+    ensures { Makes result (m.type_step (stack_view place.stack) place.opened (trees.BaseType (base_view base) (span_view at)) (kind_view kind) (span_view span)) }
 {
+    let of = TreeType::Base(base, at);
     match kind {
         TokenKind::Mark(Mark::Comma) => type_comma(place.stack, place.opened, of),
         TokenKind::Mark(Mark::RoundClose) => type_close(place.stack, of),
@@ -167,7 +193,7 @@ fn base(place: Place, base: Base, span: Span) -> State
     ensures { state_view result ≡ m.state (m.HaveType (trees.BaseType (base_view base) (span_view span))) (stack_view place.stack) place.opened 0 0 }
 {
     at(
-        Control::HaveType(TreeType::Base(base, span)),
+        Control::Type(TypeControl::HaveBase(base, span)),
         place.stack,
         place.opened,
         0,
@@ -181,7 +207,7 @@ pub fn want_type(place: Place, kind: TokenKind, span: Span) -> Result<State, Fau
 {
     match kind {
         TokenKind::Name(text) => {
-            let control = Control::AfterTypeName(name_of(text, span));
+            let control = Control::Type(TypeControl::AfterTypeName(name_of(text, span)));
             Ok(at(control, place.stack, place.opened, 0, 0))
         }
         TokenKind::Word(Reserved::Unit) => Ok(base(place, Base::Unit, span)),
@@ -219,14 +245,14 @@ fn polarized(
             place.stack,
         )?;
         Ok(at(
-            Control::WantPattern(none_before(alloc)),
+            Control::Pattern(PatternControl::WantPattern(None)),
             stack,
             place.opened,
             0,
             0,
         ))
     } else {
-        let control = Control::AfterPolarity(name, polarity, span.to);
+        let control = Control::Type(TypeControl::AfterPolarity(name, polarity, span.to));
         Ok(at(control, place.stack, place.opened, 0, 0))
     }
 }
@@ -283,7 +309,7 @@ fn polarity_pattern(
         operators: 0,
         statements: 0,
     };
-    want_pattern(alloc, place, none_before(alloc), kind, span)
+    want_pattern(alloc, place, None, kind, span)
 }
 
 /// Behind the polarity of a type that may leave its pattern out.

@@ -14,7 +14,7 @@ pub fn tree_of(alloc: Global, text: &[u8]) -> Result<Option<Tree>, AllocError> {
     let Ok(tokens) = tokens_of(alloc, text, 65536) else {
         return Ok(None);
     };
-    match parse(alloc, tokens.as_slice(), text.len() as u32) {
+    match parse(alloc, tokens, text.len() as u32) {
         Ok(tree) => Ok(Some(tree)),
         Err(_) => Ok(None),
     }

@@ -8,19 +8,19 @@ use Rattle.pat_parser.proofs.Answered.{answered, answered_tree, answered_unexpec
 use Rattle.pat_parser.proofs.machine.parse.Goals as goal
 
 pub returns-clause-answers : goal.returns-clause-answers
-returns-clause-answers c = answered c.args.end (map token_view c.args.tokens.now) c.whole_text.result c.whole_text.ensures
+returns-clause-answers c = answered c.args.end (map token_view c.args.tokens.items) c.whole_text.result c.whole_text.ensures
 
 pub returns-clause-tree : goal.returns-clause-tree
-returns-clause-tree c = answered_tree c.args.end (map token_view c.args.tokens.now) c.whole_text.result c.whole_text.ensures
+returns-clause-tree c = answered_tree c.args.end (map token_view c.args.tokens.items) c.whole_text.result c.whole_text.ensures
 
 pub returns-clause-unexpected : goal.returns-clause-unexpected
-returns-clause-unexpected c = answered_unexpected c.args.end (map token_view c.args.tokens.now) c.whole_text.result c.whole_text.ensures
+returns-clause-unexpected c = answered_unexpected c.args.end (map token_view c.args.tokens.items) c.whole_text.result c.whole_text.ensures
 
 pub returns-clause-too_deep : goal.returns-clause-too_deep
-returns-clause-too_deep c = answered_too_deep c.args.end (map token_view c.args.tokens.now) c.whole_text.result c.whole_text.ensures
+returns-clause-too_deep c = answered_too_deep c.args.end (map token_view c.args.tokens.items) c.whole_text.result c.whole_text.ensures
 
 pub returns-clause-size : goal.returns-clause-size
-returns-clause-size c = subst (λ n. IfOk c.whole_text.result (λ t. tree_size (tree_view t) ≤ 4 * n)) (length-map c.args.tokens.now token_view) (answered_size c.args.end (map token_view c.args.tokens.now) c.whole_text.result c.whole_text.ensures)
+returns-clause-size c = subst (λ n. IfOk c.whole_text.result (λ t. tree_size (tree_view t) ≤ 4 * n)) (length-map c.args.tokens.items token_view) (answered_size c.args.end (map token_view c.args.tokens.items) c.whole_text.result c.whole_text.ensures)
 
 pub returns-clause-named : goal.returns-clause-named
-returns-clause-named c = answered_names c.args.end (map token_view c.args.tokens.now) c.whole_text.result c.whole_text.ensures
+returns-clause-named c = answered_names c.args.end (map token_view c.args.tokens.items) c.whole_text.result c.whole_text.ensures
