@@ -1,5 +1,7 @@
 // The steps from tokens to a program, in the order in which they are answered.
-ghost use Rattle.std.specs.Prelude.{◌≡◌, ◌<◌, ◌≤◌, ℕ, List, IfOk, IfErr, length};
+ghost use Rattle.std.specs.Prelude.{◌≡◌, ◌<◌, ◌≤◌, ℕ, List, OnOk, IfOk, IfErr, length};
+ghost use Rattle.pat_model.specs.Programs.{Program as AnyProgram};
+ghost use Rattle.pat_grammar.specs.Trees.{Tree as AnyTree};
 ghost use Rattle.pat_model.specs.WellFormed.{WellFormed};
 ghost use Rattle.pat_grammar_laws.specs.Counts.{tree_size};
 ghost use Rattle.pat_tree.specs.Views.{tree_view};
@@ -9,6 +11,7 @@ ghost use Rattle.pat_resolution.specs.Views.{places_view};
 ghost use Rattle.pat_lexical.specs.Tokens.{Spanned};
 ghost use Rattle.pat_lexical.specs.Divisions.{Divides};
 ghost use Rattle.pat_parser.specs.Answers.{Explained};
+ghost use Rattle.pat_resolver.specs.Answers.{Explains as ExplainsTree};
 ghost use Rattle.pat_lexer.specs.Reads.{IsAnswer};
 ghost use Rattle.pat_input.specs.Inputs.{IsRead, limit};
 ghost use Rattle.pat_front.specs.Texts.{IsTreeText, IsProgramText, Explains};
@@ -56,11 +59,28 @@ pub fn program_of(alloc: Global, tree: &Tree, end: u32) -> Result<Program, Front
 {
     match pat_resolver::resolve(alloc, tree, end) {
         Ok(program) => Ok(program),
-        Err(ResolveError::Broken { kind, span }) => {
-            let verdict = Verdict::Resolve(kind, span);
-            Err(FrontError::Refused(verdict))
-        }
-        Err(ResolveError::NoMemory) => Err(FrontError::NoMemory),
+        Err(refusal) => Err(of_resolver(refusal)),
+    }
+}
+
+/// Whether the tree of a text that has so many bytes has a program.
+pub fn check_tree(alloc: Global, tree: &Tree, end: u32) -> Result<(), FrontError>
+    requires small { tree_size (tree_view tree.now) < 4294967295 }
+    ensures program { (bytes : List ℕ) → IsTreeText bytes (tree_view tree.now) → end ≡ length bytes → OnOk result ((p : AnyProgram) × IsProgramText bytes (tree_view tree.now) p) }
+    ensures refused { (bytes : List ℕ) → IsTreeText bytes (tree_view tree.now) → end ≡ length bytes → IfErr result (Explains bytes) }
+{
+    match pat_resolver::examine(alloc, tree, end) {
+        Ok(()) => Ok(()),
+        Err(refusal) => Err(of_resolver(refusal)),
+    }
+}
+
+fn of_resolver(refusal: ResolveError) -> FrontError
+    ensures { (bytes : List ℕ) (t : AnyTree) (end : ℕ) → IsTreeText bytes t → end ≡ length bytes → ExplainsTree end t refusal → Explains bytes result }
+{
+    match refusal {
+        ResolveError::Broken { kind, span } => FrontError::Refused(Verdict::Resolve(kind, span)),
+        ResolveError::NoMemory => FrontError::NoMemory,
     }
 }
 

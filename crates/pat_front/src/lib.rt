@@ -5,6 +5,6 @@ mod front;
 mod laws;
 mod verdict;
 
-pub use front::{FrontError, program_of, tree_of};
+pub use front::{FrontError, check_tree, program_of, tree_of};
 pub use laws::verdict_law;
 pub use verdict::{Verdict, verdict_line};

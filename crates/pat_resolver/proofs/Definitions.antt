@@ -9,20 +9,13 @@ use Rattle.pat_names.specs.Findings.{Finding, bodies_findings}
 use Rattle.pat_names.specs.Numbering.{nodes_in, body_scope, functions_from, nodes_from}
 use Rattle.pat_names.specs.Places.{FunctionPlaces, node_places, function_places}
 use Rattle.pat_names_laws.proofs.Binding.{nodes_length}
-use Rattle.pat_resolution.specs.Results.{first_of, Refuses}
-use Rattle.pat_resolution.proofs.Firsts.{first_behind, refuses_front}
-use Rattle.pat_resolution.specs.declared.error.ResolveError.{ResolveError}
-use Rattle.pat_resolution.specs.declared.error.ResolveError.TheVariants.{Broken, NoMemory}
+use Rattle.pat_resolution.specs.Results.{first_of}
+use Rattle.pat_resolution.proofs.Firsts.{first_behind}
 use Rattle.pat_resolver.specs.Steps.{nodes_in_all, result_kind, body_findings, function_nodes}
 
 -- what one more makes, where the rest is still to come
 turn : {A : Type 0} (made made' own rest whole : List A) → made' ≡ made ++ own → made ++ (own ++ rest) ≡ whole → made' ++ rest ≡ whole
 turn made made' own rest whole e f = ap (λ l. l ++ rest) e ∙ append_assoc made own rest ∙ f
-
--- what a refusal of the front says of a list that begins with the same
-same_first : (e : ResolveError) (xs ys : List Finding) → first_of xs ≡ first_of ys → Refuses e xs → Refuses e ys
-same_first (Broken k s) xs ys same r = sym same ∙ r
-same_first NoMemory xs ys same r = tt
 
 abbrev one : tree.Decl → List Definition
 one d = definitions_of (d ∷ [])
@@ -52,10 +45,6 @@ module _ (names : List InterfaceNames) (h : Heads) where
 
   pub found_turn : (d : tree.Decl) (ds : tree.Tree) (whole : Option Finding) → first_of (bodies_findings names h (one d)) ≡ None → first_of (bodies_findings names h (definitions_of (d ∷ ds))) ≡ whole → first_of (bodies_findings names h (definitions_of ds)) ≡ whole
   found_turn d ds whole none all = sym (first_behind (bodies_findings names h (one d)) (bodies_findings names h (definitions_of ds)) none) ∙ ap first_of (sym (found_more d ds)) ∙ all
-
-  pub found_stop : (e : ResolveError) (d : tree.Decl) (ds : tree.Tree) (whole : List Finding) → Refuses e (bodies_findings names h (one d)) → first_of (bodies_findings names h (definitions_of (d ∷ ds))) ≡ first_of whole → Refuses e whole
-  found_stop e d ds whole r all =
-      same_first e (bodies_findings names h (one d) ++ bodies_findings names h (definitions_of ds)) whole (ap first_of (sym (found_more d ds)) ∙ all) (refuses_front e (bodies_findings names h (one d)) (bodies_findings names h (definitions_of ds)) r)
 
   functions_more : (n k : ℕ) (d : tree.Decl) (ds : tree.Tree) → k ≡ n + nodes_in_all (one d) → functions_from names h n (definitions_of (d ∷ ds)) ≡ functions_from names h n (one d) ++ functions_from names h k (definitions_of ds)
   functions_more n k (tree.InterfaceDecl x ms) ds e = let same : n ≡ k = omega (arith, e) in ap (λ i. functions_from names h i (definitions_of ds)) same

@@ -10,6 +10,7 @@ ghost use Rattle.pat_names.specs.Places.{node_places, var_places, function_place
 ghost use Rattle.pat_core.specs.Views.{kind_view, sort_view, function_view, node_view};
 ghost use Rattle.pat_tree.specs.Views.{span_view, param_view, term_view, decl_view};
 ghost use Rattle.pat_tables.specs.Views.{scope_view};
+ghost use Rattle.pat_tree.specs.declared.pattern.Name.{Name as AnyName};
 ghost use Rattle.pat_resolution.specs.Results.{Meets};
 ghost use Rattle.pat_resolution.specs.Views.{function_places};
 ghost use Rattle.pat_heads.specs.Names.{names_view};
@@ -200,4 +201,59 @@ pub fn resolve_functions(
         resolve_decl(alloc, heads, &mut made, decl)?;
     }
     Ok(made)
+}
+
+/// Examines a function's body. Nothing is in scope before and behind it.
+fn check_function(
+    alloc: Global,
+    heads: &Heads,
+    scope: &mut ScopeTable,
+    params: &[Param],
+    outcome: &TreeType,
+    body: &Term,
+) -> Result<(), ResolveError>
+    requires none { scope.old ≡ [] }
+    requires names { length params.now + binders_in (term_view body.now) < 2 ^ 32 }
+    ensures found { (name : AnyName) → Meets result (body_findings (names_view heads.now.names) (heads_view heads.now) (definition_view name params.now outcome.now body.now)) }
+    ensures scope { OnOk result (scope.new ≡ []) }
+{
+    let head = number_head(alloc, heads, params, outcome)?;
+    examine(alloc, heads, scope, params, &head, body)?;
+    scope.pop(params.len());
+    Ok(())
+}
+
+/// Examines the body of a declared function. An interface has none.
+fn check_decl(
+    alloc: Global,
+    heads: &Heads,
+    scope: &mut ScopeTable,
+    decl: &Decl,
+) -> Result<(), ResolveError>
+    requires none { scope.old ≡ [] }
+    requires names { decl_size (decl_view decl.now) < 2 ^ 32 }
+    ensures found { Meets result (bodies_findings (names_view heads.now.names) (heads_view heads.now) (definitions_of (decl_view decl.now ∷ []))) }
+    ensures scope { OnOk result (scope.new ≡ []) }
+{
+    match decl {
+        Decl::Interface { .. } => Ok(()),
+        Decl::Def {
+            params,
+            result,
+            body,
+            ..
+        } => check_function(alloc, heads, scope, params.as_slice(), result, body),
+    }
+}
+
+/// Examines the bodies of all functions in the order of the text.
+pub fn check_functions(alloc: Global, heads: &Heads, decls: &[Decl]) -> Result<(), ResolveError>
+    requires { tree_size (map decl_view decls.now) < 4294967295 }
+    ensures { Meets result (bodies_findings (names_view heads.now.names) (heads_view heads.now) (definitions_of (map decl_view decls.now))) }
+{
+    let mut scope = ScopeTable::new(alloc);
+    for decl in decls {
+        check_decl(alloc, heads, &mut scope, decl)?;
+    }
+    Ok(())
 }

@@ -6,4 +6,4 @@ mod functions;
 mod heads;
 mod whole;
 
-pub use whole::resolve;
+pub use whole::{examine, resolve};

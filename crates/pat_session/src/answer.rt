@@ -16,7 +16,7 @@ use crate::straight::is_straight_line;
 use crate::{Command, Status};
 use pat_core::Program;
 use pat_executable::Executable;
-use pat_front::{FrontError, Verdict, program_of, tree_of, verdict_line};
+use pat_front::{FrontError, Verdict, check_tree, program_of, tree_of, verdict_line};
 use pat_input::Input;
 use pat_reduce::Outcome;
 use pat_tree::Tree;
@@ -50,8 +50,8 @@ fn answer_print(alloc: Global, tree: &Tree, end: u32) -> Result<(Vec<u8>, Status
     requires small { tree_size (tree_view tree.now) < 4294967295 }
     ensures { (bytes : List ℕ) → IsTreeText bytes (tree_view tree.now) → end ≡ length bytes → IfOk result (λ a. AllowedPrint bytes a.0.items a.1) }
 {
-    match program_of(alloc, tree, end) {
-        Ok(_program) => Ok((pat_print::print(alloc, tree)?, Status::Ok)),
+    match check_tree(alloc, tree, end) {
+        Ok(()) => Ok((pat_print::print(alloc, tree)?, Status::Ok)),
         Err(error) => refused(alloc, error),
     }
 }
