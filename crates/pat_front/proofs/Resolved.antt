@@ -1,24 +1,15 @@
 -- What a resolver's answer says of a text.
-use Rattle.std.proofs.Common.{◌≡◌, ℕ, List, [], ◌∷◌, length, Some, None, refl, sym, subst}
+use Rattle.std.proofs.Common.{◌≡◌, ℕ, List, [], length, None, sym, subst}
 use Rattle.pat_model.specs.Programs.{Program}
 use Rattle.pat_model.specs.WellFormed.{WellFormed}
 use Rattle.pat_grammar.specs.Trees.{Tree}
-use Rattle.pat_names.specs.Findings.{Finding, findings}
+use Rattle.pat_names.specs.Findings.{findings}
 use Rattle.pat_names.specs.Numbering.{numbered}
-use Rattle.pat_names.specs.Claims.{IsRefused}
 use Rattle.pat_names_laws.proofs.Whole.{well_formed}
 use Rattle.pat_names_laws.proofs.Written.{tokens_sound, tree_written}
 use Rattle.pat_resolution.specs.Results.{first_of}
 use Rattle.pat_resolution.proofs.Firsts.{first_none}
 use Rattle.pat_front.specs.Texts.{IsTreeText, IsProgramText}
-
-refused_list : (end : ℕ) (t : Tree) (x : Finding) (fs : List Finding) → findings end t ≡ fs → first_of fs ≡ Some x → IsRefused end t x
-refused_list end t x [] same first = cc
-refused_list end t x (y ∷ behind) same first = let e : y ≡ x = cc in record { behind = behind; first = subst (λ z. findings end t ≡ z ∷ behind) e same }
-
-pub refused_text : (bytes : List ℕ) (t : Tree) (end : ℕ) (x : Finding) → IsTreeText bytes t → end ≡ length bytes → first_of (findings end t) ≡ Some x → (u : Tree) × IsTreeText bytes u × IsRefused (length bytes) u x
-refused_text bytes t end x text same first =
-    (t, text, subst (λ n. IsRefused n t x) same (refused_list end t x (findings end t) refl first))
 
 pub program_text : (bytes : List ℕ) (t : Tree) (p : Program) (end : ℕ) → IsTreeText bytes t → end ≡ length bytes → first_of (findings end t) ≡ None → p ≡ numbered t → IsProgramText bytes t p
 program_text bytes t p end text same none is =

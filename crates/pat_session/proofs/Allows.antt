@@ -1,24 +1,22 @@
 -- What an answer allows, and what follows from it.
-use Rattle.std.proofs.Common.{◌≡◌, ◌≤◌, ℕ, true, false, List, [], ◌∷◌, length, Option, Result, Ok as Done, Err as Failed, Vec, Global, refl, sym, ap, ◌∙◌, subst, inl, inr, ⊎_elim, ◌⊎◌, arith}
-use Rattle.std.specs.Prelude.{IfOk, codes}
-use Rattle.std.specs.Io.KnownBytes.{IsAtEnd, Appends}
+use Rattle.std.proofs.Common.{◌≡◌, ℕ, true, List, [], ◌∷◌, length, Option, Result, Ok as Done, Err as Failed, Vec, Global, refl, sym, ap, ◌∙◌, subst, inl, inr, ⊎_elim, ◌⊎◌, arith}
+use Rattle.std.specs.Prelude.{IfOk}
+use Rattle.std.specs.Io.KnownBytes.{Appends}
 use Rattle.pat_model.specs.Programs.{Program}
 use Rattle.pat_model.specs.Runs.{Outcome, EndDone, EndWaiting, EndFull, EndBudget}
 use Rattle.pat_model.specs.Faults.{IsSafe}
 use Rattle.pat_grammar.specs.Trees.{Tree}
-use Rattle.pat_canonical.specs.Text.{canonical_text}
 use Rattle.pat_plain.specs.Straight.{is_straight}
 use Rattle.pat_input.specs.Inputs.{IsInput}
 use Rattle.pat_front.specs.Lines.{line_of_verdict}
 use Rattle.pat_front.specs.Texts.{IsProgramText, IsRefusal}
 use Rattle.pat_front.specs.declared.verdict.Verdict.{Verdict}
-use Rattle.pat_front.specs.declared.verdict.Verdict.TheVariants.{NotYet}
 use Rattle.pat_session.specs.declared.status.Status.{Status}
 use Rattle.pat_session.specs.declared.status.Status.TheVariants.{Ok, Refused, Usage, ReadFault, WriteFault, NoMemory, Budget}
 use Rattle.pat_session.specs.declared.words.Command.{Command}
 use Rattle.pat_session.specs.declared.words.Command.TheVariants.{Print, Run}
 use Rattle.pat_session.specs.Ports.{IsCutShort, Written}
-use Rattle.pat_session.specs.Allowed.{IsCommand, HasCommand, EndsWith, RunShows, IsRunnable, IsRunRefusal, AllowedPrint, AllowedRun, AllowedTo, Allowed, usage_line}
+use Rattle.pat_session.specs.Allowed.{IsCommand, HasCommand, EndsWith, RunShows, IsRunnable, AllowedPrint, AllowedRun, AllowedTo, Allowed, usage_line}
 use Rattle.pat_session.specs.Answers.{Completes, BreaksOff, Answers, IsAccepted, AcceptsSafe, ShowsRun, ShowsTree, ShowsVerdict}
 
 -- ---- words

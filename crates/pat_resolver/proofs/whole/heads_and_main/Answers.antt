@@ -1,5 +1,5 @@
 use Rattle.std.proofs.lemmas.Result.{err_from_is_err_and}
-use Rattle.std.proofs.Common.{◌≡◌, List, [], ◌++◌, length, map, refl, ap, subst, arith, append-nil}
+use Rattle.std.proofs.Common.{List, [], ◌++◌, length, map, ap, subst, arith, append-nil}
 use Rattle.std.proofs.lemmas.List.{length-map}
 use Rattle.pat_names.specs.Heads.{interface_names}
 use Rattle.pat_names.specs.Findings.{heads_findings, main_findings, main_of}
