@@ -31,9 +31,8 @@ pub tokens_few : (text : List ℕ) (tokens : List Spanned) → Divides text toke
 tokens_few text tokens (to, reaches) = let few = reached 0 to text [] tokens reaches in omega (arith, few)
 
 -- so the tree of a text is small
-pub small_tree : {A : Type 0} (view : A → Spanned) (bytes : List ℕ) (items slice : List A) (size : ℕ) → slice ≡ items → length bytes ≤ 1048576 → Divides bytes (map view items) → size ≤ 4 * length slice → size < 4294967295
-small_tree view bytes items slice size same small divides few =
+pub small_tree : {A : Type 0} (view : A → Spanned) (bytes : List ℕ) (items : List A) (size : ℕ) → length bytes ≤ 1048576 → Divides bytes (map view items) → size ≤ 4 * length items → size < 4294967295
+small_tree view bytes items size small divides few =
     let as_many = length-map items view in
     let tokens = tokens_few bytes (map view items) divides in
-    let long = ap length same in
-    omega (arith, as_many, tokens, long, small, few)
+    omega (arith, as_many, tokens, small, few)

@@ -1,5 +1,4 @@
-use Rattle.std.proofs.Common.{sym, subst, map}
-use Rattle.pat_lexical.specs.Divisions.{Divides}
+use Rattle.std.proofs.Common.{subst, map}
 use Rattle.pat_syntax.specs.Views.{token_view}
 use Rattle.pat_parser.specs.Answers.{Explained}
 use Rattle.pat_input.specs.Inputs.{IsRead}
@@ -9,9 +8,9 @@ use Rattle.pat_front.proofs.front.tree_of.Goals as goal
 pub returns-in-Ok-clause-size : goal.returns-in-Ok-clause-size
 returns-in-Ok-clause-size c = λ bytes read.
     let given = subst (IsRead bytes) c.in-Tokens.is read in
-    small_tree token_view bytes c.in-Tokens.tokens.items c.as_slice.result.now _ c.as_slice.ensures.value given.0 given.1 c.in-Ok.ensures.size
+    small_tree token_view bytes c.in-Tokens.tokens.items _ given.0 given.1 c.in-Ok.ensures.size
 
 pub returns-clause-refused : goal.returns-clause-refused
 returns-clause-refused c = λ bytes read.
     let given = subst (IsRead bytes) c.in-Tokens.is read in
-    c.of_parser.ensures bytes (map token_view c.as_slice.result.now) given.0 (subst (λ xs. Divides bytes (map token_view xs)) (sym c.as_slice.ensures.value) given.1) (subst (λ n. Explained n (map token_view c.as_slice.result.now) c.in-Err.refusal) given.2 c.in-Err.ensures.answers)
+    c.of_parser.ensures bytes (map token_view c.in-Tokens.tokens.items) given.0 given.1 (subst (λ n. Explained n (map token_view c.in-Tokens.tokens.items) c.in-Err.refusal) given.2 c.in-Err.ensures.answers)
