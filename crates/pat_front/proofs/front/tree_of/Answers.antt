@@ -10,7 +10,7 @@ returns-in-Ok-clause-size c = λ bytes read.
     let given = subst (IsRead bytes) c.in-Tokens.is read in
     small_tree token_view bytes c.in-Tokens.tokens.items _ given.0 given.1 c.in-Ok.ensures.size
 
-pub returns-clause-refused : goal.returns-clause-refused
-returns-clause-refused c = λ bytes read.
+pub returns-in-Err-clause-refused : goal.returns-in-Err-clause-refused
+returns-in-Err-clause-refused c = λ bytes read.
     let given = subst (IsRead bytes) c.in-Tokens.is read in
     c.of_parser.ensures bytes (map token_view c.in-Tokens.tokens.items) given.0 given.1 (subst (λ n. Explained n (map token_view c.in-Tokens.tokens.items) c.in-Err.refusal) given.2 c.in-Err.ensures.answers)
