@@ -1,12 +1,12 @@
 // Measures how fast the lexer reads ordinary program text.
 #![tactic(auto)]
 
-use lexer_pieces::tokens_of;
 use pat_lexer::LexError;
 use pat_syntax::Token;
 use std::alloc::{AllocError, Global};
 use std::time::Instant;
 use std::{env, io};
+use test_lexer::tokens_of;
 
 /// Ordinary program text: names of some length, words, marks, numbers, strings and a comment.
 const TEXT: &str = "// A cell that keeps one number, and whoever asks for it.

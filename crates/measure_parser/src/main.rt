@@ -1,8 +1,6 @@
 //! Measures how fast programs are read, and how the time grows with their size.
 #![tactic(auto)]
 
-use lexer_pieces::tokens_of;
-use parser_texts::{CELL, append};
 use pat_parser::parse;
 use pat_syntax::Token;
 use pat_tree::Tree;
@@ -10,6 +8,8 @@ use std::alloc::{AllocError, Global};
 use std::rt::Clock;
 use std::time::Instant;
 use std::{env, io};
+use test_lexer::tokens_of;
+use test_parser::{CELL, append};
 
 /// Which text is read.
 #[derive(Clone, Copy, Debug)]

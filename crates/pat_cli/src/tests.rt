@@ -4,7 +4,7 @@ use super::pat;
 use super::texts::TEXTS;
 use pat_front::Verdict;
 use pat_ports::{MemSink, MemSource, OpenGate};
-use pat_resolution::ResolveKind;
+use pat_resolver_answers::ResolveKind;
 use pat_session::Status;
 use pat_syntax::Span;
 use std::alloc::{AllocError, Global};

@@ -5,7 +5,7 @@ use Rattle.pat_model.specs.Values.{BaseUnit}
 use Rattle.pat_model.specs.Programs.{Sending, Receiving, is_free}
 use Rattle.pat_model.specs.Faults.{IsSafe}
 use Rattle.pat_typing.specs.Types.{Second, Returnable, MailboxType, TypeOf, BaseTerm, MailboxTerm, mailbox_type}
-use Rattle.pat_safety.proofs.Safe.{typable_safe}
+use Rattle.pat_safety_laws.proofs.Safe.{typable_safe}
 use Rattle.pat_examples.specs.Safe.{one_message, future, pump, delegation, swap, crossed, turned}
 use Rattle.pat_examples.proofs.FitTests.{program_fits, well_formed}
 use Rattle.pat_examples.proofs.TypeTests.{lines_type, typable}

@@ -11,7 +11,7 @@ use Rattle.pat_model.specs.Values.{BaseUnit, Kind, MailboxOf, Expr, VarExpr, Lit
 use Rattle.pat_model.specs.Programs.{Program, Polarity, Sending, Receiving, Sort, TagDecl, Function, Clause, Core, Val, Let, Call, If, Print, New, Send, Spawn, Guard, Node, node_at, function_at, tag_at, is_among, clause_binders}
 use Rattle.pat_typing.specs.Types.{Usage, Second, Returnable, MailboxType, TypeOf, BaseTerm, MailboxTerm, kind_of_type, mailbox_type, UsageFits, PatternFits, Fits, TypeFits, MayDrop, TypeEnv, PassesTo, EnvPasses, PatternJoins, Joins, SplitsTo, EnvSplits, no_types, with_type, without, returnable}
 use Rattle.pat_typing.specs.Typings.{Typing, param_type, result_type, payload_sort, payload_type, with_option, args_need, mailbox_args, with_payloads, clause_env, HasMailboxPayload, ClauseTyped, is_received, NamePasses, ValueTyped, without_name, name_type, NewTyped, CoreTyped, HasWord, TypeHasWord, NodeTyped, FunctionTyped, IsTyping, IsTypable, sort_type}
-use Rattle.pat_steps.proofs.Lists.{clash}
+use Rattle.pat_model_laws.proofs.Lists.{clash}
 use Rattle.pat_examples.specs.Unsafe.{TypedBut}
 use Rattle.pat_examples.proofs.Tests.{all_upto, upto, all_of, all_true, all_from, at_each, all_differ, differ, below_true, asked}
 use Rattle.pat_examples.proofs.Inclusion.{includes, includes_to}

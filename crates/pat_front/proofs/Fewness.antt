@@ -4,7 +4,7 @@ use Rattle.std.proofs.lemmas.List.{length-map}
 use Rattle.pat_lexical.specs.Tokens.{Spanned}
 use Rattle.pat_lexical.specs.Lexemes.{Lexeme, Whole, Begins}
 use Rattle.pat_lexical.specs.Divisions.{Reaches, here, over, token, Divides}
-use Rattle.pat_lexical.proofs.Classes.{lexeme_front}
+use Rattle.pat_lexical_laws.proofs.Classes.{lexeme_front}
 
 -- a lexeme has a byte
 some_byte : (lexeme : Lexeme) (own rest : List ℕ) → Begins lexeme own rest → 1 ≤ length own

@@ -2,18 +2,18 @@
 use Rattle.std.proofs.Common.{◌≡◌, ◌<◌, ◌≤◌, ℕ, List, [], ◌∷◌, length, map, Option, Some, None, Result, Ok, Err, refl, ap, sym, ◌∙◌, arith, ⊎_elim}
 use Rattle.pat_lexical.specs.Tokens.{Spanned}
 use Rattle.pat_lexical.specs.Divisions.{Divides, IsRefused, Refusal, BadToken, NumberTooWide}
-use Rattle.pat_lexical.proofs.Reaching.{one_division, one_refusal, not_both}
+use Rattle.pat_lexical_laws.proofs.Reaching.{one_division, one_refusal, not_both}
 use Rattle.pat_model.specs.Programs.{Program}
 use Rattle.pat_grammar.specs.Trees.{Tree, Span as Place}
 use Rattle.pat_grammar.specs.Items.{bound_item}
 use Rattle.pat_grammar.specs.Machine.{Fault, Unexpected, TooDeep, parsed}
 use Rattle.pat_grammar_laws.proofs.Exact.{exact_answer}
-use Rattle.pat_machine.specs.Views.{limits}
+use Rattle.pat_parser_states.specs.Views.{limits}
 use Rattle.pat_names.specs.Findings.{Rule, Finding, findings}
 use Rattle.pat_names.specs.Findings as rule
-use Rattle.pat_resolution.specs.Views.{rule_view, finding_view}
-use Rattle.pat_resolution.specs.declared.error.ResolveKind.{ResolveKind}
-use Rattle.pat_resolution.specs.declared.error.ResolveKind.TheVariants as kind
+use Rattle.pat_resolver_answers.specs.Views.{rule_view, finding_view}
+use Rattle.pat_resolver_answers.specs.declared.error.ResolveKind.{ResolveKind}
+use Rattle.pat_resolver_answers.specs.declared.error.ResolveKind.TheVariants as kind
 use Rattle.pat_syntax.specs.declared.span.Span.{Span}
 use Rattle.pat_input.specs.Inputs.{limit}
 use Rattle.pat_front.specs.declared.verdict.Verdict.{Verdict}

@@ -7,8 +7,8 @@ use Rattle.pat_names.specs.Findings.{findings}
 use Rattle.pat_names.specs.Numbering.{numbered}
 use Rattle.pat_names_laws.proofs.Whole.{well_formed}
 use Rattle.pat_names_laws.proofs.Written.{tokens_sound, tree_written}
-use Rattle.pat_resolution.specs.Results.{first_of}
-use Rattle.pat_resolution.proofs.Firsts.{first_none}
+use Rattle.pat_resolver_answers.specs.Results.{first_of}
+use Rattle.pat_resolver_answers.proofs.Firsts.{first_none}
 use Rattle.pat_front.specs.Texts.{IsTreeText, IsProgramText}
 
 pub program_text : (bytes : List ℕ) (t : Tree) (p : Program) (end : ℕ) → IsTreeText bytes t → end ≡ length bytes → first_of (findings end t) ≡ None → p ≡ numbered t → IsProgramText bytes t p

@@ -2,8 +2,8 @@
 use Rattle.std.specs.Prelude.{ℕ, List, [], ◌∷◌, ◌++◌, codes}
 use Rattle.std.specs.Fmt.{decimal}
 use Rattle.pat_syntax.specs.declared.span.Span.{Span}
-use Rattle.pat_resolution.specs.declared.error.ResolveKind.{ResolveKind}
-use Rattle.pat_resolution.specs.declared.error.ResolveKind.TheVariants as kind
+use Rattle.pat_resolver_answers.specs.declared.error.ResolveKind.{ResolveKind}
+use Rattle.pat_resolver_answers.specs.declared.error.ResolveKind.TheVariants as kind
 use Rattle.pat_front.specs.declared.verdict.Verdict.{Verdict}
 use Rattle.pat_front.specs.declared.verdict.Verdict.TheVariants as verdict
 

@@ -5,10 +5,10 @@ use Rattle.pat_lexical.specs.Divisions.{Divides, IsRefused, BadToken as BadToken
 use Rattle.pat_model.specs.Programs.{Program}
 use Rattle.pat_grammar.specs.Trees.{Tree}
 use Rattle.pat_grammar.specs.Claims.{SpellsTree, IsUnexpected, IsTooDeep}
-use Rattle.pat_machine.specs.Views.{limits}
+use Rattle.pat_parser_states.specs.Views.{limits}
 use Rattle.pat_names.specs.Claims as names
-use Rattle.pat_plain.specs.Straight.{is_straight}
-use Rattle.pat_resolution.specs.Views.{finding_view}
+use Rattle.pat_plain_laws.specs.Straight.{is_straight}
+use Rattle.pat_resolver_answers.specs.Views.{finding_view}
 use Rattle.pat_input.specs.Inputs.{limit}
 use Rattle.pat_front.specs.declared.front.FrontError.{FrontError}
 use Rattle.pat_front.specs.declared.front.FrontError.TheVariants as error

@@ -7,7 +7,7 @@ ghost use Rattle.pat_grammar_laws.specs.Counts.{tree_size};
 ghost use Rattle.pat_tree.specs.Views.{tree_view};
 ghost use Rattle.pat_core.specs.Views.{program_view};
 ghost use Rattle.pat_names.specs.Places.{places};
-ghost use Rattle.pat_resolution.specs.Views.{places_view};
+ghost use Rattle.pat_resolver_answers.specs.Views.{places_view};
 ghost use Rattle.pat_lexical.specs.Tokens.{Spanned};
 ghost use Rattle.pat_lexical.specs.Divisions.{Divides};
 ghost use Rattle.pat_parser.specs.Answers.{Explained};
@@ -21,7 +21,7 @@ use pat_core::Program;
 use pat_input::Input;
 use pat_lexer::LexError;
 use pat_parser::ParseError;
-use pat_resolution::ResolveError;
+use pat_resolver_answers::ResolveError;
 use pat_tree::Tree;
 use std::alloc::Global;
 

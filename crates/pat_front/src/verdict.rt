@@ -4,7 +4,7 @@ ghost use Rattle.std.specs.Fmt.{decimal};
 ghost use Rattle.pat_front.specs.Lines.{rule_words, place_words, verdict_text, line_of_verdict};
 
 use pat_decimal::push_number;
-use pat_resolution::ResolveKind;
+use pat_resolver_answers::ResolveKind;
 use pat_syntax::Span;
 use std::alloc::{AllocError, Global};
 

@@ -7,11 +7,11 @@ use Rattle.pat_lexical.specs.Tokens.{Token, Spanned, Mark}
 use Rattle.pat_lexical.specs.Lexemes.{Whole, Begins, NothingFits, NoLonger}
 use Rattle.pat_lexical.specs.Divisions.{Reaches, IsRefused, BadToken}
 use Rattle.pat_lexical.specs.Characters.{is_blank, Each, IsNameText, continues_name}
-use Rattle.pat_lexical.proofs.Texts.{encode_some}
-use Rattle.pat_lexical.proofs.Reaching.{over_more}
-use Rattle.pat_lexical.proofs.Beginnings.{blank_begins}
-use Rattle.pat_lexical.proofs.MarkBeginnings.{mark_begins}
-use Rattle.pat_lexical.proofs.NameBeginnings.{name_begins, word_begins, NoMoreName}
+use Rattle.pat_lexical_laws.proofs.Texts.{encode_some}
+use Rattle.pat_lexical_laws.proofs.Reaching.{over_more}
+use Rattle.pat_lexical_laws.proofs.Beginnings.{blank_begins}
+use Rattle.pat_lexical_laws.proofs.MarkBeginnings.{mark_begins}
+use Rattle.pat_lexical_laws.proofs.NameBeginnings.{name_begins, word_begins, NoMoreName}
 use Rattle.pat_lexer.specs.declared.unfinished.Unfinished.{Unfinished}
 use Rattle.pat_lexer.specs.declared.unfinished.Unfinished.TheVariants.{Nothing}
 use Rattle.pat_lexer.specs.Bytes.{is_name_byte}

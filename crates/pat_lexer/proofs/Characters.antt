@@ -10,12 +10,12 @@ use Rattle.unicode_ident.proofs.IdentLemmas.{is_xid_start-is_xid_continue, is_xi
 use Rattle.pat_lexical.specs.Characters.{starts_name, continues_name, is_plain, is_in_line, Each, IsUnfinished, IsNameText}
 use Rattle.pat_lexical.specs.Lexemes.{NothingFits}
 use Rattle.pat_lexical.specs.Divisions.{Reaches}
-use Rattle.pat_lexical.proofs.Runs.{both, Each-append}
-use Rattle.pat_lexical.proofs.Texts.{encode_some}
-use Rattle.pat_lexical.proofs.Reaching.{token_more}
-use Rattle.pat_lexical.proofs.Strings.{quotes_append, quotes_plain}
-use Rattle.pat_lexical.proofs.NameBeginnings.{NoMoreName, name_more, name_of_one}
-use Rattle.pat_lexical.proofs.Faults.{no_name, no_string, no_end_character, no_comment_text, NoEnd}
+use Rattle.pat_lexical_laws.proofs.Runs.{both, Each-append}
+use Rattle.pat_lexical_laws.proofs.Texts.{encode_some}
+use Rattle.pat_lexical_laws.proofs.Reaching.{token_more}
+use Rattle.pat_lexical_laws.proofs.Strings.{quotes_append, quotes_plain}
+use Rattle.pat_lexical_laws.proofs.NameBeginnings.{NoMoreName, name_more, name_of_one}
+use Rattle.pat_lexical_laws.proofs.Faults.{no_name, no_string, no_end_character, no_comment_text, NoEnd}
 use Rattle.pat_lexer.specs.declared.unfinished.Unfinished.{Unfinished}
 use Rattle.pat_lexer.specs.declared.unfinished.Unfinished.TheVariants.{Nothing, Name, Integer, Str, Escape, Equals, Minus, Slash, Comment}
 use Rattle.pat_lexer.specs.Fronts.{IsCut}

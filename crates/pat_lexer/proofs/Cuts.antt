@@ -4,7 +4,7 @@ use Rattle.std.proofs.lemmas.List.{take-append-drop}
 use Rattle.std.proofs.lemmas.Str.{IsUtf8-encode, encode_same}
 use Rattle.std.specs.Str.{IsUtf8, StartsWithNoChar, encode_utf8_all, all_scalars}
 use Rattle.std.specs.Char.{encode_utf8, IsScalar}
-use Rattle.pat_lexical.proofs.Texts.{utf8_front, scalars_first, encode_some}
+use Rattle.pat_lexical_laws.proofs.Texts.{utf8_front, scalars_first, encode_some}
 use Rattle.pat_lexer.specs.Fronts.{IsCut}
 
 -- the same list without its last

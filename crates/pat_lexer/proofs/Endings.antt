@@ -4,8 +4,8 @@ use Rattle.std.specs.Result.{IfOk, IfErr}
 use Rattle.std.proofs.lemmas.Bool.Decides.{nat_tests}
 use Rattle.pat_lexical.specs.Characters.{is_digit, is_in_line, FrontFails}
 use Rattle.pat_lexical.specs.Divisions.{IsRefused, BadToken}
-use Rattle.pat_lexical.proofs.NameBeginnings.{NoMoreName}
-use Rattle.pat_lexical.proofs.Faults.{no_end_nil}
+use Rattle.pat_lexical_laws.proofs.NameBeginnings.{NoMoreName}
+use Rattle.pat_lexical_laws.proofs.Faults.{no_end_nil}
 use Rattle.pat_lexer.specs.declared.unfinished.Unfinished.{Unfinished}
 use Rattle.pat_lexer.specs.declared.unfinished.Unfinished.TheVariants.{Name, Integer, Str, Escape, Equals, Minus, Slash, Comment}
 use Rattle.pat_lexer.specs.Bytes.{is_name_byte}

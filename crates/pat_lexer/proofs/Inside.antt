@@ -8,14 +8,14 @@ use Rattle.pat_lexical.specs.Tokens.{Token, Spanned, Integer as IntegerToken, St
 use Rattle.pat_lexical.specs.Lexemes.{Comment as CommentLexeme, Whole, Begins, greatest}
 use Rattle.pat_lexical.specs.Divisions.{Reaches, IsRefused, BadToken, NumberTooWide}
 use Rattle.pat_lexical.specs.Characters.{is_digit, is_plain, is_in_line, Each, FrontFails, number_after, Quotes, quote, backslash, nothing}
-use Rattle.pat_lexical.proofs.Runs.{both, Each-append}
-use Rattle.pat_lexical.proofs.Numbers.{number_parts}
-use Rattle.pat_lexical.proofs.Reaching.{over_more}
-use Rattle.pat_lexical.proofs.Strings.{quotes_append, quotes_plain}
-use Rattle.pat_lexical.proofs.Beginnings.{integer_begins, string_begins, comment_begins}
-use Rattle.pat_lexical.proofs.MarkBeginnings.{mark_begins}
-use Rattle.pat_lexical.proofs.NameBeginnings.{NoMoreName, name_more_ascii}
-use Rattle.pat_lexical.proofs.Faults.{no_string, no_end_escape, no_comment, wide_begins, NoEnd}
+use Rattle.pat_lexical_laws.proofs.Runs.{both, Each-append}
+use Rattle.pat_lexical_laws.proofs.Numbers.{number_parts}
+use Rattle.pat_lexical_laws.proofs.Reaching.{over_more}
+use Rattle.pat_lexical_laws.proofs.Strings.{quotes_append, quotes_plain}
+use Rattle.pat_lexical_laws.proofs.Beginnings.{integer_begins, string_begins, comment_begins}
+use Rattle.pat_lexical_laws.proofs.MarkBeginnings.{mark_begins}
+use Rattle.pat_lexical_laws.proofs.NameBeginnings.{NoMoreName, name_more_ascii}
+use Rattle.pat_lexical_laws.proofs.Faults.{no_string, no_end_escape, no_comment, wide_begins, NoEnd}
 use Rattle.pat_lexer.specs.declared.unfinished.Unfinished.{Unfinished}
 use Rattle.pat_lexer.specs.declared.unfinished.Unfinished.TheVariants.{Nothing, Name, Integer, Str, Escape, Equals, Minus, Slash, Comment}
 use Rattle.pat_lexer.specs.Bytes.{is_name_byte, is_plain_ascii}

@@ -4,7 +4,7 @@ use Rattle.std.proofs.lemmas.Slice.Eq.{bytes_eq-Decides}
 use Rattle.std.specs.Str.{bytes_eq}
 use Rattle.pat_lexical.specs.Words.{Reserved, word_bytes, Interface, Def, Let, In, If, Else, Print, New, Spawn, Guard, Free, Fail, Receive, From, TrueWord, FalseWord, UnitWord, BoolWord, IntWord, StringWord}
 use Rattle.pat_lexical.specs.Tokens.{Token, Name, Word}
-use Rattle.pat_lexical.proofs.Runs.{both}
+use Rattle.pat_lexical_laws.proofs.Runs.{both}
 use Rattle.pat_lexer.specs.Spelled.{IsNameToken, name, word}
 
 -- the word is one of these

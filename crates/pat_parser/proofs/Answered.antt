@@ -15,7 +15,7 @@ use Rattle.pat_tree.specs.declared.tree.Tree.{Tree}
 use Rattle.pat_tree.specs.Views.{tree_view}
 use Rattle.pat_parser.specs.declared.fault.ParseError.{ParseError}
 use Rattle.pat_parser.specs.declared.fault.ParseError.TheVariants as errors
-use Rattle.pat_machine.specs.Views.{limits}
+use Rattle.pat_parser_states.specs.Views.{limits}
 use Rattle.pat_parser.specs.Answers.{GivesAt, FailsAt, Explained}
 
 explained : (end : ℕ) (ts : List Spanned) (e : ParseError) (q : Result AnyTree (m.Fault × ℕ)) → FailsAt e q → Claimed limits end ts q → Explained end ts e

@@ -4,11 +4,11 @@ use Rattle.pat_lexical.specs.Tokens.{Spanned}
 use Rattle.pat_grammar.specs.Claims.{IsUnexpected, IsTooDeep}
 use Rattle.pat_grammar.specs.Trees.{Term as AnyTerm}
 use Rattle.pat_grammar.specs.Machine as m
-use Rattle.pat_machine.specs.declared.fault.Fault.{Fault}
-use Rattle.pat_machine.specs.declared.fault.Fault.TheVariants as faults
+use Rattle.pat_parser_states.specs.declared.fault.Fault.{Fault}
+use Rattle.pat_parser_states.specs.declared.fault.Fault.TheVariants as faults
 use Rattle.pat_parser.specs.declared.fault.ParseError.{ParseError}
 use Rattle.pat_parser.specs.declared.fault.ParseError.TheVariants as errors
-use Rattle.pat_machine.specs.Views.{limits}
+use Rattle.pat_parser_states.specs.Views.{limits}
 
 -- a fault at an offset
 abbrev pub error_at : Fault → ℕ → ParseError

@@ -3,10 +3,10 @@ ghost use Rattle.std.specs.Prelude.{[], ◌+◌, map, Ok, false};
 ghost use Rattle.pat_grammar.specs.Machine as m;
 ghost use Rattle.pat_syntax.specs.Views.{kind_view};
 ghost use Rattle.pat_tree.specs.Views.{span_view, name_view, type_view, decl_view};
-ghost use Rattle.pat_machine.specs.Views.{interfacing_view, defining_view, stack_view};
-ghost use Rattle.pat_machine.specs.Answers.{Gives, Makes};
+ghost use Rattle.pat_parser_states.specs.Views.{interfacing_view, defining_view, stack_view};
+ghost use Rattle.pat_parser_states.specs.Answers.{Gives, Makes};
 
-use pat_machine::{
+use pat_parser_states::{
     Control, DeclControl, Defining, Fault, Frame, Interfacing, NameControl, Naming, Place, State,
     TypeControl, TypeFrame, at, has_room, name_of, over, refused, too_deep, with_decl,
 };

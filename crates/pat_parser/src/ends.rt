@@ -4,11 +4,11 @@ ghost use Rattle.pat_grammar.specs.Trees as trees;
 ghost use Rattle.pat_grammar.specs.Machine as m;
 ghost use Rattle.pat_syntax.specs.Views.{kind_view};
 ghost use Rattle.pat_tree.specs.Views.{span_view, name_view, expr_view, term_view, type_view, param_view, decl_view};
-ghost use Rattle.pat_machine.specs.Views.{guarding_view, clause_head_view, frame_view, block_frame_view, clause_frame_view, stack_view, state_view};
-ghost use Rattle.pat_machine.specs.Answers.{Gives, Makes};
+ghost use Rattle.pat_parser_states.specs.Views.{guarding_view, clause_head_view, frame_view, block_frame_view, clause_frame_view, stack_view, state_view};
+ghost use Rattle.pat_parser_states.specs.Answers.{Gives, Makes};
 ghost use Rattle.pat_parser.specs.Answers.{standing};
 
-use pat_machine::{
+use pat_parser_states::{
     BlockFrame, ClauseControl, ClauseFrame, ClauseHead, Control, DeclControl, Defining, Fault,
     Frame, Frames, Guarding, LetFrame, NameControl, Naming, Place, State, TermControl, at,
     boxed_term, over, refused, too_deep, top, with_clause, with_decl,

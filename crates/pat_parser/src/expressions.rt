@@ -6,11 +6,11 @@ ghost use Rattle.pat_grammar.specs.Machine as m;
 ghost use Rattle.pat_syntax.specs.Views.{kind_view};
 ghost use Rattle.pat_primitives.specs.Views.{op_view};
 ghost use Rattle.pat_tree.specs.Views.{span_view, expr_view, expr_at, term_at, term_view};
-ghost use Rattle.pat_machine.specs.Views.{state_view, operand_view, left_view, pending_view, waiting_view, head_view, stack_view};
-ghost use Rattle.pat_machine.specs.Answers.{Gives, Makes};
+ghost use Rattle.pat_parser_states.specs.Views.{state_view, operand_view, left_view, pending_view, waiting_view, head_view, stack_view};
+ghost use Rattle.pat_parser_states.specs.Answers.{Gives, Makes};
 
 use crate::ends::behind_simple;
-use pat_machine::{
+use pat_parser_states::{
     BlockFrame, Control, ExprControl, ExprFrame, Fault, Frame, Frames, Head, Operand, Pending,
     Place, State, TermControl, Waiting, at, boxed_term, has_room, levels, over, refused, too_deep,
     top, waiting, with_expr,

@@ -8,8 +8,8 @@ ghost use Rattle.pat_grammar_laws.specs.Counts.{tree_size};
 ghost use Rattle.pat_grammar_laws.specs.Names.{AreSpelled, TreeNamed};
 ghost use Rattle.pat_syntax.specs.Views.{kind_view, token_view};
 ghost use Rattle.pat_tree.specs.Views.{span_view, tree_view};
-ghost use Rattle.pat_machine.specs.Views.{stack_view, decl_control_view, name_control_view, type_control_view, pattern_control_view, term_control_view, clause_control_view, expr_control_view, control_view, state_view, limits};
-ghost use Rattle.pat_machine.specs.Answers.{Gives, Makes};
+ghost use Rattle.pat_parser_states.specs.Views.{stack_view, decl_control_view, name_control_view, type_control_view, pattern_control_view, term_control_view, clause_control_view, expr_control_view, control_view, state_view, limits};
+ghost use Rattle.pat_parser_states.specs.Answers.{Gives, Makes};
 ghost use Rattle.pat_parser.specs.Answers.{GivesAt, Explained, error_at};
 
 use crate::declarations::{decl, first_param, message, params};
@@ -22,7 +22,7 @@ use crate::terms::{
     binders, first_binder, free, free_clause, named, new, otherwise, print, spawn, start, yes,
 };
 use crate::types::{first_payload, have_base, polarity, type_named, want_type};
-use pat_machine::{
+use pat_parser_states::{
     ClauseControl, Control, DeclControl, ExprControl, Fault, NameControl, PatternControl, Place,
     State, TermControl, TypeControl, at,
 };

@@ -3,12 +3,12 @@ ghost use Rattle.std.specs.Prelude.{[], Ok, true, false};
 ghost use Rattle.pat_grammar.specs.Machine as m;
 ghost use Rattle.pat_syntax.specs.Views.{kind_view};
 ghost use Rattle.pat_tree.specs.Views.{span_view, name_view};
-ghost use Rattle.pat_machine.specs.Views.{guarding_view, clause_head_view, naming_view, stack_view};
-ghost use Rattle.pat_machine.specs.Answers.{Gives, Makes};
+ghost use Rattle.pat_parser_states.specs.Views.{guarding_view, clause_head_view, naming_view, stack_view};
+ghost use Rattle.pat_parser_states.specs.Answers.{Gives, Makes};
 
 use crate::declarations::{function_named, interface_named, message_named, param_named};
 use crate::terms::{naming, open, open_here, with_control};
-use pat_machine::{
+use pat_parser_states::{
     ClauseControl, ClauseFrame, ClauseHead, Control, ExprControl, ExprFrame, Fault, Frame,
     Guarding, Head, LetFrame, NameControl, Naming, PatternControl, PatternFrame, Place, State,
     TermControl, at, boxed_term, name_of, over, refused,

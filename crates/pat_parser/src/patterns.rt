@@ -5,11 +5,11 @@ ghost use Rattle.pat_grammar.specs.Machine as m;
 ghost use Rattle.pat_syntax.specs.Views.{kind_view};
 ghost use Rattle.pat_primitives.specs.Views.{polarity_view};
 ghost use Rattle.pat_tree.specs.Views.{span_view, name_view, pattern_view, type_view};
-ghost use Rattle.pat_machine.specs.Views.{before_view, leading_view, held_view, stack_view};
-ghost use Rattle.pat_machine.specs.Answers.{Gives, Makes};
+ghost use Rattle.pat_parser_states.specs.Views.{before_view, leading_view, held_view, stack_view};
+ghost use Rattle.pat_parser_states.specs.Answers.{Gives, Makes};
 
 use crate::types::{type_close, type_comma, type_open};
-use pat_machine::{
+use pat_parser_states::{
     Before, ClauseControl, Control, Fault, Frame, Frames, Guarding, Leading, PatternControl,
     PatternFrame, Place, State, at, has_room, leading, name_of, over, parts_before, refused,
     too_deep, top,

@@ -4,12 +4,12 @@ ghost use Rattle.pat_grammar.specs.Trees as trees;
 ghost use Rattle.pat_grammar.specs.Machine as m;
 ghost use Rattle.pat_syntax.specs.Views.{kind_view};
 ghost use Rattle.pat_tree.specs.Views.{span_view, name_view, expr_view, term_view};
-ghost use Rattle.pat_machine.specs.Views.{guarding_view, clause_head_view, naming_view, frame_view, stack_view, control_view, state_view};
-ghost use Rattle.pat_machine.specs.Answers.{Makes};
+ghost use Rattle.pat_parser_states.specs.Views.{guarding_view, clause_head_view, naming_view, frame_view, stack_view, control_view, state_view};
+ghost use Rattle.pat_parser_states.specs.Answers.{Makes};
 ghost use Rattle.pat_syntax.specs.declared.token.TokenKind.TheVariants.{Mark as MarkToken, Word as WordToken};
 
 use crate::expressions::{have, operand, want};
-use pat_machine::{
+use pat_parser_states::{
     BlockFrame, ClauseControl, ClauseFrame, ClauseHead, Control, ExprControl, ExprFrame, Fault,
     Frame, Guarding, Head, NameControl, Naming, Place, State, TermControl, at, has_room, name_of,
     over, refused, too_deep, within,

@@ -5,12 +5,12 @@ ghost use Rattle.pat_grammar.specs.Machine as m;
 ghost use Rattle.pat_syntax.specs.Views.{kind_view};
 ghost use Rattle.pat_primitives.specs.Views.{base_view, polarity_view};
 ghost use Rattle.pat_tree.specs.Views.{span_view, name_view, type_view};
-ghost use Rattle.pat_machine.specs.Views.{interfacing_view, defining_view, type_frame_view, stack_view, state_view};
-ghost use Rattle.pat_machine.specs.Answers.{Makes};
+ghost use Rattle.pat_parser_states.specs.Views.{interfacing_view, defining_view, type_frame_view, stack_view, state_view};
+ghost use Rattle.pat_parser_states.specs.Answers.{Makes};
 
 use crate::declarations::{message_added, param_added};
 use crate::patterns::want_pattern;
-use pat_machine::{
+use pat_parser_states::{
     BlockFrame, Control, DeclControl, Defining, Fault, Frame, Frames, Interfacing, NameControl,
     Naming, PatternControl, PatternFrame, Place, State, TermControl, TypeControl, TypeFrame, at,
     has_room, name_of, over, refused, too_deep, top, with_type,

@@ -15,7 +15,7 @@ ghost use Rattle.pat_lexical.specs.Divisions.{Divides};
 ghost use Rattle.pat_grammar.specs.Items.{Limits};
 ghost use Rattle.pat_grammar.specs.Claims.{SpellsTree};
 ghost use Rattle.pat_canonical.specs.Text.{canonical_text};
-ghost use Rattle.pat_round_trip.specs.ReadAgain.{ReadsAs};
+ghost use Rattle.pat_canonical_laws.specs.ReadAgain.{ReadsAs};
 ghost use Rattle.pat_tree.specs.Views.{tree_view};
 
 use declaration::put_declaration;

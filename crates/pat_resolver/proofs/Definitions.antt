@@ -9,8 +9,8 @@ use Rattle.pat_names.specs.Findings.{Finding, bodies_findings}
 use Rattle.pat_names.specs.Numbering.{nodes_in, body_scope, functions_from, nodes_from}
 use Rattle.pat_names.specs.Places.{FunctionPlaces, node_places, function_places}
 use Rattle.pat_names_laws.proofs.Binding.{nodes_length}
-use Rattle.pat_resolution.specs.Results.{first_of}
-use Rattle.pat_resolution.proofs.Firsts.{first_behind}
+use Rattle.pat_resolver_answers.specs.Results.{first_of}
+use Rattle.pat_resolver_answers.proofs.Firsts.{first_behind}
 use Rattle.pat_resolver.specs.Steps.{nodes_in_all, result_kind, body_findings, function_nodes}
 
 -- what one more makes, where the rest is still to come

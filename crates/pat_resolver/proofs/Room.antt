@@ -5,7 +5,7 @@ use Rattle.pat_grammar.specs.Trees as tree
 use Rattle.pat_grammar_laws.specs.Counts.{sum_of, param_size, decl_size, tree_size}
 use Rattle.pat_names.specs.Heads.{definitions_of}
 use Rattle.pat_names.specs.Findings.{binders_in}
-use Rattle.pat_numbering.proofs.Sizes.{binders_within, nodes_within}
+use Rattle.pat_resolver_numbering.proofs.Sizes.{binders_within, nodes_within}
 use Rattle.pat_resolver.specs.Steps.{nodes_in_all}
 use Rattle.pat_tree.specs.declared.tree.Param.{Param}
 use Rattle.pat_tree.specs.declared.tree.Decl.{Decl}

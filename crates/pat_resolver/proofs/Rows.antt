@@ -7,8 +7,8 @@ use Rattle.pat_syntax.specs.declared.span.Span.{Span}
 use Rattle.pat_core.specs.declared.program.Kind.{Kind}
 use Rattle.pat_core.specs.declared.program.Sort.{Sort}
 use Rattle.pat_core.specs.Views.{kind_view, sort_view}
-use Rattle.pat_tables.specs.declared.scope.Variable.{Variable}
-use Rattle.pat_tables.specs.Views.{scope_view}
+use Rattle.pat_resolver_tables.specs.declared.scope.Variable.{Variable}
+use Rattle.pat_resolver_tables.specs.Views.{scope_view}
 use Rattle.pat_tree.specs.declared.tree.Param.{Param}
 use Rattle.pat_tree.specs.Views.{param_view, span_view}
 

@@ -12,9 +12,9 @@ use Rattle.pat_core.specs.Views.{program_view}
 use Rattle.pat_core.specs.declared.program.Program.{Program}
 use Rattle.pat_tree.specs.Views.{decl_view}
 use Rattle.pat_tree.specs.declared.tree.Decl.{Decl}
-use Rattle.pat_resolution.specs.Results.{first_of, Meets}
-use Rattle.pat_resolution.specs.declared.error.ResolveError.{ResolveError}
-use Rattle.pat_resolution.proofs.Firsts.{first_none, meets_behind}
+use Rattle.pat_resolver_answers.specs.Results.{first_of, Meets}
+use Rattle.pat_resolver_answers.specs.declared.error.ResolveError.{ResolveError}
+use Rattle.pat_resolver_answers.proofs.Firsts.{first_none, meets_behind}
 
 -- it is well formed
 pub formed : (end : ℕ) (t : Tree) (r : Result Program ResolveError) → IsWritten t → Meets r (findings end t) → IfOk r (λ p. program_view p ≡ numbered t) → IfOk r (λ p. WellFormed (program_view p))

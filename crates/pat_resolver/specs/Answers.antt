@@ -2,9 +2,9 @@
 use Rattle.std.specs.Prelude.{ℕ}
 use Rattle.pat_grammar.specs.Trees.{Tree}
 use Rattle.pat_names.specs.Claims.{IsRefused}
-use Rattle.pat_resolution.specs.Views.{finding_view}
-use Rattle.pat_resolution.specs.declared.error.ResolveError.{ResolveError}
-use Rattle.pat_resolution.specs.declared.error.ResolveError.TheVariants.{Broken, NoMemory}
+use Rattle.pat_resolver_answers.specs.Views.{finding_view}
+use Rattle.pat_resolver_answers.specs.declared.error.ResolveError.{ResolveError}
+use Rattle.pat_resolver_answers.specs.declared.error.ResolveError.TheVariants.{Broken, NoMemory}
 
 -- the tree is refused so, where the text ends at the offset; want of memory says nothing
 abbrev pub Explains : ℕ → Tree → ResolveError → Type 0

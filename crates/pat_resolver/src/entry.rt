@@ -4,11 +4,11 @@ ghost use Rattle.pat_names.specs.Scopes.{number_found};
 ghost use Rattle.pat_names.specs.Heads.{definitions_of};
 ghost use Rattle.pat_names.specs.Findings.{main_findings, main_of};
 ghost use Rattle.pat_tree.specs.Views.{decl_view};
-ghost use Rattle.pat_resolution.specs.Results.{Meets};
+ghost use Rattle.pat_resolver_answers.specs.Results.{Meets};
 ghost use Rattle.pat_resolver.specs.Entry.{main_in};
 
 use pat_primitives::Base;
-use pat_resolution::{ResolveError, ResolveKind};
+use pat_resolver_answers::{ResolveError, ResolveKind};
 use pat_syntax::Span;
 use pat_tree::{Decl, TreeType};
 

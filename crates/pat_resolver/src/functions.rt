@@ -9,23 +9,23 @@ ghost use Rattle.pat_names.specs.Numbering.{nodes_in, nodes_of, vars_of, functio
 ghost use Rattle.pat_names.specs.Places.{node_places, var_places, function_places as written_places};
 ghost use Rattle.pat_core.specs.Views.{kind_view, sort_view, function_view, node_view};
 ghost use Rattle.pat_tree.specs.Views.{span_view, param_view, term_view, decl_view};
-ghost use Rattle.pat_tables.specs.Views.{scope_view};
+ghost use Rattle.pat_resolver_tables.specs.Views.{scope_view};
 ghost use Rattle.pat_tree.specs.declared.pattern.Name.{Name as AnyName};
-ghost use Rattle.pat_resolution.specs.Results.{Meets};
-ghost use Rattle.pat_resolution.specs.Views.{function_places};
-ghost use Rattle.pat_heads.specs.Names.{names_view};
-ghost use Rattle.pat_heads.specs.Views.{heads_view};
-ghost use Rattle.pat_numbering.specs.Kinds.{HasAt};
+ghost use Rattle.pat_resolver_answers.specs.Results.{Meets};
+ghost use Rattle.pat_resolver_answers.specs.Views.{function_places};
+ghost use Rattle.pat_resolver_heads.specs.Names.{names_view};
+ghost use Rattle.pat_resolver_heads.specs.Views.{heads_view};
+ghost use Rattle.pat_resolver_numbering.specs.Kinds.{HasAt};
 ghost use Rattle.pat_resolver.specs.Steps.{definition_view, body_findings, function_of, function_nodes, nodes_in_all};
 
 use crate::heads::{Head, bind_params, number_head};
-use pat_bodies::{Variables, check_body, kind_of_sort};
 use pat_core::{Function, Kind, Node};
-use pat_heads::Heads;
-use pat_numbering::{Context, Numbering};
-use pat_resolution::ResolveError;
+use pat_resolver_answers::ResolveError;
+use pat_resolver_bodies::{Variables, check_body, kind_of_sort};
+use pat_resolver_heads::Heads;
+use pat_resolver_numbering::{Context, Numbering};
+use pat_resolver_tables::ScopeTable;
 use pat_sequences::Sequence;
-use pat_tables::ScopeTable;
 use pat_tree::{Decl, Name, Param, Term, TreeType};
 use std::alloc::{AllocError, Global};
 

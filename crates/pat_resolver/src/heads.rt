@@ -5,15 +5,15 @@ ghost use Rattle.pat_names.specs.Heads.{sort_of, params_scope};
 ghost use Rattle.pat_names.specs.Places.{type_place};
 ghost use Rattle.pat_core.specs.Views.{kind_view, sort_view};
 ghost use Rattle.pat_tree.specs.Views.{span_view, param_view, type_view};
-ghost use Rattle.pat_tables.specs.Views.{scope_view};
-ghost use Rattle.pat_resolution.specs.Views.{sort_place};
-ghost use Rattle.pat_heads.specs.Names.{names_view};
+ghost use Rattle.pat_resolver_tables.specs.Views.{scope_view};
+ghost use Rattle.pat_resolver_answers.specs.Views.{sort_place};
+ghost use Rattle.pat_resolver_heads.specs.Names.{names_view};
 
-use pat_bodies::{Variables, bind, kind_of_sort};
 use pat_core::Sort;
-use pat_heads::{Heads, number_params, number_type};
+use pat_resolver_bodies::{Variables, bind, kind_of_sort};
+use pat_resolver_heads::{Heads, number_params, number_type};
+use pat_resolver_tables::ScopeTable;
 use pat_sequences::Sequence;
-use pat_tables::ScopeTable;
 use pat_tree::{Param, TreeType};
 use std::alloc::{AllocError, Global};
 

@@ -10,18 +10,18 @@ ghost use Rattle.pat_names.specs.Claims.{Resolves, IsWritten, IsNamed};
 ghost use Rattle.pat_grammar_laws.specs.Counts.{tree_size};
 ghost use Rattle.pat_core.specs.Views.{program_view};
 ghost use Rattle.pat_tree.specs.Views.{tree_view};
-ghost use Rattle.pat_resolution.specs.Results.{Meets};
-ghost use Rattle.pat_resolution.specs.Views.{places_view};
-ghost use Rattle.pat_heads.specs.Names.{names_view};
-ghost use Rattle.pat_heads.specs.Views.{heads_view};
-ghost use Rattle.pat_heads.specs.HeadPlaces.{interface_places};
+ghost use Rattle.pat_resolver_answers.specs.Results.{Meets};
+ghost use Rattle.pat_resolver_answers.specs.Views.{places_view};
+ghost use Rattle.pat_resolver_heads.specs.Names.{names_view};
+ghost use Rattle.pat_resolver_heads.specs.Views.{heads_view};
+ghost use Rattle.pat_resolver_heads.specs.HeadPlaces.{interface_places};
 ghost use Rattle.pat_resolver.specs.Answers.{Explains};
 
 use crate::entry::find_main;
 use crate::functions::{Resolution, check_functions, resolve_functions};
 use pat_core::Program;
-use pat_heads::{Heads, read_heads};
-use pat_resolution::ResolveError;
+use pat_resolver_answers::ResolveError;
+use pat_resolver_heads::{Heads, read_heads};
 use pat_tree::Tree;
 use std::alloc::Global;
 

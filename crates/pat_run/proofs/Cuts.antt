@@ -7,7 +7,7 @@ use Rattle.pat_model.specs.Programs.{Program}
 use Rattle.pat_model.specs.Configs.{Config}
 use Rattle.pat_model.specs.Steps.{Act, Step, step}
 use Rattle.pat_model.specs.Runs.{Entry, Outcome, EndDone, EndWaiting, EndBudget, outcome, has_threads, is_at_limit, can_step, can_step_without_sending, run_from, shared_step, entry_steps, entry_from, replay_from, step_count}
-use Rattle.pat_steps.proofs.Replays.{runs_join}
+use Rattle.pat_model_laws.proofs.Replays.{runs_join}
 use Rattle.pat_run.specs.Jobs.{IsJob, Jobs, Ends, local_of}
 
 -- a run and then a run

@@ -6,7 +6,7 @@ use Rattle.pat_model.specs.Programs.{Program}
 use Rattle.pat_model.specs.Runs.{Outcome, EndDone, EndWaiting, EndFull, EndBudget}
 use Rattle.pat_model.specs.Faults.{IsSafe}
 use Rattle.pat_grammar.specs.Trees.{Tree}
-use Rattle.pat_plain.specs.Straight.{is_straight}
+use Rattle.pat_plain_laws.specs.Straight.{is_straight}
 use Rattle.pat_input.specs.Inputs.{IsInput}
 use Rattle.pat_front.specs.Lines.{line_of_verdict}
 use Rattle.pat_front.specs.Texts.{IsProgramText, IsRefusal}

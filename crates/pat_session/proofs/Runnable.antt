@@ -5,11 +5,11 @@ use Rattle.pat_model.specs.Programs.{Program}
 use Rattle.pat_model.specs.WellFormed.{WellFormed}
 use Rattle.pat_model.specs.Faults.{IsSafe}
 use Rattle.pat_grammar.specs.Trees.{Tree}
-use Rattle.pat_safety.proofs.Safe.{typable_safe}
-use Rattle.pat_plain.specs.Straight.{is_straight}
-use Rattle.pat_plain.specs.Laws.{NeverWaits}
-use Rattle.pat_plain.proofs.Typable.{plain_typable, plain_goes_on}
-use Rattle.pat_plain.proofs.Straight.{straight_plain}
+use Rattle.pat_safety_laws.proofs.Safe.{typable_safe}
+use Rattle.pat_plain_laws.specs.Straight.{is_straight}
+use Rattle.pat_plain_laws.specs.Laws.{NeverWaits}
+use Rattle.pat_plain_laws.proofs.Typable.{plain_typable, plain_goes_on}
+use Rattle.pat_plain_laws.proofs.Straight.{straight_plain}
 use Rattle.pat_front.specs.Lines.{line_of_verdict}
 use Rattle.pat_front.specs.Texts.{IsProgramText}
 use Rattle.pat_front.specs.declared.verdict.Verdict.TheVariants.{NotYet}

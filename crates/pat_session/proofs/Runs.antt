@@ -5,8 +5,8 @@ use Rattle.std.specs.List.{AllByRecursion}
 use Rattle.pat_model.specs.Programs.{Program}
 use Rattle.pat_model.specs.Configs.{Config, start}
 use Rattle.pat_model.specs.Runs.{Entry, Outcome, EndDone, EndWaiting, EndFull, EndBudget, outcome, has_threads, is_at_limit, can_step, can_step_without_sending, entry_steps, replay, step_count}
-use Rattle.pat_steps.specs.Laws.{history_steps}
-use Rattle.pat_steps.proofs.Replays.{replay_runs}
+use Rattle.pat_model_laws.specs.Laws.{history_steps}
+use Rattle.pat_model_laws.proofs.Replays.{replay_runs}
 use Rattle.pat_run.specs.Jobs.{Jobs}
 use Rattle.pat_run.specs.declared.finished.Finished.{Finished}
 use Rattle.pat_run.specs.Finished.{IsRun}
@@ -14,7 +14,7 @@ use Rattle.pat_reduce.specs.declared.history.Outcome.TheVariants.{Waiting as Cod
 use Rattle.pat_reduce.specs.Views.{config_view, entry_view, outcome_view}
 use Rattle.pat_lines.specs.RunText.{run_text}
 use Rattle.pat_session.specs.declared.status.Status.{Status}
-use Rattle.pat_plain.specs.Laws.{NeverWaits}
+use Rattle.pat_plain_laws.specs.Laws.{NeverWaits}
 use Rattle.pat_session.specs.Allowed.{EndsWith, RunShows}
 
 waits : (threads can full spent : Bool) → (if not threads then Some EndDone else if not can then Some EndWaiting else if full then Some EndFull else if spent then Some EndBudget else None) ≡ Some EndWaiting → (threads ≡ true) × (can ≡ false)

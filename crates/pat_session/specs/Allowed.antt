@@ -7,7 +7,7 @@ use Rattle.pat_model.specs.Runs.{Entry, Outcome, EndDone, EndBudget, replay, ste
 use Rattle.pat_model.specs.Faults.{IsSafe}
 use Rattle.pat_grammar.specs.Trees.{Tree}
 use Rattle.pat_canonical.specs.Text.{canonical_text}
-use Rattle.pat_plain.specs.Straight.{is_straight}
+use Rattle.pat_plain_laws.specs.Straight.{is_straight}
 use Rattle.pat_run.specs.Jobs.{Jobs}
 use Rattle.pat_run.specs.Turns.{InTurn}
 use Rattle.pat_lines.specs.RunText.{run_text}

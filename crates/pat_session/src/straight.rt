@@ -3,7 +3,7 @@ ghost use Rattle.std.specs.Prelude.{◌≡◌, map};
 ghost use Rattle.std.specs.List.{list_all};
 ghost use Rattle.pat_core.specs.Views.{expr_view, core_view, node_view, program_view};
 ghost use Rattle.pat_primitives.specs.Views.{op_view};
-ghost use Rattle.pat_plain.specs.Straight.{is_arithmetic, is_plain_expr, is_plain_core, is_straight};
+ghost use Rattle.pat_plain_laws.specs.Straight.{is_arithmetic, is_plain_expr, is_plain_core, is_straight};
 
 use pat_core::{Core, Expr, Node, Program};
 use pat_primitives::Op;

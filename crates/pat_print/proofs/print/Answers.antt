@@ -6,8 +6,8 @@ use Rattle.pat_grammar.specs.Trees.{Tree}
 use Rattle.pat_grammar.specs.Items.{Limits}
 use Rattle.pat_grammar.specs.Claims.{SpellsTree}
 use Rattle.pat_canonical.specs.Text.{canonical_text}
-use Rattle.pat_round_trip.specs.ReadAgain.{ReadsAs}
-use Rattle.pat_round_trip.proofs.Again.{read_again}
+use Rattle.pat_canonical_laws.specs.ReadAgain.{ReadsAs}
+use Rattle.pat_canonical_laws.proofs.Again.{read_again}
 use Rattle.pat_tree.specs.Views.{tree_view}
 use Rattle.pat_print.proofs.print.Goals as goal
 

@@ -1,7 +1,7 @@
 use Rattle.std.proofs.Common.{◌≡◌, ◌<◌, ℕ, zero, suc, drop, refl, ap, sym, ◌∙◌, arith}
 use Rattle.std.specs.Str.{valid_up_to}
 use Rattle.std.specs.Str.Lossy.{utf8_error_len}
-use Rattle.pat_lexical.proofs.Broken.{broken}
+use Rattle.pat_lexical_laws.proofs.Broken.{broken}
 use Rattle.pat_lexer.proofs.Cuts.{cut_whole, cut_none, cut_front, cut_length, scalar_front}
 use Rattle.pat_lexer.proofs.character.front_of.Goals as goal
 

@@ -1,6 +1,6 @@
 use Rattle.std.proofs.Common.{sym, ◌∙◌}
 use Rattle.pat_lexer.specs.Bytes.{is_name_byte}
-use Rattle.pat_lexical.proofs.Runs.{each_more}
+use Rattle.pat_lexical_laws.proofs.Runs.{each_more}
 use Rattle.pat_lexer.proofs.runs.name_run.Goals as goal
 
 pub loop-i-preserved : goal.loop-i-preserved

@@ -1,8 +1,8 @@
 use Rattle.std.proofs.Common.{◌≡◌, ◌≤◌, ◌+◌, ℕ, true, arith}
 use Rattle.std.proofs.lemmas.Bool.Decides.{nat_tests}
 use Rattle.pat_lexical.specs.Characters.{is_digit}
-use Rattle.pat_lexical.proofs.Runs.{each_at}
-use Rattle.pat_lexical.proofs.Numbers.{number_more, number_front}
+use Rattle.pat_lexical_laws.proofs.Runs.{each_at}
+use Rattle.pat_lexical_laws.proofs.Numbers.{number_more, number_front}
 use Rattle.pat_lexer.proofs.runs.number_with.Goals as goal
 
 digit_low : (b : ℕ) → is_digit b ≡ true → 48 ≤ b

@@ -1,7 +1,7 @@
 use Rattle.std.proofs.Common.{◌≡◌, length}
 use Rattle.pat_grammar.specs.Machine as m
 use Rattle.pat_tree.specs.Views.{term_view}
-use Rattle.pat_machine.specs.Views.{stack_view}
+use Rattle.pat_parser_states.specs.Views.{stack_view}
 use Rattle.pat_parser.proofs.ends.bodies.Given as goal
 
 -- what ends here is what ended at first

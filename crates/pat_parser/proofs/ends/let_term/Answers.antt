@@ -3,7 +3,7 @@ use Rattle.std.specs.Global.{Box}
 use Rattle.pat_grammar.specs.Trees as trees
 use Rattle.pat_tree.specs.declared.term.Term.{Term}
 use Rattle.pat_tree.specs.Views.{name_view, span_view, term_view}
-use Rattle.pat_machine.specs.Answers.{Gives}
+use Rattle.pat_parser_states.specs.Answers.{Gives}
 use Rattle.pat_parser.proofs.Places.{place_is}
 use Rattle.pat_parser.proofs.ends.let_term.Goals as goal
 

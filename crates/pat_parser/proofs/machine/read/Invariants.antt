@@ -3,7 +3,7 @@ use Rattle.std.specs.Vec.Iter.{into_iter_items}
 use Rattle.pat_grammar.specs.Machine as m
 use Rattle.pat_grammar.specs.Items.{bound_item}
 use Rattle.pat_syntax.specs.Views.{token_view}
-use Rattle.pat_machine.specs.Views.{state_view, limits}
+use Rattle.pat_parser_states.specs.Views.{state_view, limits}
 use Rattle.pat_parser.proofs.machine.read.Given as goal
 
 -- what is still to be read from this state is what all tokens give

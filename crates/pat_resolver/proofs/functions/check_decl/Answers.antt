@@ -5,9 +5,9 @@ use Rattle.pat_names.specs.Findings.{bodies_findings}
 use Rattle.pat_tree.specs.Views.{decl_view, name_view}
 use Rattle.pat_tree.specs.declared.tree.Decl.{Decl}
 use Rattle.pat_tree.specs.declared.tree.Param.{Param}
-use Rattle.pat_resolution.specs.Results.{Meets}
-use Rattle.pat_heads.specs.Names.{names_view}
-use Rattle.pat_heads.specs.Views.{heads_view}
+use Rattle.pat_resolver_answers.specs.Results.{Meets}
+use Rattle.pat_resolver_heads.specs.Names.{names_view}
+use Rattle.pat_resolver_heads.specs.Views.{heads_view}
 use Rattle.pat_resolver.specs.Steps.{definition_view, body_findings}
 use Rattle.pat_resolver.proofs.Room.{names_few}
 use Rattle.pat_resolver.proofs.functions.check_decl.Goals as goal

@@ -4,11 +4,11 @@ use Rattle.pat_names.specs.Heads.{definitions_of}
 use Rattle.pat_names.specs.Findings.{bodies_findings}
 use Rattle.pat_tree.specs.Views.{decl_view}
 use Rattle.pat_tree.specs.declared.tree.Decl.{Decl}
-use Rattle.pat_resolution.specs.Results.{first_of}
-use Rattle.pat_resolution.proofs.Firsts.{refused}
-use Rattle.pat_heads.specs.Names.{names_view}
-use Rattle.pat_heads.specs.Views.{heads_view}
-use Rattle.pat_bodies.proofs.Rows.{row_from}
+use Rattle.pat_resolver_answers.specs.Results.{first_of}
+use Rattle.pat_resolver_answers.proofs.Firsts.{refused}
+use Rattle.pat_resolver_heads.specs.Names.{names_view}
+use Rattle.pat_resolver_heads.specs.Views.{heads_view}
+use Rattle.pat_resolver_bodies.proofs.Rows.{row_from}
 use Rattle.pat_resolver.proofs.Room.{decl_within}
 use Rattle.pat_resolver.proofs.Definitions.{found_more, found_turn}
 use Rattle.pat_resolver.proofs.functions.check_functions.Goals as goal

@@ -5,12 +5,12 @@ use Rattle.pat_names.specs.Findings.{bodies_findings}
 use Rattle.pat_core.specs.Views.{function_view, node_view}
 use Rattle.pat_tree.specs.Views.{decl_view}
 use Rattle.pat_tree.specs.declared.tree.Decl.{Decl}
-use Rattle.pat_resolution.specs.Results.{first_of}
-use Rattle.pat_resolution.proofs.Firsts.{refused}
-use Rattle.pat_heads.specs.Names.{names_view}
-use Rattle.pat_heads.specs.Views.{heads_view}
-use Rattle.pat_numbering.specs.declared.state.Numbering.{Numbering}
-use Rattle.pat_bodies.proofs.Rows.{row_from}
+use Rattle.pat_resolver_answers.specs.Results.{first_of}
+use Rattle.pat_resolver_answers.proofs.Firsts.{refused}
+use Rattle.pat_resolver_heads.specs.Names.{names_view}
+use Rattle.pat_resolver_heads.specs.Views.{heads_view}
+use Rattle.pat_resolver_numbering.specs.declared.state.Numbering.{Numbering}
+use Rattle.pat_resolver_bodies.proofs.Rows.{row_from}
 use Rattle.pat_resolver.specs.Steps.{nodes_in_all}
 use Rattle.pat_resolver.proofs.Room.{nodes_few, decl_within, decls_within}
 use Rattle.pat_resolver.proofs.Definitions.{found_more, found_turn, functions_turn, nodes_turn, written_turn, places_turn, more_nodes, more_functions, nodes_split, at_most_one}

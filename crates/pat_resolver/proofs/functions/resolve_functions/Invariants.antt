@@ -7,10 +7,10 @@ use Rattle.pat_grammar_laws.specs.Counts.{tree_size}
 use Rattle.pat_core.specs.Views.{function_view, node_view}
 use Rattle.pat_core.specs.declared.program.Node.{Node}
 use Rattle.pat_tree.specs.Views.{decl_view, span_view}
-use Rattle.pat_resolution.specs.Results.{first_of}
-use Rattle.pat_resolution.specs.Views.{function_places}
-use Rattle.pat_heads.specs.Names.{names_view}
-use Rattle.pat_heads.specs.Views.{heads_view}
+use Rattle.pat_resolver_answers.specs.Results.{first_of}
+use Rattle.pat_resolver_answers.specs.Views.{function_places}
+use Rattle.pat_resolver_heads.specs.Names.{names_view}
+use Rattle.pat_resolver_heads.specs.Views.{heads_view}
 use Rattle.pat_resolver.specs.Steps.{nodes_in_all}
 use Rattle.pat_resolver.proofs.Definitions.{places_of}
 use Rattle.pat_resolver.proofs.functions.resolve_functions.Given as goal

@@ -1,6 +1,6 @@
 use Rattle.std.proofs.Common.{◌+◌, ◌<◌, length, drop, arith, ◌∙◌}
 use Rattle.std.proofs.lemmas.Grind.{common_steps}
-use Rattle.pat_bodies.proofs.Rows.{row_from}
+use Rattle.pat_resolver_bodies.proofs.Rows.{row_from}
 use Rattle.pat_resolver.proofs.Rows.{scope_more, kinds_more, spans_more}
 use Rattle.pat_resolver.proofs.heads.bind_params.Goals as goal
 

@@ -3,7 +3,7 @@ use Rattle.pat_model.specs.Programs.{kind_of}
 use Rattle.pat_names.specs.Scopes.{bind_names}
 use Rattle.pat_names.specs.Heads.{params_scope}
 use Rattle.pat_core.specs.Views.{kind_view, sort_view}
-use Rattle.pat_tables.specs.Views.{scope_view}
+use Rattle.pat_resolver_tables.specs.Views.{scope_view}
 use Rattle.pat_tree.specs.Views.{span_view, param_view}
 use Rattle.pat_resolver.proofs.heads.bind_params.Given as goal
 

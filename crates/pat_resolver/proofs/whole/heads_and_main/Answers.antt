@@ -5,9 +5,9 @@ use Rattle.pat_names.specs.Heads.{interface_names}
 use Rattle.pat_names.specs.Findings.{heads_findings, main_findings, main_of}
 use Rattle.pat_tree.specs.Views.{tree_view, decl_view}
 use Rattle.pat_tree.specs.declared.tree.Decl.{Decl}
-use Rattle.pat_resolution.specs.Results.{first_of, Refuses}
-use Rattle.pat_resolution.proofs.Firsts.{refused, refuses_behind}
-use Rattle.pat_heads.proofs.Size.{within_size}
+use Rattle.pat_resolver_answers.specs.Results.{first_of, Refuses}
+use Rattle.pat_resolver_answers.proofs.Firsts.{refused, refuses_behind}
+use Rattle.pat_resolver_heads.proofs.Size.{within_size}
 use Rattle.pat_resolver.proofs.whole.heads_and_main.Goals as goal
 
 pub find_main-requires : goal.find_main-requires

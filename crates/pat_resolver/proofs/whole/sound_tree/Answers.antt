@@ -1,7 +1,7 @@
 use Rattle.std.proofs.Common.{ap, map}
 use Rattle.pat_tree.specs.Views.{tree_view, decl_view}
-use Rattle.pat_heads.specs.Names.{names_view}
-use Rattle.pat_heads.specs.Views.{heads_view}
+use Rattle.pat_resolver_heads.specs.Names.{names_view}
+use Rattle.pat_resolver_heads.specs.Views.{heads_view}
 use Rattle.pat_resolver.proofs.Wholes.{meets_bodies}
 use Rattle.pat_resolver.proofs.whole.sound_tree.Goals as goal
 

@@ -2,7 +2,7 @@ use Rattle.std.proofs.Common.{◌≡◌, map, drop}
 use Rattle.std.specs.List.{list_all}
 use Rattle.pat_model.specs.Programs.{Node}
 use Rattle.pat_core.specs.Views.{node_view}
-use Rattle.pat_plain.specs.Straight.{is_plain_core}
+use Rattle.pat_plain_laws.specs.Straight.{is_plain_core}
 use Rattle.pat_session.proofs.straight.are_plain.Given as goal
 
 abbrev pub invariant-loop-node : goal.invariant-loop-node

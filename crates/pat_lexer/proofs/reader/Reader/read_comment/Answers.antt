@@ -1,7 +1,7 @@
 use Rattle.std.proofs.Common.{◌≡◌, ◌++◌, nat_lt, true, ℕ, take, drop, arith}
 use Rattle.std.proofs.lemmas.Bool.Decides.{nat_tests}
 use Rattle.pat_lexical.specs.Characters.{is_in_line}
-use Rattle.pat_lexical.proofs.Runs.{Each-weaker}
+use Rattle.pat_lexical_laws.proofs.Runs.{Each-weaker}
 use Rattle.pat_lexer.specs.Bytes.{is_comment_byte}
 use Rattle.pat_lexer.specs.Reads.{progress}
 use Rattle.pat_lexer.proofs.Slices.{at_run, run_length, ascii_utf8}

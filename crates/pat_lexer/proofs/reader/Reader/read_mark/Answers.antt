@@ -4,8 +4,8 @@ use Rattle.pat_lexical.specs.Marks.{mark_bytes}
 use Rattle.pat_lexical.specs.Tokens.{Mark}
 use Rattle.pat_lexical.specs.Characters.{is_blank, is_digit}
 use Rattle.pat_lexical.specs.Divisions.{IsRefused, BadToken}
-use Rattle.pat_lexical.proofs.Classes.{is_name_front, class_other}
-use Rattle.pat_lexical.proofs.Faults.{no_mark}
+use Rattle.pat_lexical_laws.proofs.Classes.{is_name_front, class_other}
+use Rattle.pat_lexical_laws.proofs.Faults.{no_mark}
 use Rattle.pat_syntax.specs.Views.{mark_view}
 use Rattle.pat_lexer.specs.Bytes.{is_other}
 use Rattle.pat_lexer.specs.Progress.{Progress, Stands}

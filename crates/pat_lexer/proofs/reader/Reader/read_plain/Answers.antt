@@ -1,7 +1,7 @@
 use Rattle.std.proofs.Common.{◌≡◌, ◌++◌, nat_lt, true, ℕ, List, take, drop, ap, ◌∙◌, arith}
 use Rattle.std.proofs.lemmas.Bool.Decides.{nat_tests}
 use Rattle.pat_lexical.specs.Characters.{is_plain}
-use Rattle.pat_lexical.proofs.Runs.{Each-weaker}
+use Rattle.pat_lexical_laws.proofs.Runs.{Each-weaker}
 use Rattle.pat_lexer.specs.Bytes.{is_plain_ascii}
 use Rattle.pat_lexer.specs.Progress.{Progress}
 use Rattle.pat_lexer.specs.Changes.{with_held}

@@ -1,9 +1,0 @@
-use Rattle.std.proofs.Common.{◌≡◌, [], ◌∷◌, ◌++◌, drop, map, reverse}
-use Rattle.pat_names.specs.Findings.{names_findings}
-use Rattle.pat_tree.specs.Views.{name_view}
-use Rattle.pat_resolution.specs.Results.{first_of}
-use Rattle.pat_bodies.proofs.names.check_names.Given as goal
-
--- what is found among the names that are left is what is found among all
-abbrev pub invariant-loop-name : goal.invariant-loop-name
-invariant-loop-name l = first_of (names_findings (reverse l.earlier) (map name_view (drop l.name-index l.names) ++ name_view l.from ∷ [])) ≡ first_of (names_findings [] (map name_view l.names ++ name_view l.from ∷ []))

@@ -1,0 +1,11 @@
+pub mod Fits
+pub mod FitsTerm
+pub mod Canon
+pub mod Same
+pub mod Twice
+pub mod RoundTrip
+pub mod Examples
+pub mod Apart
+pub mod Beginning
+pub mod Writable
+pub mod Again

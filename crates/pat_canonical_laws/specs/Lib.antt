@@ -1,0 +1,3 @@
+pub mod RoundTrip
+pub mod ReadAgain
+pub mod Examples

@@ -1,0 +1,28 @@
+-- What the canonical text of a tree is read as.
+use Rattle.std.specs.Prelude.{◌≡◌, ℕ, List}
+use Rattle.pat_lexical.specs.Tokens.{Token, Spanned}
+use Rattle.pat_lexical.specs.Divisions.{Divides}
+use Rattle.pat_grammar.specs.Trees.{Tree}
+use Rattle.pat_grammar.specs.Items.{Limits}
+use Rattle.pat_grammar.specs.Claims.{SpellsTree}
+use Rattle.pat_grammar_laws.specs.Names.{IsSpelled, EachOf}
+use Rattle.pat_canonical.specs.Bare.{bare}
+use Rattle.pat_canonical.specs.Canonical.{canonical, tokens_of}
+use Rattle.pat_canonical_laws.specs.RoundTrip.{kinds}
+
+-- Some bytes spell each token of the tree's canonical text: its names are names, its strings are those that strings stand
+-- for, and its integers are those that runs of digits stand for.
+abbrev pub IsWritable : Tree → Type 0
+IsWritable m = EachOf IsSpelled (tokens_of (canonical m))
+
+-- the text divides into these tokens, at some places
+abbrev pub DividesInto : List ℕ → List Token → Type 0
+DividesInto text tokens = (us : List Spanned) × Divides text us × (kinds us ≡ tokens)
+
+-- the text divides into tokens that spell the tree within the limits, places aside
+pub record ReadsAs (lim : Limits) (text : List ℕ) (m : Tree) : Type 0 where
+  pub tokens : List Spanned
+  pub tree : Tree
+  pub divides : Divides text tokens
+  pub spelled : SpellsTree lim tokens tree
+  pub same : bare m ≡ bare tree

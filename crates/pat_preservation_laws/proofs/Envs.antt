@@ -1,0 +1,143 @@
+-- Look-ups in environments, and what an environment holds of a mailbox.
+use Rattle.std.proofs.Common.{◌≡◌, ℕ, suc, ◌≤◌, Bool, true, false, cond, nat_eq, nat_lt, if◌then◌else◌, List, [], ◌∷◌, Some, None, refl, sym, ap, ◌∙◌, subst, arith, ⊎_elim}
+use Rattle.std.specs.Prelude.{filter}
+use Rattle.std.specs.Map.{lookup}
+use Rattle.std.proofs.lemmas.Bool.{eqb-true, eqb-false, eq-eqb, ne_eqb, ltb-true, ltb-false, cond-true, cond-false, cases_Bool}
+use Rattle.pat_model.specs.Values.{Value, Mailbox, Env, value_at, bind, bind_all, AscendsFrom}
+use Rattle.pat_model.specs.Programs.{Program, is_free, keep}
+use Rattle.pat_model.specs.Configs.{is_mailbox}
+use Rattle.pat_typing.specs.Types.{TypeEnv}
+use Rattle.pat_typing.specs.Holdings.{held}
+use Rattle.pat_preservation_laws.proofs.Refers.{is_mailbox_same, name_is}
+
+-- ---- ascending environments
+
+pub ascends_less : (m n : ℕ) (env : Env) → m ≤ n → AscendsFrom n env → AscendsFrom m env
+ascends_less m n [] h a = tt
+ascends_less m n (e ∷ env) h a = (let k = a.0 in omega arith, a.1)
+
+-- a variable that has a value is at or above the first number
+pub value_above : (n : ℕ) (env : Env) (z : ℕ) (v : Value) → AscendsFrom n env → value_at env z ≡ Some v → n ≤ z
+value_above n [] z v a h = cc
+value_above n (e ∷ env) z v a h =
+    (elim (nat_eq z e.0) as (λ t. nat_eq z e.0 ≡ t → cond t (Some e.1) (lookup (nat_eq z) env) ≡ Some v → n ≤ z) [
+      | true ↦ λ q k. let same : z ≡ e.0 = eqb-true z e.0 q in let l = a.0 in omega arith
+      | false ↦ λ q k. let above = value_above (suc e.0) env z v a.1 k in let l = a.0 in omega arith
+    ]) refl h
+
+pub ascends_bind : (n : ℕ) (env : Env) (x : ℕ) (v : Value) → n ≤ x → AscendsFrom n env → AscendsFrom n (bind env x v)
+ascends_bind n [] x v h a = (h, tt)
+ascends_bind n (e ∷ env) x v h a =
+    (elim (nat_lt x e.0) as (λ t. nat_lt x e.0 ≡ t → AscendsFrom n (if t then (x, v) ∷ e ∷ env else if nat_eq x e.0 then (x, v) ∷ env else e ∷ bind env x v)) [
+      | true ↦ λ q. let l = ltb-true x e.0 q in (h, (omega arith, a.1))
+      | false ↦ λ q.
+          (elim (nat_eq x e.0) as (λ t. nat_eq x e.0 ≡ t → AscendsFrom n (if t then (x, v) ∷ env else e ∷ bind env x v)) [
+            | true ↦ λ r. let same : x ≡ e.0 = eqb-true x e.0 r in (h, subst (λ k. AscendsFrom (suc k) env) (sym same) a.1)
+            | false ↦ λ r.
+                let l = ltb-false x e.0 q in
+                let apart : x ≡ e.0 → ⊥ = eqb-false x e.0 r in
+                (a.0, ascends_bind (suc e.0) env x v (omega arith) a.1)
+          ]) refl
+    ]) refl
+
+pub ascends_bind_all : (env : Env) (xs : List ℕ) (vs : List Value) → AscendsFrom 0 env → AscendsFrom 0 (bind_all env xs vs)
+ascends_bind_all env [] vs a = a
+ascends_bind_all env (x ∷ xs) [] a = a
+ascends_bind_all env (x ∷ xs) (v ∷ vs) a = ascends_bind 0 (bind_all env xs vs) x v (omega arith) (ascends_bind_all env xs vs a)
+
+pub ascends_filter : (f : ℕ × Value → Bool) (n : ℕ) (env : Env) → AscendsFrom n env → AscendsFrom n (filter f env)
+ascends_filter f n [] a = tt
+ascends_filter f n (e ∷ env) a =
+    elim (f e) as (λ t. AscendsFrom n (cond t (e ∷ filter f env) (filter f env))) [
+      | true ↦ (a.0, ascends_filter f (suc e.0) env a.1)
+      | false ↦ let l = a.0 in ascends_less n (suc e.0) (filter f env) (omega arith) (ascends_filter f (suc e.0) env a.1)
+    ]
+
+-- ---- look-ups
+
+-- the value that was bound, or the one that was there
+pub value_at-bind : (env : Env) (x : ℕ) (v : Value) (z : ℕ) → value_at (bind env x v) z ≡ (if nat_eq z x then Some v else value_at env z)
+value_at-bind [] x v z = refl
+value_at-bind (e ∷ env) x v z =
+    (elim (nat_lt x e.0) as (λ t. nat_lt x e.0 ≡ t → value_at (if t then (x, v) ∷ e ∷ env else if nat_eq x e.0 then (x, v) ∷ env else e ∷ bind env x v) z ≡ (if nat_eq z x then Some v else value_at (e ∷ env) z)) [
+      | true ↦ λ q. refl
+      | false ↦ λ q.
+          (elim (nat_eq x e.0) as (λ t. nat_eq x e.0 ≡ t → value_at (if t then (x, v) ∷ env else e ∷ bind env x v) z ≡ (if nat_eq z x then Some v else value_at (e ∷ env) z)) [
+            | true ↦ λ r.
+                let same : x ≡ e.0 = eqb-true x e.0 r in
+                (elim (nat_eq z x) as (λ t. nat_eq z x ≡ t → cond t (Some v) (lookup (nat_eq z) env) ≡ (if t then Some v else cond (nat_eq z e.0) (Some e.1) (lookup (nat_eq z) env))) [
+                  | true ↦ λ w. refl
+                  | false ↦ λ w. sym (cond-false (nat_eq z e.0) (Some e.1) (lookup (nat_eq z) env) (ap (nat_eq z) (sym same) ∙ w))
+                ]) refl
+            | false ↦ λ r.
+                (elim (nat_eq z e.0) as (λ t. nat_eq z e.0 ≡ t → cond t (Some e.1) (value_at (bind env x v) z) ≡ (if nat_eq z x then Some v else cond t (Some e.1) (lookup (nat_eq z) env))) [
+                  | true ↦ λ w.
+                      let same : z ≡ e.0 = eqb-true z e.0 w in
+                      let apart : nat_eq z x ≡ false = ne_eqb z x (λ q. eqb-false x e.0 r (sym q ∙ same)) in
+                      sym (cond-false (nat_eq z x) (Some v) (Some e.1) apart)
+                  | false ↦ λ w. value_at-bind env x v z
+                ]) refl
+          ]) refl
+    ]) refl
+
+-- the value of a free variable, and no other
+pub value_at-filter : (f : ℕ → Bool) (env : Env) (z : ℕ) → value_at (filter (λ b. f b.0) env) z ≡ (if f z then value_at env z else None)
+value_at-filter f [] z = elim (f z) as (λ t. value_at [] z ≡ (if t then value_at [] z else None)) [ true ↦ refl | false ↦ refl ]
+value_at-filter f (e ∷ env) z =
+    (elim (f e.0) as (λ t. f e.0 ≡ t → value_at (cond t (e ∷ filter (λ b. f b.0) env) (filter (λ b. f b.0) env)) z ≡ (if f z then value_at (e ∷ env) z else None)) [
+      | true ↦ λ q.
+          (elim (nat_eq z e.0) as (λ t. nat_eq z e.0 ≡ t → cond t (Some e.1) (value_at (filter (λ b. f b.0) env) z) ≡ (if f z then cond t (Some e.1) (value_at env z) else None)) [
+            | true ↦ λ w. sym (cond-true (f z) (Some e.1) None (ap f (eqb-true z e.0 w) ∙ q))
+            | false ↦ λ w. value_at-filter f env z
+          ]) refl
+      | false ↦ λ q.
+          value_at-filter f env z
+          ∙ (elim (nat_eq z e.0) as (λ t. nat_eq z e.0 ≡ t → (if f z then value_at env z else None) ≡ (if f z then cond t (Some e.1) (value_at env z) else None)) [
+            | true ↦ λ w.
+                let no : f z ≡ false = ap f (eqb-true z e.0 w) ∙ q in
+                cond-false (f z) (value_at env z) None no ∙ sym (cond-false (f z) (Some e.1) None no)
+            | false ↦ λ w. refl
+          ]) refl
+    ]) refl
+
+pub value_at-keep : (p : Program) (n : ℕ) (env : Env) (z : ℕ) → value_at (keep p n env) z ≡ (if is_free p z n then value_at env z else None)
+value_at-keep p n env z = value_at-filter (λ x. is_free p x n) env z
+
+-- a value that is kept is that of a free variable
+pub kept : (p : Program) (n : ℕ) (env : Env) (z : ℕ) (v : Value) → value_at (keep p n env) z ≡ Some v → (is_free p z n ≡ true) × (value_at env z ≡ Some v)
+kept p n env z v h =
+    (elim (is_free p z n) as (λ t. is_free p z n ≡ t → (if t then value_at env z else None) ≡ Some v → (is_free p z n ≡ true) × (value_at env z ≡ Some v)) [
+      | true ↦ λ q k. (q, k)
+      | false ↦ λ q k. cc
+    ]) refl (sym (value_at-keep p n env z) ∙ h)
+
+-- ---- what is held of a mailbox
+
+-- a variable names the mailbox, and what is held is its type; or none does, and nothing is held
+pub data HeldCases (g : TypeEnv) (b : ℕ) (env : Env) : Type 0 where
+  by_variable : (z : ℕ) → value_at env z ≡ Some (Mailbox b) → held g b env ≡ g z → HeldCases g b env
+  by_none : ((z : ℕ) → value_at env z ≡ Some (Mailbox b) → ⊥) → held g b env ≡ None → HeldCases g b env
+
+held_on : (g : TypeEnv) (b : ℕ) (e : ℕ × Value) (env : Env) → AscendsFrom (suc e.0) env → is_mailbox b e.1 ≡ false → HeldCases g b env → HeldCases g b (e ∷ env)
+held_on g b e env a off (by_variable z at is) =
+    let above = value_above (suc e.0) env z (Mailbox b) a at in
+    let apart : nat_eq z e.0 ≡ false = ne_eqb z e.0 (λ q. omega arith) in
+    by_variable z (cond-false (nat_eq z e.0) (Some e.1) (lookup (nat_eq z) env) apart ∙ at) (cond-false (is_mailbox b e.1) (g e.0) (held g b env) off ∙ is)
+held_on g b e env a off (by_none none is) =
+    by_none
+    (λ z h. (elim (nat_eq z e.0) as (λ t. cond t (Some e.1) (lookup (nat_eq z) env) ≡ Some (Mailbox b) → ⊥) [
+      | true ↦ λ k. let same : e.1 ≡ Mailbox b = cc in true_false (sym (name_is b) ∙ ap (is_mailbox b) (sym same) ∙ off)
+      | false ↦ λ k. none z k
+    ]) h)
+    (cond-false (is_mailbox b e.1) (g e.0) (held g b env) off ∙ is)
+  where
+    true_false : true ≡ false → ⊥
+    true_false e = cc
+
+pub held_cases : (g : TypeEnv) (b n : ℕ) (env : Env) → AscendsFrom n env → HeldCases g b env
+held_cases g b n [] a = by_none (λ z h. cc) refl
+held_cases g b n (e ∷ env) a =
+    ⊎_elim
+    (λ found. by_variable e.0 (cond-true (nat_eq e.0 e.0) (Some e.1) (lookup (nat_eq e.0) env) (eq-eqb e.0 e.0 refl) ∙ ap (λ v. Some v) (is_mailbox_same b e.1 found)) (cond-true (is_mailbox b e.1) (g e.0) (held g b env) found))
+    (λ off. held_on g b e env a.1 off (held_cases g b (suc e.0) env a.1))
+    (cases_Bool (is_mailbox b e.1))

@@ -1,0 +1,76 @@
+-- A step that replaces one thread, and changes nothing else but what is printed, keeps a configuration typed.
+use Rattle.std.proofs.Common.{◌≡◌, ℕ, true, nat_eq, ◌<◌, List, Some, refl, sym, ◌∙◌, subst, ⊎_elim}
+use Rattle.std.specs.List.{IsDistinct, list_any}
+use Rattle.pat_model.specs.Values.{Const, Kind, Plain, BaseUnit, UnitConst, Env, ValueFits}
+use Rattle.pat_model.specs.Programs.{Program}
+use Rattle.pat_model.specs.Configs.{Running, Thread, Config, thread_at, with_thread, thread_refers, control_refers, pending, env_refers}
+use Rattle.pat_model.specs.Steps.{returned_unit}
+use Rattle.pat_typing.specs.Types.{kind_of_type}
+use Rattle.pat_typing.specs.Typings.{Typing}
+use Rattle.pat_typing.specs.Holdings.{wanted, holdings, Balanced}
+use Rattle.pat_typing.specs.Typed.{IsTyped, ThreadFits, ControlFits}
+use Rattle.pat_preservation_laws.proofs.Threads.{set_all, keys_of-set, lookup_any, set_any}
+use Rattle.pat_preservation_laws.proofs.Nodes.{fits_kind}
+use Rattle.std.proofs.lemmas.Bool.{or_right}
+
+-- the thread's new state refers to no more, and what the holdings become is balanced
+pub replace_keeps : (p : Program) (y : Typing) (c : Config) (t : ℕ) (s r : Thread) (typed : IsTyped p y c) → thread_at c t ≡ Some s → ThreadFits p y typed.interfaces r → ((a : ℕ) → thread_refers a r ≡ true → thread_refers a s ≡ true) → ((a : ℕ) → Balanced (holdings p y typed.interfaces c a) (pending c a) → Balanced (holdings p y typed.interfaces (with_thread c t r) a) (pending c a)) → IsTyped p y (with_thread c t r)
+replace_keeps p y c t s r typed there fits refers balanced =
+    let n = typed.numbers in
+    record {
+      typing = typed.typing;
+      interfaces = typed.interfaces;
+      numbers = record {
+        threads = subst (IsDistinct nat_eq) (sym (keys_of-set c.threads t r)) n.threads;
+        messages = n.messages;
+        live = n.live;
+        threads_below = set_all (λ e. e.0 < c.next_thread) c.threads t r (λ e h. h) n.threads_below;
+        messages_below = n.messages_below;
+        live_below = n.live_below;
+        threads_live = λ a h.
+            n.threads_live a
+            (⊎_elim (λ here. lookup_any (thread_refers a) c.threads t s there (refers a here)) (λ x. x) (set_any (thread_refers a) c.threads t r h));
+        messages_live = n.messages_live;
+      };
+      threads = set_all (λ e. ThreadFits p y typed.interfaces e.1) c.threads t r (λ e h. fits) typed.threads;
+      messages = typed.messages;
+      balanced = λ a live. balanced a (typed.balanced a live);
+    }
+
+-- what was printed doesn't matter
+pub printed_keeps : (p : Program) (y : Typing) (c : Config) (lines : List (List ℕ)) → IsTyped p y c → IsTyped p y (record c { printed = lines })
+printed_keeps p y c lines typed =
+    let n = typed.numbers in
+    record {
+      typing = typed.typing;
+      interfaces = typed.interfaces;
+      numbers = record {
+        threads = n.threads;
+        messages = n.messages;
+        live = n.live;
+        threads_below = n.threads_below;
+        messages_below = n.messages_below;
+        live_below = n.live_below;
+        threads_live = n.threads_live;
+        messages_live = n.messages_live;
+      };
+      threads = typed.threads;
+      messages = typed.messages;
+      balanced = typed.balanced;
+    }
+
+-- a thread whose term is of kind unit may return nothing
+pub unit_fits : (p : Program) (y : Typing) (interfaces : ℕ → ℕ) (s : Thread) (n : ℕ) (env : Env) → ThreadFits p y interfaces s → s.control ≡ Running n env → kind_of_type (y.results n) ≡ Plain BaseUnit → ThreadFits p y interfaces (returned_unit s.frames)
+unit_fits p y interfaces s n env fits at unit =
+    let control : ControlFits p y interfaces (Running n env) s.frames = subst (λ k. ControlFits p y interfaces k s.frames) at fits.control in
+    let k : Plain BaseUnit ≡ kind_of_type (wanted p y s.frames) = sym unit ∙ fits_kind (y.results n) (wanted p y s.frames) control.1 in
+    record {
+      control = subst (λ (x : Kind). ValueFits interfaces (Const UnitConst) x) k refl;
+      frames = fits.frames;
+      control_keeps = λ b a h u. cc;
+      frames_keep = fits.frames_keep;
+    }
+
+-- and then it refers to no more than before
+pub unit_refers : (s : Thread) (a : ℕ) → thread_refers a (returned_unit s.frames) ≡ true → thread_refers a s ≡ true
+unit_refers s a h = or_right (control_refers a s.control) (list_any (λ f. env_refers a f.env) s.frames) h

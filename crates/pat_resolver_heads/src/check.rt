@@ -1,0 +1,241 @@
+// The rules of heads, declaration by declaration.
+ghost use Rattle.std.specs.Prelude.{◌≡◌, ◌∷◌, ◌++◌, [], map, reverse, option_map, OnOk, true, false};
+ghost use Rattle.std.specs.List.{flat_map};
+ghost use Rattle.pat_words.specs.Patterns.{is_inhabited};
+ghost use Rattle.pat_names.specs.Heads.{pattern_of};
+ghost use Rattle.pat_names.specs.Findings.{repeated, empty_sending, receiving_payload, written_pattern_findings, type_findings, messages_findings, params_findings, heads_findings};
+ghost use Rattle.pat_primitives.specs.Views.{polarity_view};
+ghost use Rattle.pat_tree.specs.Views.{span_view, name_view, pattern_view, type_view, message_view, param_view, decl_view};
+ghost use Rattle.pat_resolver_answers.specs.Results.{Meets};
+ghost use Rattle.pat_resolver_heads.specs.Names.{names_view};
+ghost use Rattle.pat_resolver_heads.specs.Examined.{message_findings, param_findings, decl_findings, interfaces_with, functions_with};
+
+use crate::names::Names;
+use crate::patterns::check_pattern;
+use pat_primitives::Polarity;
+use pat_resolver_answers::{ResolveError, ResolveKind};
+use pat_resolver_tables::NameTable;
+use pat_syntax::Span;
+use pat_tree::{Decl, Name, Param, TreeMessage, TreePattern, TreeType};
+use std::alloc::Global;
+
+/// Examines the heads of all declarations in order.
+pub fn check_heads(alloc: Global, names: &Names, decls: &[Decl]) -> Result<(), ResolveError>
+    ensures { Meets result (heads_findings (names_view names.now) [] [] (map decl_view decls.now)) }
+{
+    let mut interfaces = NameTable::new(alloc);
+    let mut functions = NameTable::new(alloc);
+    for decl in decls {
+        check_decl(alloc, names, &mut interfaces, &mut functions, decl)?;
+    }
+    Ok(())
+}
+
+/// Examines the head of a declaration, behind interfaces and functions of the earlier names.
+fn check_decl(
+    alloc: Global,
+    names: &Names,
+    interfaces: &mut NameTable,
+    functions: &mut NameTable,
+    decl: &Decl,
+) -> Result<(), ResolveError>
+    ensures found { Meets result (decl_findings (names_view names.now) (reverse interfaces.old) (reverse functions.old) (decl_view decl.now)) }
+    ensures interfaces { OnOk result (reverse interfaces.new ≡ interfaces_with (decl_view decl.now) (reverse interfaces.old)) }
+    ensures functions { OnOk result (reverse functions.new ≡ functions_with (decl_view decl.now) (reverse functions.old)) }
+{
+    match decl {
+        Decl::Interface { name, messages } => {
+            check_new(alloc, interfaces, name)?;
+            check_messages(alloc, names, messages.as_slice())
+        }
+        Decl::Def {
+            name,
+            params,
+            result,
+            ..
+        } => {
+            check_new(alloc, functions, name)?;
+            check_params(alloc, names, params.as_slice())?;
+            check_type(names, false, result)
+        }
+    }
+}
+
+/// Refuses a name that is one of the earlier ones, and otherwise puts it behind them.
+fn check_new(alloc: Global, earlier: &mut NameTable, name: &Name) -> Result<(), ResolveError>
+    ensures found { Meets result (repeated (reverse earlier.old) (name_view name.now)) }
+    ensures grown { OnOk result (reverse earlier.new ≡ name.now.text ∷ reverse earlier.old) }
+{
+    match earlier.find(&name.text) {
+        Some(_) => Err(ResolveError::Broken {
+            kind: ResolveKind::Twice,
+            span: name.span,
+        }),
+        None => {
+            earlier.push(alloc, &name.text)?;
+            Ok(())
+        }
+    }
+}
+
+/// Examines the messages of an interface in order.
+fn check_messages(
+    alloc: Global,
+    names: &Names,
+    messages: &[TreeMessage],
+) -> Result<(), ResolveError>
+    ensures { Meets result (messages_findings (names_view names.now) [] (map message_view messages.now)) }
+{
+    let mut earlier = NameTable::new(alloc);
+    for message in messages {
+        check_message(alloc, names, &mut earlier, message)?;
+    }
+    Ok(())
+}
+
+/// Examines a message, behind those of the earlier names.
+fn check_message(
+    alloc: Global,
+    names: &Names,
+    earlier: &mut NameTable,
+    message: &TreeMessage,
+) -> Result<(), ResolveError>
+    ensures found { Meets result (message_findings (names_view names.now) (reverse earlier.old) (message_view message.now)) }
+    ensures grown { OnOk result (reverse earlier.new ≡ message.now.name.text ∷ reverse earlier.old) }
+{
+    let count = earlier.len();
+    check_new(alloc, earlier, &message.name)?;
+    if count == 32 {
+        return Err(ResolveError::Broken {
+            kind: ResolveKind::TooManyTags,
+            span: message.name.span,
+        });
+    }
+    check_payloads(names, message.payloads.as_slice())
+}
+
+/// Examines the types of a message's payloads in order.
+fn check_payloads(names: &Names, types: &[TreeType]) -> Result<(), ResolveError>
+    ensures { Meets result (flat_map (type_findings (names_view names.now) true) (map type_view types.now)) }
+{
+    for of in types {
+        check_type(names, true, of)?;
+    }
+    Ok(())
+}
+
+/// Examines the parameters of a function in order.
+fn check_params(alloc: Global, names: &Names, params: &[Param]) -> Result<(), ResolveError>
+    ensures { Meets result (params_findings (names_view names.now) [] (map param_view params.now)) }
+{
+    let mut earlier = NameTable::new(alloc);
+    for param in params {
+        check_param(alloc, names, &mut earlier, param)?;
+    }
+    Ok(())
+}
+
+/// Examines a parameter, behind those of the earlier names.
+fn check_param(
+    alloc: Global,
+    names: &Names,
+    earlier: &mut NameTable,
+    param: &Param,
+) -> Result<(), ResolveError>
+    ensures found { Meets result (param_findings (names_view names.now) (reverse earlier.old) (param_view param.now)) }
+    ensures grown { OnOk result (reverse earlier.new ≡ param.now.name.text ∷ reverse earlier.old) }
+{
+    check_new(alloc, earlier, &param.name)?;
+    check_type(names, false, &param.of)
+}
+
+/// Examines a written type, of a payload or in a function's head.
+fn check_type(names: &Names, payload: bool, of: &TreeType) -> Result<(), ResolveError>
+    ensures { Meets result (type_findings (names_view names.now) payload (type_view of.now)) }
+{
+    match of {
+        TreeType::Base(_, _) => Ok(()),
+        TreeType::Mailbox {
+            name,
+            polarity,
+            pattern,
+            span,
+        } => match names.find(&name.text) {
+            None => Err(ResolveError::Broken {
+                kind: ResolveKind::UnknownName,
+                span: name.span,
+            }),
+            Some((_, table)) => {
+                check_polarity(payload, *polarity, *span)?;
+                check_written(&table.tags, *polarity, pattern, *span)
+            }
+        },
+    }
+}
+
+/// Refuses a payload of a receiving type.
+fn check_polarity(payload: bool, polarity: Polarity, span: Span) -> Result<(), ResolveError>
+    ensures { Meets result (receiving_payload payload (polarity_view polarity) (span_view span)) }
+{
+    match (payload, polarity) {
+        (true, Polarity::Receiving) => Err(ResolveError::Broken {
+            kind: ResolveKind::WrongKind,
+            span,
+        }),
+        _ => Ok(()),
+    }
+}
+
+/// Examines the pattern of a mailbox type, if it is written: its tags, and that a sending type has a word.
+fn check_written(
+    tags: &NameTable,
+    polarity: Polarity,
+    pattern: &Option<TreePattern>,
+    span: Span,
+) -> Result<(), ResolveError>
+    ensures { Meets result (written_pattern_findings tags.now (polarity_view polarity) (option_map pattern_view pattern.now) (span_view span)) }
+{
+    match pattern {
+        None => Ok(()),
+        Some(pattern) => {
+            check_pattern(tags, pattern)?;
+            check_sending(tags, polarity, pattern, span)
+        }
+    }
+}
+
+/// Refuses a sending type whose pattern has no word.
+fn check_sending(
+    tags: &NameTable,
+    polarity: Polarity,
+    pattern: &TreePattern,
+    span: Span,
+) -> Result<(), ResolveError>
+    ensures { Meets result (empty_sending (polarity_view polarity) (pattern_of tags.now (pattern_view pattern.now)) (span_view span)) }
+{
+    match polarity {
+        Polarity::Receiving => Ok(()),
+        Polarity::Sending => {
+            if has_word(tags, pattern) {
+                Ok(())
+            } else {
+                Err(ResolveError::Broken {
+                    kind: ResolveKind::EmptySending,
+                    span,
+                })
+            }
+        }
+    }
+}
+
+/// Whether a pattern has a word, whatever the numbers of its tags.
+fn has_word(tags: &NameTable, pattern: &TreePattern) -> bool
+    ensures { result ≡ is_inhabited (pattern_of tags.now (pattern_view pattern.now)) }
+{
+    match pattern {
+        TreePattern::Zero(_) => false,
+        TreePattern::One(_) | TreePattern::Tag(_) | TreePattern::Star(_) => true,
+        TreePattern::Sum(left, right) => has_word(tags, left) || has_word(tags, right),
+        TreePattern::Prod(left, right) => has_word(tags, left) && has_word(tags, right),
+    }
+}

@@ -1,0 +1,62 @@
+// The names of all interfaces and their tags: types may name interfaces that are declared further down.
+ghost use Rattle.std.specs.Prelude.{◌≡◌, ◌<◌, ◌≤◌, ◌+◌, ◌^◌, ◌∷◌, ◌++◌, [], ℕ, length, map, IfOk, OnOk};
+ghost use Rattle.pat_names.specs.Heads.{interface_names};
+ghost use Rattle.pat_tree.specs.Views.{message_view, decl_view};
+ghost use Rattle.pat_resolver_heads.specs.Names.{names_view, table_view};
+
+use crate::names::{InterfaceTable, Names};
+use pat_resolver_tables::NameTable;
+use pat_sequences::Sequence;
+use pat_tree::{Decl, Name, TreeMessage};
+use std::alloc::{AllocError, Global};
+
+/// The interfaces that are declared, in order, with the names of their tags.
+pub fn gather_names(alloc: Global, decls: &[Decl]) -> Result<Names, AllocError>
+    requires { length decls.now < 2 ^ 32 }
+    ensures { IfOk result (λ n. names_view n ≡ interface_names (map decl_view decls.now)) }
+{
+    let mut table = NameTable::new(alloc);
+    let mut interfaces = Sequence::new(alloc);
+    for decl in decls {
+        gather_decl(alloc, &mut table, &mut interfaces, decl)?;
+    }
+    Ok(Names { interfaces, table })
+}
+
+/// Puts the interface that a declaration declares, if it does, behind the others.
+fn gather_decl(
+    alloc: Global,
+    table: &mut NameTable,
+    interfaces: &mut Sequence<InterfaceTable>,
+    decl: &Decl,
+) -> Result<(), AllocError>
+    ensures tied { OnOk result (table.old ≡ map (λ i. i.name) interfaces.old → table.new ≡ map (λ i. i.name) interfaces.new) }
+    ensures few { OnOk result (length interfaces.new ≤ length interfaces.old + 1) }
+    ensures all { OnOk result (map table_view interfaces.new ≡ map table_view interfaces.old ++ interface_names (decl_view decl.now ∷ [])) }
+{
+    match decl {
+        Decl::Interface { name, messages } => {
+            let own = table_of(alloc, name, messages.as_slice())?;
+            table.push(alloc, &name.text)?;
+            interfaces.push(own)
+        }
+        Decl::Def { .. } => Ok(()),
+    }
+}
+
+/// The name of an interface and those of its tags.
+fn table_of(
+    alloc: Global,
+    name: &Name,
+    messages: &[TreeMessage],
+) -> Result<InterfaceTable, AllocError>
+    ensures name { IfOk result (λ t. t.name ≡ name.now.text) }
+    ensures tags { IfOk result (λ t. t.tags ≡ map (λ m. m.name.text) (map message_view messages.now)) }
+{
+    let mut tags = NameTable::new(alloc);
+    for message in messages {
+        tags.push(alloc, &message.name.text)?;
+    }
+    let name = name.text.copy(alloc)?;
+    Ok(InterfaceTable { name, tags })
+}

@@ -1,0 +1,111 @@
+-- First places of names, in a list and in a table.
+use Rattle.std.proofs.Common.{◌≡◌, ℕ, zero, suc, ◌<◌, Bool, true, false, cond, List, [], ◌∷◌, ◌++◌, length, Option, Some, None, option_map, refl, ap, sym, ◌∙◌, arith, Vec, Global}
+use Rattle.std.specs.Prelude.{bytes_eq, is_some, IfSome, Result, Ok, Err, OnOk, OnErr}
+use Rattle.std.proofs.lemmas.Slice.Eq.{bytes_eq-Decides}
+use Rattle.std.proofs.lemmas.Bool.Decides.{same_from_decides}
+use Rattle.indexmap.specs.IndexMap.{insert_entry}
+use Rattle.pat_names.specs.Scopes.{first_named, itself}
+use Rattle.pat_resolver_tables.specs.Places.{place_of, known_place}
+
+-- the first, or else the second
+abbrev pub or_else : Option ℕ → Option ℕ → Option ℕ
+or_else None o = o
+or_else (Some i) o = Some i
+
+-- keys are compared by their bytes
+abbrev pub same_key : Vec ℕ Global → Vec ℕ Global → Bool
+same_key a b = bytes_eq a.items b.items
+
+-- ---- in a table
+
+own_first : (b : Bool) (i : ℕ) (o p q : Option ℕ) → o ≡ or_else p q → cond b (Some i) o ≡ or_else (cond b (Some i) p) q
+own_first true i o p q e = refl
+own_first false i o p q e = e
+
+-- a key that isn't there yet
+inserted : (x : List ℕ) (es : List (Vec ℕ Global × ℕ)) (key : Vec ℕ Global) (v : ℕ) → known_place key.items es ≡ None → known_place x (insert_entry same_key es key v) ≡ or_else (known_place x es) (cond (bytes_eq x key.items) (Some v) None)
+inserted x [] key v h = refl
+inserted x (e ∷ es) key v h = go (bytes_eq key.items e.0.items) h (inserted x es key v)
+  where
+    go : (t : Bool) → cond t (Some e.1) (known_place key.items es) ≡ None
+        → (known_place key.items es ≡ None → known_place x (insert_entry same_key es key v) ≡ or_else (known_place x es) (cond (bytes_eq x key.items) (Some v) None))
+        → known_place x (cond t ((e.0, v) ∷ es) (e ∷ insert_entry same_key es key v)) ≡ or_else (cond (bytes_eq x e.0.items) (Some e.1) (known_place x es)) (cond (bytes_eq x key.items) (Some v) None)
+    go true none deeper = cc
+    go false none deeper = own_first (bytes_eq x e.0.items) e.1 (known_place x (insert_entry same_key es key v)) (known_place x es) (cond (bytes_eq x key.items) (Some v) None) (deeper none)
+
+-- ---- in a list
+
+moved : (r : Option (ℕ × List ℕ)) → option_map (λ f. f.0) (option_map {U = ℕ × List ℕ} (λ f. (suc f.0, f.1)) r) ≡ option_map suc (option_map (λ f. f.0) r)
+moved None = refl
+moved (Some f) = refl
+
+later : (o : Option ℕ) (b : Bool) (n : ℕ) → option_map suc (or_else o (cond b (Some n) None)) ≡ or_else (option_map suc o) (cond b (Some (suc n)) None)
+later None true n = refl
+later None false n = refl
+later (Some i) b n = refl
+
+place_pushed : (x : List ℕ) (names : List (List ℕ)) (y : List ℕ) → place_of x (names ++ y ∷ []) ≡ or_else (place_of x names) (cond (bytes_eq y x) (Some (length names)) None)
+place_pushed x [] y = go (bytes_eq y x)
+  where
+    go : (b : Bool) → option_map (λ (f : ℕ × List ℕ). f.0) (cond b (Some (zero, y)) None) ≡ cond b (Some zero) None
+    go true = refl
+    go false = refl
+place_pushed x (n ∷ names) y = go (bytes_eq n x) (place_pushed x names y)
+  where
+    go : (t : Bool) → place_of x (names ++ y ∷ []) ≡ or_else (place_of x names) (cond (bytes_eq y x) (Some (length names)) None)
+        → option_map (λ f. f.0) (cond t (Some (zero, n)) (option_map {U = ℕ × List ℕ} (λ f. (suc f.0, f.1)) (first_named itself x (names ++ y ∷ []))))
+        ≡ or_else (option_map (λ f. f.0) (cond t (Some (zero, n)) (option_map {U = ℕ × List ℕ} (λ f. (suc f.0, f.1)) (first_named itself x names)))) (cond (bytes_eq y x) (Some (suc (length names))) None)
+    go true e = refl
+    go false e =
+        moved (first_named itself x (names ++ y ∷ [])) ∙ ap (option_map suc) e ∙ later (place_of x names) (bytes_eq y x) (length names)
+        ∙ ap (λ o. or_else o (cond (bytes_eq y x) (Some (suc (length names))) None)) (sym (moved (first_named itself x names)))
+
+pub place_below : (x : List ℕ) (names : List (List ℕ)) → IfSome (place_of x names) (λ i. i < length names)
+place_below x [] = tt
+place_below x (n ∷ names) = go (bytes_eq n x) (first_named itself x names) (place_below x names)
+  where
+    go : (t : Bool) (r : Option (ℕ × List ℕ)) → IfSome (option_map (λ f. f.0) r) (λ i. i < length names) → IfSome (option_map (λ f. f.0) (cond t (Some (zero, n)) (option_map {U = ℕ × List ℕ} (λ f. (suc f.0, f.1)) r))) (λ i. i < suc (length names))
+    go true r h = omega arith
+    go false None h = tt
+    go false (Some f) h = omega (arith, h)
+
+-- ---- the table of the list
+
+pub eq_sym : (xs ys : List ℕ) → bytes_eq xs ys ≡ bytes_eq ys xs
+eq_sym xs ys = let d = bytes_eq-Decides ys xs in same_from_decides (bytes_eq xs ys) (bytes_eq ys xs) (bytes_eq-Decides xs ys) (λ h. sym (d.0 h), λ h. d.1 (sym h))
+
+-- one more name, which wasn't there
+pub pushed_new : (x y : List ℕ) (names new : List (List ℕ)) (es fs : List (Vec ℕ Global × ℕ)) (key : Vec ℕ Global) (v : ℕ)
+    → ((z : List ℕ) → known_place z es ≡ place_of z names) → known_place y es ≡ None → key.items ≡ y → v ≡ length names
+    → fs ≡ insert_entry same_key es key v → new ≡ names ++ y ∷ [] → known_place x fs ≡ place_of x new
+pushed_new x y names new es fs key v tied absent own last table list =
+    ap (known_place x) table
+    ∙ inserted x es key v (ap (λ (z : List ℕ). known_place z es) own ∙ absent)
+    ∙ ap (λ o. or_else o (cond (bytes_eq x key.items) (Some v) None)) (tied x)
+    ∙ ap (λ (b : Bool). or_else (place_of x names) (cond b (Some v) None)) (ap (bytes_eq x) own ∙ eq_sym x y)
+    ∙ ap (λ (n : ℕ). or_else (place_of x names) (cond (bytes_eq y x) (Some n) None)) last
+    ∙ sym (place_pushed x names y)
+    ∙ ap (place_of x) (sym list)
+
+-- one more name, which was there
+pub pushed_known : (x y : List ℕ) (names new : List (List ℕ)) (es : List (Vec ℕ Global × ℕ))
+    → ((z : List ℕ) → known_place z es ≡ place_of z names) → true ≡ is_some (known_place y es) → new ≡ names ++ y ∷ [] → known_place x es ≡ place_of x new
+pushed_known x y names new es tied there list = tied x ∙ go (place_of x names) (bytes_eq y x) refl refl ∙ sym (place_pushed x names y) ∙ ap (place_of x) (sym list)
+  where
+    go : (o : Option ℕ) (b : Bool) → place_of x names ≡ o → bytes_eq y x ≡ b → o ≡ or_else o (cond b (Some (length names)) None)
+    go (Some i) b e f = refl
+    go None false e f = refl
+    go None true e f =
+        let same : y ≡ x = (bytes_eq-Decides y x).0 f in
+        let none : known_place y es ≡ None = tied y ∙ ap (λ (z : List ℕ). place_of z names) same ∙ e in
+        let no : true ≡ false = there ∙ ap is_some none in cc
+
+-- the same, where the push may have failed
+pub pushed_or_not : {A E : Type 0} (r : Result A E) (x y : List ℕ) (names new : List (List ℕ)) (es : List (Vec ℕ Global × ℕ))
+    → ((z : List ℕ) → known_place z es ≡ place_of z names) → true ≡ is_some (known_place y es) → OnOk r (new ≡ names ++ y ∷ []) → OnErr r (new ≡ names) → known_place x es ≡ place_of x new
+pushed_or_not (Ok a) x y names new es tied there done undone = pushed_known x y names new es tied there done
+pushed_or_not (Err a) x y names new es tied there done undone = tied x ∙ ap (place_of x) (sym undone)
+
+pub absent_so : (o : Option ℕ) → false ≡ is_some o → o ≡ None
+absent_so None e = refl
+absent_so (Some i) e = cc

@@ -1,0 +1,71 @@
+// Names in order, found by their bytes.
+ghost use Rattle.std.specs.Prelude.{◌≡◌, ◌∷◌, ◌++◌, ◌<◌, [], List, ℕ, length, option_map, OnOk, IfSome};
+ghost use Rattle.pat_names.specs.Scopes.{first_named, itself};
+ghost use Rattle.pat_resolver_tables.specs.Places.{place_of, known_place};
+
+use indexmap::IndexMap;
+use pat_sequences::{Sequence, Text};
+use std::alloc::{AllocError, Global};
+use std::marker::Model;
+
+/// Names in order. A name that stands more than once is found at its first place. A look-up is one of a hash table.
+#[derive(Drop)]
+pub struct NameTable {
+    names: Sequence<Text>,
+    places: IndexMap<Vec<u8>, usize>,
+}
+
+impl Model for NameTable {
+    ghost Value = { List (List ℕ) };
+
+    ghost view = { λ t. t.names };
+
+    ghost invariant = { λ t. (x : List ℕ) → known_place x t.places.entries ≡ place_of x t.names };
+}
+
+impl NameTable {
+    /// No name. It takes no memory.
+    pub fn new(alloc: Global) -> Self
+        ensures { result ≡ [] }
+    {
+        NameTable {
+            names: Sequence::new(alloc),
+            places: IndexMap::new(alloc),
+        }
+    }
+
+    /// The number of names.
+    pub fn len(&self) -> usize
+        ensures { result ≡ length self.now }
+    {
+        self.names.len()
+    }
+
+    /// Appends a name. An error leaves the table as it was.
+    pub fn push(&mut self, alloc: Global, name: &Text) -> Result<(), AllocError>
+        ensures { OnOk result (self.new ≡ self.old ++ name.now ∷ []) }
+    {
+        let own = name.copy(alloc)?;
+        if self.places.contains_key(name.as_bytes()) {
+            return self.names.push(own);
+        }
+        let key = Vec::from_slice(alloc, name.as_bytes())?;
+        let place = self.names.len();
+        self.names.push(own)?;
+        match self.places.insert(key, place) {
+            Ok(_) => Ok(()),
+            Err(_) => {
+                let _ = self.names.pop();
+                Err(AllocError)
+            }
+        }
+    }
+
+    /// The first place of a name, if it is there.
+    pub fn find(&self, name: &Text) -> Option<usize>
+        ensures below { IfSome result (λ i. i < length self.now) }
+        ensures place { result ≡ option_map (λ f. f.0) (first_named itself name.now self.now) }
+    {
+        self.places.get(name.as_bytes()).copied()
+    }
+}

@@ -1,4 +1,0 @@
-pub mod Apart
-pub mod Beginning
-pub mod Writable
-pub mod Again

@@ -1,6 +1,0 @@
-use Rattle.pat_safety.proofs.Progress.{no_fault}
-use Rattle.pat_safety.proofs.Safe.{typable_safe, typed_stays}
-use Rattle.pat_safety.proofs.safety_laws.Goals as goal
-
-pub returns : goal.returns
-returns c = record { faults = no_fault; stays = typed_stays; safe = typable_safe }

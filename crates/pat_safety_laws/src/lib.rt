@@ -1,0 +1,19 @@
+// Safety: nothing goes wrong in a typed configuration, so a typable program is safe. No code of the product.
+#![tactic(auto)]
+
+ghost use Rattle.pat_safety_laws.specs.Laws.{TypedHasNoFault, TypedStaysSafe, TypableIsSafe, LiveIsReferredTo, DoneLeavesNone, DoneLeavesDelegated, WaitsAtGuards};
+
+/// A typed configuration has no fault, so no run from one and none of a well-formed typable program reaches one.
+pub fn safety_laws()
+    ensures faults { TypedHasNoFault }
+    ensures stays { TypedStaysSafe }
+    ensures safe { TypableIsSafe }
+{}
+
+/// What is left where all threads have ended, and where threads wait at the end of a run.
+pub fn ending_laws()
+    ensures referred { LiveIsReferredTo }
+    ensures done { DoneLeavesNone }
+    ensures delegated { DoneLeavesDelegated }
+    ensures waiting { WaitsAtGuards }
+{}

@@ -1,5 +1,0 @@
-use Rattle.pat_steps.proofs.FreeVars.{free_unfolds}
-use Rattle.pat_steps.proofs.variable_laws.Goals as goal
-
-pub returns : goal.returns
-returns c = record { free = free_unfolds }
