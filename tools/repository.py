@@ -1,0 +1,88 @@
+"""What the scripts read of the repository: its crates, what each stands on, and how large each is."""
+import collections
+import functools
+import os
+import re
+
+ROOT = os.path.dirname(os.path.dirname(os.path.realpath(__file__)))
+
+FUNCTION = re.compile(r"^\s*(?:pub(?:\([a-z]+\))? )?(?:const )?(?:unsafe )?fn ", re.M)
+TEST = re.compile(r"^\s*#\[test\]", re.M)
+
+Size = collections.namedtuple("Size", "lines functions edits tests is_program")
+
+
+def read(path):
+    with open(os.path.join(ROOT, path), encoding="utf-8", errors="replace") as file:
+        return file.read()
+
+
+@functools.lru_cache(maxsize=None)
+def uses():
+    """Each crate's name and the names on its line of crates.txt, those of the kit's crates too, in the order of the file."""
+    found = {}
+    for line in read("crates.txt").splitlines():
+        name, colon, listed = line.partition("#")[0].partition(":")
+        if colon:
+            found[name.split()[0]] = listed.split()
+    return found
+
+
+def own(names):
+    """Those of the names that are crates of the repository."""
+    return [name for name in names if name in uses()]
+
+
+@functools.lru_cache(maxsize=None)
+def below(name):
+    """All crates of the repository that the crate stands on."""
+    found = set(own(uses()[name]))
+    for other in own(uses()[name]):
+        found |= below(other)
+    return frozenset(found)
+
+
+@functools.lru_cache(maxsize=None)
+def files(name, ending, part=""):
+    """The paths from the top of the crate's files with that ending, what is built left out."""
+    found = []
+    for folder, folders, names in os.walk(os.path.join(ROOT, "crates", name, part)):
+        folders[:] = sorted(it for it in folders if it != "out")
+        found += [os.path.relpath(os.path.join(folder, it), ROOT) for it in sorted(names) if it.endswith(ending)]
+    return tuple(found)
+
+
+@functools.lru_cache(maxsize=None)
+def size(name):
+    texts = [read(path) for path in files(name, ".rt", "src")]
+    return Size(
+        lines=sum(len(text.splitlines()) for text in texts),
+        functions=sum(len(FUNCTION.findall(text)) for text in texts),
+        edits=len(files(name, ".edit", "must-fail")),
+        tests=sum(len(TEST.findall(text)) for text in texts),
+        is_program=os.path.isfile(os.path.join(ROOT, "crates", name, "src", "main.rt")),
+    )
+
+
+def proof_seconds(name):
+    """What one proof of the crate from nothing takes of a processor, as measured: a start, and a share for each line of .rt."""
+    return 9 + 0.14 * size(name).lines
+
+
+def gate_seconds(name):
+    """What the whole gate from nothing takes of a processor for the crate, as measured (docs/MEASURED.md)."""
+    here, proof = size(name), proof_seconds(name)
+    seconds = proof
+    if here.tests:
+        # The crate is proved once more with its tests in it.
+        seconds += proof + 20 * here.tests
+    if here.is_program:
+        # Two compilers build it.
+        seconds += 40
+    if here.edits == 1:
+        seconds += 1.1 * proof + 15
+    elif here.edits:
+        # One more whole proof, from which each edit starts; then for each a check in which all but it is kept.
+        unchanged = 5 + 0.003 * here.lines + 0.0000045 * here.lines**2
+        seconds += 1.25 * proof + unchanged + here.edits * (unchanged + 16)
+    return seconds
