@@ -1,5 +1,2 @@
-pub mod Forms
-pub mod Meaning
-pub mod Rests
-pub mod Spans
-pub mod Totals
+mod Forms
+mod Meaning

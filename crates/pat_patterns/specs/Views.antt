@@ -1,6 +1,6 @@
 -- Patterns in boxes, seen as patterns of the definitions.
-use Rattle.std.specs.Prelude.{ℕ, ◌%◌, ◌/◌, ◌^◌, Bool, nat_eq, List, [], ◌∷◌, map, slice_index_or}
-use Rattle.pat_words.specs.Patterns.{Pat, Zero, One, Tag, Sum, Prod, Star, Var, sum_of, prod_of}
+use Rattle.std.specs.Prelude.{ℕ, List, [], ◌∷◌, map, slice_index_or}
+use Rattle.pat_words.specs.Patterns.{Pat, Zero, One, Tag, Sum, Prod, Star, Var}
 use Rattle.pat_patterns.specs.declared.pattern.Pattern.{Pattern}
 use Rattle.pat_patterns.specs.declared.pattern.Pattern.TheVariants.{Zero as CodeZero, One as CodeOne, Tag as CodeTag, Sum' as CodeSum, Prod' as CodeProd, Star' as CodeStar, Var as CodeVar}
 
@@ -31,11 +31,3 @@ joined make _ = []
 abbrev pub joined_one : (Pat → Pat) → List Pat → List Pat
 joined_one make (e ∷ rest) = make e ∷ rest
 joined_one make _ = []
-
--- the residual of a product of e and f, by the residuals of both
-abbrev pub product_rest : Pat → Pat → Pat → Pat → Pat
-product_rest e f e_rest f_rest = sum_of (prod_of e_rest f) (prod_of e f_rest)
-
--- whether the bit of the tag is set
-abbrev pub is_received : ℕ → ℕ → Bool
-is_received received t = nat_eq (received / 2 ^ t % 2) 1

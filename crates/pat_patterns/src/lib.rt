@@ -1,20 +1,12 @@
-//! Patterns over tags, with their residuals and the tests of their words.
+//! Patterns over tags: their data, and what is read of their form alone.
 #![tactic(auto)]
 
 mod building;
-mod membership;
 mod pattern;
 mod reading;
-mod residuals;
 mod substitution;
-mod word_lists;
 
 pub use building::{product, star, sum};
-pub use membership::member;
-pub use pattern::Pattern;
-pub use reading::{covers, degree, has_values, inhabited, is_flat, levels, nullable, size};
-pub use residuals::residual;
+pub use pattern::{Pattern, take_one, take_two};
+pub use reading::{has_values, levels, size};
 pub use substitution::subst;
-
-#[cfg(test)]
-mod tests;

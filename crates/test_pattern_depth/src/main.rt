@@ -2,10 +2,9 @@
 #![tactic(auto)]
 
 use pat_bags::Bag;
-use pat_patterns::{
-    Pattern, covers, degree, has_values, inhabited, is_flat, levels, member, nullable, residual,
-    size, subst,
-};
+use pat_membership::member;
+use pat_patterns::{Pattern, has_values, levels, size, subst};
+use pat_residuals::{covers, degree, inhabited, is_flat, nullable, residual};
 use std::alloc::{AllocError, Global};
 use std::io;
 

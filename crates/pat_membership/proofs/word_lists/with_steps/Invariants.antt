@@ -1,0 +1,10 @@
+use Rattle.std.proofs.Common.{drop}
+use Rattle.pat_bags.specs.Views.{word_of}
+use Rattle.pat_membership.specs.Listings.{HasWord, EitherOf, Reached, Within}
+use Rattle.pat_membership.proofs.Rests.{Same}
+use Rattle.pat_membership.proofs.word_lists.with_steps.Given as goal
+
+abbrev pub invariant-loop-start : goal.invariant-loop-start
+invariant-loop-start l =
+    Same (EitherOf (HasWord l.words) (Within (word_of l.limit) (Reached (HasWord (drop l.start-index l.starts)) (word_of l.step))))
+    (Within (word_of l.limit) (Reached (HasWord l.starts) (word_of l.step)))
