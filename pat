@@ -26,50 +26,14 @@ is_stale() {
     [ -n "$newer" ]
 }
 
-# Says which crate is at work, from what rt prints as it begins one.
-show_progress() {
-    count=0
-    while IFS= read -r line; do
-        case $line in
-        "rt: chose --jobs "*" for "*)
-            count=$((count + 1))
-            echo "pat: proving ${line##* for } ($count of at most $1)" >&2
-            ;;
-        esac
-    done
-}
-
 build() {
-    if ! command -v rt >/dev/null; then
-        echo "pat: it isn't built, and rt, which proves and builds it, isn't on the path" >&2
-        exit 69
-    fi
-    work=$(mktemp -d) || exit 69
-    crates=$(sed -n 's/^pat_cli: //p' "$here/crates.txt")
-    sources=crates.txt
-    count=0
-    for crate in $crates pat_cli; do
-        count=$((count + 1))
-        for part in src specs proofs; do
-            if [ -d "$here/crates/$crate/$part" ]; then
-                sources="$sources crates/$crate/$part"
-            fi
-        done
+    for tool in rt python3; do
+        if ! command -v "$tool" >/dev/null; then
+            echo "pat: it isn't built, and $tool, which building it needs, isn't on the path" >&2
+            exit 69
+        fi
     done
-    echo "sources='$sources'" >"$work/stamp"
-    echo "pat: it isn't built from these sources. Building it; the first time this takes some minutes" >&2
-    {
-        (cd "$here/crates/pat_cli" && rt run -- run <stdin 2>&1)
-        echo "$?" >"$work/status"
-    } | tee "$work/log" | show_progress "$count"
-    if [ "$(cat "$work/status")" != 0 ] || ! [ -x "$program" ]; then
-        tail -n 40 "$work/log" >&2
-        echo "pat: it could not be built; all that rt said is in $work/log" >&2
-        exit 69
-    fi
-    cp -p "$work/stamp" "$stamp"
-    rm -r "$work"
-    echo "pat: built" >&2
+    "$here/tools/build_program" >&2 || exit 69
 }
 
 if is_stale; then
