@@ -1,6 +1,6 @@
 -- Runs, histories, and how a run ends.
 use Rattle.std.specs.Prelude.{ℕ, ◌+◌, Bool, true, false, not, ◌&&◌, nat_eq, List, [], ◌∷◌, ◌++◌, length, replicate, Option, Some, None, option_and_then, is_some, map, filter, if◌then◌else◌}
-use Rattle.std.specs.List.{list_any}
+use Rattle.std.specs.List.{list_any, AllByRecursion}
 use Rattle.pat_model.specs.Programs.{Program}
 use Rattle.pat_model.specs.Configs.{Thread, Config, start}
 use Rattle.pat_model.specs.Steps.{Act, ActLocal, ActNew, ActSend, ActSpawn, ActPrint, ActEnd, ActFree, ActReceive, Step, step}
@@ -20,6 +20,20 @@ pub record Entry : Type 0 where
   pub thread : ℕ
   pub local_steps : ℕ
   pub shared : Option Act
+
+-- the act is a shared one, which is any but a local step
+abbrev pub IsShared : Act → Type 0
+IsShared ActLocal = ⊥
+IsShared _ = Unit {0}
+
+-- the act, if there is one, is a shared one
+abbrev pub IsSharedOrNone : Option Act → Type 0
+IsSharedOrNone None = Unit {0}
+IsSharedOrNone (Some a) = IsShared a
+
+-- a history that a text may show: a local step is counted in its entry, and is never the entry's shared act
+abbrev pub IsHistory : List Entry → Type 0
+IsHistory es = AllByRecursion (λ e. IsSharedOrNone e.shared) es
 
 -- the shared step of an entry, if it has one
 abbrev pub shared_step : ℕ → Option Act → List Step

@@ -5,3 +5,7 @@ pub mod Inversion
 pub mod Enabled
 pub mod Outcomes
 pub mod Replays
+pub mod Threads
+pub mod Ascending
+pub mod Ordered
+pub mod Leasts

@@ -40,7 +40,7 @@ is_entry p c [] h = absurd (h refl)
 is_entry p c (k ∷ ks) h = refl
 
 -- what comes of something comes of a first result
-first_of : {A B : Type 0} (f : A → Option B) (b : B) (o : Option A) → option_and_then f o ≡ Some b → (a : A) × (o ≡ Some a) × (f a ≡ Some b)
+pub first_of : {A B : Type 0} (f : A → Option B) (b : B) (o : Option A) → option_and_then f o ≡ Some b → (a : A) × (o ≡ Some a) × (f a ≡ Some b)
 first_of f b None h = cc
 first_of f b (Some a) h = (a, refl, h)
 

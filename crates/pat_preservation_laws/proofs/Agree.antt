@@ -1,10 +1,10 @@
 -- What fits under interfaces of mailboxes fits under others that agree on the mailboxes that are referred to.
-use Rattle.std.proofs.Common.{◌≡◌, ℕ, Bool, true, ◌||◌, nat_eq, List, [], ◌∷◌, Some, refl, sym, ap, ◌∙◌, map}
-use Rattle.std.proofs.lemmas.Bool.{or_left, or_right, eq-eqb, eqb-true}
+use Rattle.std.proofs.Common.{◌≡◌, ℕ, Bool, true, ◌||◌, nat_eq, List, [], ◌∷◌, Some, refl, sym, ap, ◌∙◌, map, ⊎_elim}
+use Rattle.std.proofs.lemmas.Bool.{or_left, or_right, or_cases, eq-eqb, eqb-true}
 use Rattle.std.specs.List.{AllByRecursion, list_any}
 use Rattle.pat_model.specs.Values.{Value, Const, Mailbox, Kind, Plain, MailboxOf, Env, ValueFits, ValuesFit, value_at}
 use Rattle.pat_model.specs.Programs.{Program, tag_at, kind_of, option_list}
-use Rattle.pat_model.specs.Configs.{Control, Running, Returned, Frame, Thread, Message, is_mailbox, env_refers, control_refers, thread_refers, message_refers}
+use Rattle.pat_model.specs.Configs.{Control, Running, Returned, Frame, Thread, Message, is_mailbox, env_refers, control_refers, thread_refers, message_refers, has_pending}
 use Rattle.pat_typing.specs.Types.{kind_of_type}
 use Rattle.pat_typing.specs.Typings.{Typing}
 use Rattle.pat_typing.specs.Holdings.{wanted, message_held, payload_held, declared_types}
@@ -104,3 +104,20 @@ module _ (f g : ℕ → ℕ) where
       let rest = messages_held p b ms (λ a r. agree a (or_right (touches a m) (list_any (touches a) ms) r)) in
       ap (λ i. payload_held b (declared_types (tag_at p i m.tag)) 0 m.values ∷ map (message_held p g b) ms) same
       ∙ ap (λ l. message_held p f b m ∷ l) rest
+
+  -- what a message touches is referred to or has a message
+  pub touched_live : (a : ℕ) (ms : List Message) → list_any (touches a) ms ≡ true → (list_any (message_refers a) ms || has_pending a ms) ≡ true
+  touched_live a [] h = cc
+  touched_live a (m ∷ ms) h =
+      let ra = list_any (message_refers a) (m ∷ ms) in
+      let pa = has_pending a (m ∷ ms) in
+      ⊎_elim
+      (λ k. ⊎_elim
+      (λ x. or_left ra pa (or_left (message_refers a m) (list_any (message_refers a) ms) x))
+      (λ x. or_right ra pa (or_left (nat_eq m.mailbox a) (has_pending a ms) x))
+      (or_cases (message_refers a m) (nat_eq m.mailbox a) k))
+      (λ k. ⊎_elim
+      (λ x. or_left ra pa (or_right (message_refers a m) (list_any (message_refers a) ms) x))
+      (λ x. or_right ra pa (or_right (nat_eq m.mailbox a) (has_pending a ms) x))
+      (or_cases (list_any (message_refers a) ms) (has_pending a ms) (touched_live a ms k)))
+      (or_cases (touches a m) (list_any (touches a) ms) h)

@@ -3,7 +3,7 @@ use Rattle.std.proofs.Common.{◌≡◌, ℕ, suc, true, false, nat_eq, List, []
 use Rattle.std.specs.Prelude.{is_some, slice_get, option_map}
 use Rattle.std.specs.List.{AllByRecursion, IsDistinct, list_any}
 use Rattle.std.proofs.lemmas.Bool.{or_cases, eqb-true, eqb-false, ne_eqb, cond-true, cond-false, false_from_ne_true, eq-eqb, or_left, or_right}
-use Rattle.pat_model.specs.Values.{Base, BaseInt, BaseBool, BaseText, Value, Const, Mailbox, Constant, BoolConst, IntConst, TextConst, Kind, Plain, MailboxOf, Op, Add, Sub, Mul, Equal, Less, Expr, VarExpr, Literal, OpExpr, Env, value_at, base_of, apply, apply_values, eval, eval_all, both_values, ValueFits, ValuesFit, AscendsFrom}
+use Rattle.pat_model.specs.Values.{Base, BaseInt, BaseBool, BaseText, Value, Const, Mailbox, Constant, BoolConst, IntConst, TextConst, Kind, Plain, MailboxOf, Op, Add, Sub, Mul, Equal, Less, Expr, VarExpr, Literal, OpExpr, Env, value_at, base_of, apply, apply_values, eval, eval_all, both_values, ValueFits, ValuesFit}
 use Rattle.pat_model.specs.Programs.{Sort, kind_of}
 use Rattle.pat_model.specs.WellFormed.{op_kind, expr_kind, HaveKinds}
 use Rattle.pat_model.specs.Configs.{is_mailbox, env_refers}
@@ -17,6 +17,8 @@ use Rattle.pat_preservation_laws.proofs.Named.{PlacesTyped}
 use Rattle.pat_model_laws.proofs.Lists.{distinct_parts}
 use Rattle.pat_model.specs.Steps.{numbered}
 use Rattle.pat_preservation_laws.proofs.Envs.{held_cases, HeldCases, by_variable, by_none}
+use Rattle.pat_model.specs.Orders.{AscendsFrom}
+use Rattle.std.specs.Map.{keys_of}
 
 -- ---- the value of an expression has its kind
 
@@ -228,10 +230,6 @@ module _ (interfaces : ℕ → ℕ) (vars : List Kind) (env : Env) (fit : (x : �
 
 -- ---- values under numbers
 
-pub numbered_ascends : (k : ℕ) (vs : List Value) → AscendsFrom k (numbered k vs)
-numbered_ascends k [] = tt
-numbered_ascends k (v ∷ vs) = (omega arith, numbered_ascends (suc k) vs)
-
 pub numbered_at : (k : ℕ) (vs : List Value) (j : ℕ) → value_at (numbered k vs) (k + j) ≡ slice_get vs j
 numbered_at k [] j = refl
 numbered_at k (v ∷ vs) zero = cond-true (nat_eq (k + 0) k) (Some v) (value_at (numbered (suc k) vs) (k + 0)) (eq-eqb (k + 0) k (omega arith))
@@ -293,7 +291,7 @@ take_at (suc n) (x ∷ ks) (suc z) k h = take_at n ks z k h
 -- ---- what is held of arguments
 
 -- what is held of a mailbox passes to what its place among the arguments has
-pub args_pass : (interfaces : ℕ → ℕ) (vars : List Kind) (env : Env) → ((x : ℕ) (v : Value) (k : Kind) → value_at env x ≡ Some v → slice_get vars x ≡ Some k → ValueFits interfaces v k) → AscendsFrom 0 env → ((x z a : ℕ) → value_at env x ≡ Some (Mailbox a) → value_at env z ≡ Some (Mailbox a) → x ≡ z) → (g types : TypeEnv) (es : List Expr) (ss : List Sort) (vs : List Value) → HaveKinds vars es (map kind_of ss) → PlacesTyped types 0 ss → eval_all env es ≡ Some vs → (b : ℕ) → ((x : ℕ) → value_at env x ≡ Some (Mailbox b) → PassesTo (g x) (args_need types 0 es x)) → PassesTo (held g b env) (payload_held b types 0 vs)
+pub args_pass : (interfaces : ℕ → ℕ) (vars : List Kind) (env : Env) → ((x : ℕ) (v : Value) (k : Kind) → value_at env x ≡ Some v → slice_get vars x ≡ Some k → ValueFits interfaces v k) → AscendsFrom 0 (keys_of env) → ((x z a : ℕ) → value_at env x ≡ Some (Mailbox a) → value_at env z ≡ Some (Mailbox a) → x ≡ z) → (g types : TypeEnv) (es : List Expr) (ss : List Sort) (vs : List Value) → HaveKinds vars es (map kind_of ss) → PlacesTyped types 0 ss → eval_all env es ≡ Some vs → (b : ℕ) → ((x : ℕ) → value_at env x ≡ Some (Mailbox b) → PassesTo (g x) (args_need types 0 es x)) → PassesTo (held g b env) (payload_held b types 0 vs)
 args_pass f vars env fit keys apart g types es ss vs kinds places values b passes = go (held_cases g b 0 env keys)
   where
     go : HeldCases g b env → PassesTo (held g b env) (payload_held b types 0 vs)

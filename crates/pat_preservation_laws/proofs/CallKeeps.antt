@@ -11,7 +11,7 @@ use Rattle.pat_typing.specs.Types.{TypeFits, TypeEnv, PassesTo, EnvPasses}
 use Rattle.pat_typing.specs.Typings.{Typing, IsTyping, FunctionTyped, param_type, result_type, args_need, mailbox_args}
 use Rattle.pat_typing.specs.Holdings.{held, control_held, payload_held, wanted}
 use Rattle.pat_typing.specs.Typed.{IsTyped, ThreadFits, ControlFits, PartFits, mailboxes_of}
-use Rattle.pat_preservation_laws.proofs.Threads.{lookup_all}
+use Rattle.pat_model_laws.proofs.Threads.{lookup_all}
 use Rattle.pat_model_laws.proofs.Inversion.{StandsAt}
 use Rattle.pat_preservation_laws.proofs.Nodes.{NodeFacts, node_facts}
 use Rattle.pat_preservation_laws.proofs.Refers.{value_refers}
@@ -19,7 +19,8 @@ use Rattle.pat_preservation_laws.proofs.Named.{params_typed, env_fits}
 use Rattle.pat_preservation_laws.proofs.Unused.{unused_drops}
 use Rattle.pat_preservation_laws.proofs.Narrow.{Narrowed, keep_narrows, narrow_refers, narrow_passes}
 use Rattle.pat_preservation_laws.proofs.Moves.{Move, move_keeps}
-use Rattle.pat_preservation_laws.proofs.Args.{all_fit, args_refer, names_distinct, numbered_ascends, place_at, numbered_held, numbered_refers, places_apart, fit_some, fit_kind, take_at, args_pass}
+use Rattle.pat_preservation_laws.proofs.Args.{all_fit, args_refer, names_distinct, place_at, numbered_held, numbered_refers, places_apart, fit_some, fit_kind, take_at, args_pass}
+use Rattle.pat_model_laws.proofs.Ascending.{numbered_ascends}
 use Rattle.pat_preservation_laws.proofs.Passing.{passes_twice, type_twice}
 
 -- ---- the step
@@ -119,8 +120,8 @@ module _ (p : Program) (y : Typing) (interfaces : ℕ → ℕ) (s : Thread) (n g
   }
 
 -- the law for a call
-pub call_keeps : (p : Program) (y : Typing) (c : Config) (t : ℕ) (s : Thread) (g : ℕ) (args : List Expr) (env : Env) (h : Function) (vs : List Value) → WellFormed p → (typed : IsTyped p y c) → thread_at c t ≡ Some s → StandsAt p s.control (Call g args) env → function_at p g ≡ Some h → eval_all env args ≡ Some vs → IsTyped p y (with_thread c t (thread_of (at_node p h.body (numbered 0 vs)) s.frames))
-call_keeps p y c t s g args env h vs wf typed there at fun values =
-    let fits = lookup_all (λ s. ThreadFits p y typed.interfaces s) c.threads t s typed.threads there in
-    move_keeps p y c t s (at_node p h.body (numbered 0 vs)) typed there
-    (call_move p y typed.interfaces s at.node g args env h vs wf typed.typing fits at.control_is at.term fun values)
+pub call_keeps : (p : Program) (y : Typing) (interfaces : ℕ → ℕ) (c : Config) (t : ℕ) (s : Thread) (g : ℕ) (args : List Expr) (env : Env) (h : Function) (vs : List Value) → WellFormed p → (typed : IsTyped p y interfaces c) → thread_at c t ≡ Some s → StandsAt p s.control (Call g args) env → function_at p g ≡ Some h → eval_all env args ≡ Some vs → IsTyped p y interfaces (with_thread c t (thread_of (at_node p h.body (numbered 0 vs)) s.frames))
+call_keeps p y interfaces c t s g args env h vs wf typed there at fun values =
+    let fits = lookup_all (λ s. ThreadFits p y interfaces s) c.threads t s typed.threads there in
+    move_keeps p y interfaces c t s (at_node p h.body (numbered 0 vs)) typed there
+    (call_move p y interfaces s at.node g args env h vs wf typed.typing fits at.control_is at.term fun values)

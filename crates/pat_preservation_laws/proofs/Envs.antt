@@ -1,57 +1,19 @@
 -- Look-ups in environments, and what an environment holds of a mailbox.
-use Rattle.std.proofs.Common.{◌≡◌, ℕ, suc, ◌≤◌, Bool, true, false, cond, nat_eq, nat_lt, if◌then◌else◌, List, [], ◌∷◌, Some, None, refl, sym, ap, ◌∙◌, subst, arith, ⊎_elim}
+use Rattle.std.proofs.Common.{◌≡◌, ℕ, suc, Bool, true, false, cond, nat_eq, nat_lt, if◌then◌else◌, [], ◌∷◌, Some, None, refl, sym, ap, ◌∙◌, arith, ⊎_elim}
 use Rattle.std.specs.Prelude.{filter}
 use Rattle.std.specs.Map.{lookup}
-use Rattle.std.proofs.lemmas.Bool.{eqb-true, eqb-false, eq-eqb, ne_eqb, ltb-true, ltb-false, cond-true, cond-false, cases_Bool}
-use Rattle.pat_model.specs.Values.{Value, Mailbox, Env, value_at, bind, bind_all, AscendsFrom}
+use Rattle.std.proofs.lemmas.Bool.{eqb-true, eqb-false, eq-eqb, ne_eqb, cond-true, cond-false, cases_Bool}
+use Rattle.pat_model.specs.Values.{Value, Mailbox, Env, value_at, bind}
 use Rattle.pat_model.specs.Programs.{Program, is_free, keep}
 use Rattle.pat_model.specs.Configs.{is_mailbox}
 use Rattle.pat_typing.specs.Types.{TypeEnv}
 use Rattle.pat_typing.specs.Holdings.{held}
 use Rattle.pat_preservation_laws.proofs.Refers.{is_mailbox_same, name_is}
+use Rattle.pat_model.specs.Orders.{AscendsFrom}
+use Rattle.std.specs.Map.{keys_of}
+use Rattle.pat_model_laws.proofs.Ascending.{value_above}
 
 -- ---- ascending environments
-
-pub ascends_less : (m n : ℕ) (env : Env) → m ≤ n → AscendsFrom n env → AscendsFrom m env
-ascends_less m n [] h a = tt
-ascends_less m n (e ∷ env) h a = (let k = a.0 in omega arith, a.1)
-
--- a variable that has a value is at or above the first number
-pub value_above : (n : ℕ) (env : Env) (z : ℕ) (v : Value) → AscendsFrom n env → value_at env z ≡ Some v → n ≤ z
-value_above n [] z v a h = cc
-value_above n (e ∷ env) z v a h =
-    (elim (nat_eq z e.0) as (λ t. nat_eq z e.0 ≡ t → cond t (Some e.1) (lookup (nat_eq z) env) ≡ Some v → n ≤ z) [
-      | true ↦ λ q k. let same : z ≡ e.0 = eqb-true z e.0 q in let l = a.0 in omega arith
-      | false ↦ λ q k. let above = value_above (suc e.0) env z v a.1 k in let l = a.0 in omega arith
-    ]) refl h
-
-pub ascends_bind : (n : ℕ) (env : Env) (x : ℕ) (v : Value) → n ≤ x → AscendsFrom n env → AscendsFrom n (bind env x v)
-ascends_bind n [] x v h a = (h, tt)
-ascends_bind n (e ∷ env) x v h a =
-    (elim (nat_lt x e.0) as (λ t. nat_lt x e.0 ≡ t → AscendsFrom n (if t then (x, v) ∷ e ∷ env else if nat_eq x e.0 then (x, v) ∷ env else e ∷ bind env x v)) [
-      | true ↦ λ q. let l = ltb-true x e.0 q in (h, (omega arith, a.1))
-      | false ↦ λ q.
-          (elim (nat_eq x e.0) as (λ t. nat_eq x e.0 ≡ t → AscendsFrom n (if t then (x, v) ∷ env else e ∷ bind env x v)) [
-            | true ↦ λ r. let same : x ≡ e.0 = eqb-true x e.0 r in (h, subst (λ k. AscendsFrom (suc k) env) (sym same) a.1)
-            | false ↦ λ r.
-                let l = ltb-false x e.0 q in
-                let apart : x ≡ e.0 → ⊥ = eqb-false x e.0 r in
-                (a.0, ascends_bind (suc e.0) env x v (omega arith) a.1)
-          ]) refl
-    ]) refl
-
-pub ascends_bind_all : (env : Env) (xs : List ℕ) (vs : List Value) → AscendsFrom 0 env → AscendsFrom 0 (bind_all env xs vs)
-ascends_bind_all env [] vs a = a
-ascends_bind_all env (x ∷ xs) [] a = a
-ascends_bind_all env (x ∷ xs) (v ∷ vs) a = ascends_bind 0 (bind_all env xs vs) x v (omega arith) (ascends_bind_all env xs vs a)
-
-pub ascends_filter : (f : ℕ × Value → Bool) (n : ℕ) (env : Env) → AscendsFrom n env → AscendsFrom n (filter f env)
-ascends_filter f n [] a = tt
-ascends_filter f n (e ∷ env) a =
-    elim (f e) as (λ t. AscendsFrom n (cond t (e ∷ filter f env) (filter f env))) [
-      | true ↦ (a.0, ascends_filter f (suc e.0) env a.1)
-      | false ↦ let l = a.0 in ascends_less n (suc e.0) (filter f env) (omega arith) (ascends_filter f (suc e.0) env a.1)
-    ]
 
 -- ---- look-ups
 
@@ -118,7 +80,7 @@ pub data HeldCases (g : TypeEnv) (b : ℕ) (env : Env) : Type 0 where
   by_variable : (z : ℕ) → value_at env z ≡ Some (Mailbox b) → held g b env ≡ g z → HeldCases g b env
   by_none : ((z : ℕ) → value_at env z ≡ Some (Mailbox b) → ⊥) → held g b env ≡ None → HeldCases g b env
 
-held_on : (g : TypeEnv) (b : ℕ) (e : ℕ × Value) (env : Env) → AscendsFrom (suc e.0) env → is_mailbox b e.1 ≡ false → HeldCases g b env → HeldCases g b (e ∷ env)
+held_on : (g : TypeEnv) (b : ℕ) (e : ℕ × Value) (env : Env) → AscendsFrom (suc e.0) (keys_of env) → is_mailbox b e.1 ≡ false → HeldCases g b env → HeldCases g b (e ∷ env)
 held_on g b e env a off (by_variable z at is) =
     let above = value_above (suc e.0) env z (Mailbox b) a at in
     let apart : nat_eq z e.0 ≡ false = ne_eqb z e.0 (λ q. omega arith) in
@@ -134,7 +96,7 @@ held_on g b e env a off (by_none none is) =
     true_false : true ≡ false → ⊥
     true_false e = cc
 
-pub held_cases : (g : TypeEnv) (b n : ℕ) (env : Env) → AscendsFrom n env → HeldCases g b env
+pub held_cases : (g : TypeEnv) (b n : ℕ) (env : Env) → AscendsFrom n (keys_of env) → HeldCases g b env
 held_cases g b n [] a = by_none (λ z h. cc) refl
 held_cases g b n (e ∷ env) a =
     ⊎_elim

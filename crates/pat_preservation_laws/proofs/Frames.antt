@@ -1,14 +1,14 @@
 -- The holdings of a control and of a frame, where a frame comes or goes.
-use Rattle.std.proofs.Common.{◌≡◌, List, [], ◌∷◌, ◌++◌, Some, None, refl, sym, subst, append_assoc, ℕ, true, false, ◌||◌, nat_eq, if◌then◌else◌, Option, ◌∙◌, arith, ⊎_elim, ap}
+use Rattle.std.proofs.Common.{◌≡◌, List, [], ◌∷◌, ◌++◌, Some, None, refl, sym, subst, append_assoc, ℕ, true, false, ◌||◌, nat_eq, if◌then◌else◌, Option, ◌∙◌, ⊎_elim, ap}
 use Rattle.pat_words.specs.Words.{Word}
 use Rattle.pat_model.specs.Programs.{is_among, option_list, Program, Let}
 use Rattle.pat_typing.specs.Types.{TypeEnv}
 use Rattle.pat_typing.specs.Typings.{name_type}
 use Rattle.pat_typing.specs.Holdings.{Holding, Balanced}
 use Rattle.pat_preservation_laws.proofs.Balance.{Refines, refine_balance, balance_front, balance_back}
-use Rattle.pat_model.specs.Values.{Value, Env, value_at, AscendsFrom, Kind}
+use Rattle.pat_model.specs.Values.{Value, Env, value_at, Kind}
 use Rattle.pat_model.specs.Steps.{bind_name}
-use Rattle.pat_preservation_laws.proofs.Envs.{value_at-bind, ascends_bind}
+use Rattle.pat_preservation_laws.proofs.Envs.{value_at-bind}
 use Rattle.std.proofs.lemmas.Bool.{or_cases, eqb-true}
 use Rattle.std.specs.Prelude.{slice_get}
 use Rattle.pat_model.specs.WellFormed.{CoreKinds, HasKind}
@@ -42,10 +42,6 @@ bind_name_at env None v z = refl
 bind_name_at env (Some x) v z =
     value_at-bind env x v z
     ∙ elim (nat_eq z x) as (λ t. (if t then Some v else value_at env z) ≡ (if t || false then Some v else value_at env z)) [ true ↦ refl | false ↦ refl ]
-
-pub ascends_name : (env : Env) (x : Option ℕ) (v : Value) → AscendsFrom 0 env → AscendsFrom 0 (bind_name env x v)
-ascends_name env None v a = a
-ascends_name env (Some x) v a = ascends_bind 0 env x v (omega arith) a
 
 -- the only name
 pub only_name : (x : Option ℕ) (z w : ℕ) → is_among z (option_list x) ≡ true → is_among w (option_list x) ≡ true → z ≡ w

@@ -1,7 +1,7 @@
 -- A free keeps a configuration typed.
-use Rattle.std.proofs.Common.{◌≡◌, ℕ, ◌<◌, Bool, true, false, cond, ◌||◌, not, nat_eq, List, [], ◌∷◌, Some, None, refl, sym, ap, ◌∙◌, subst, ⊎_elim}
+use Rattle.std.proofs.Common.{◌≡◌, ℕ, Bool, true, false, cond, ◌||◌, not, nat_eq, List, [], ◌∷◌, Some, None, refl, sym, ap, ◌∙◌, subst, ⊎_elim}
 use Rattle.std.specs.Prelude.{is_some, filter}
-use Rattle.std.specs.List.{AllByRecursion, IsDistinct, list_any}
+use Rattle.std.specs.List.{AllByRecursion, list_any}
 use Rattle.std.proofs.lemmas.Bool.{or_cases, or_left, or_right, eq-eqb, eqb-true, eqb-false, ne_eqb, and_parts, cases_Bool, cond-true, cond-false, false_from_ne_true}
 use Rattle.pat_model.specs.Values.{Mailbox, Env, value_at}
 use Rattle.pat_model.specs.Programs.{Program, Core, Guard, core_at, is_free, keep, is_among, parts, clause_bodies, clause_uses}
@@ -13,14 +13,18 @@ use Rattle.pat_typing.specs.Types.{Returnable, TypeFits, PassesTo, without}
 use Rattle.pat_typing.specs.Typings.{Typing, GuardTyped}
 use Rattle.pat_typing.specs.Holdings.{Holding, held, control_held, wanted}
 use Rattle.pat_typing.specs.Typed.{IsTyped, ThreadFits, ControlFits, PartFits, NumbersFit, KeepsFrom, frames_refer}
-use Rattle.pat_preservation_laws.proofs.Threads.{lookup_all, lookup_any, set_all, keys_of-set, set_other, other_any}
+use Rattle.pat_model_laws.proofs.Threads.{lookup_all, lookup_any, set_all, set_other, other_any}
 use Rattle.pat_model_laws.proofs.Inversion.{step_of, FreeStep, free_step, after_free}
 use Rattle.pat_preservation_laws.proofs.Nodes.{NodeFacts, node_facts, part_core}
 use Rattle.pat_preservation_laws.proofs.Envs.{held_cases, HeldCases, by_variable, by_none}
 use Rattle.pat_preservation_laws.proofs.Unused.{unused_drops}
 use Rattle.pat_preservation_laws.proofs.Narrow.{Narrowed, keep_narrows, narrow_refers, narrow_passes, part_named, refers_value, passes_returnable, usage_back}
 use Rattle.pat_preservation_laws.proofs.Moves.{move_balanced, goes_on}
-use Rattle.pat_model_laws.proofs.Lists.{clash, not_true, distinct_parts, distinct_join, all_filter}
+use Rattle.pat_model_laws.proofs.Lists.{clash, not_true, all_filter}
+use Rattle.pat_model.specs.Orders.{IsOrdered}
+use Rattle.std.specs.Map.{keys_of}
+use Rattle.pat_model_laws.proofs.Ordered.{step_keeps_order}
+use Rattle.pat_model_laws.proofs.Ascending.{ascends_distinct}
 
 -- ---- the live mailboxes without one
 
@@ -56,18 +60,9 @@ others_among a b (x ∷ xs) h =
 apart_others : (n a : ℕ) (xs : List ℕ) → AllByRecursion (λ k. nat_eq n k ≡ false) xs → AllByRecursion (λ k. nat_eq n k ≡ false) (others a xs)
 apart_others n a xs h = all_filter (λ k. nat_eq n k ≡ false) (λ b. not (nat_eq b a)) xs h
 
-distinct_others : (a : ℕ) (xs : List ℕ) → IsDistinct nat_eq xs → IsDistinct nat_eq (others a xs)
-distinct_others a [] d = d
-distinct_others a (x ∷ xs) d =
-    let q = distinct_parts x xs d in
-    elim (not (nat_eq x a)) as (λ t. IsDistinct nat_eq (cond t (x ∷ others a xs) (others a xs))) [
-      | true ↦ distinct_join x (others a xs) (apart_others x a xs q.0) (distinct_others a xs q.1)
-      | false ↦ distinct_others a xs q.1
-    ]
-
 -- ---- the step
 
-module _ (p : Program) (y : Typing) (c : Config) (t : ℕ) (s : Thread) (d : Config) (wf : WellFormed p) (typed : IsTyped p y c) (there : thread_at c t ≡ Some s) (q : FreeStep p c t s d) where
+module _ (p : Program) (y : Typing) (interfaces : ℕ → ℕ) (c : Config) (t : ℕ) (s : Thread) (d : Config) (wf : WellFormed p) (typed : IsTyped p y interfaces c) (there : thread_at c t ≡ Some s) (q : FreeStep p c t s d) where
   abbrev n : ℕ
   n = q.at.node
 
@@ -95,11 +90,11 @@ module _ (p : Program) (y : Typing) (c : Config) (t : ℕ) (s : Thread) (d : Con
   guard : GuardTyped p y (y.envs n) (y.results n) q.var q.pattern (Some m) q.receives
   guard = facts.term
 
-  old_fits : ThreadFits p y typed.interfaces s
-  old_fits = lookup_all (λ s. ThreadFits p y typed.interfaces s) c.threads t s typed.threads there
+  old_fits : ThreadFits p y interfaces s
+  old_fits = lookup_all (λ s. ThreadFits p y interfaces s) c.threads t s typed.threads there
 
-  control_fits : ControlFits p y typed.interfaces (Running n q.env) s.frames
-  control_fits = subst (λ k. ControlFits p y typed.interfaces k s.frames) q.at.control_is old_fits.control
+  control_fits : ControlFits p y interfaces (Running n q.env) s.frames
+  control_fits = subst (λ k. ControlFits p y interfaces k s.frames) q.at.control_is old_fits.control
 
   old_keeps : KeepsFrom (λ b. held (y.envs n) b q.env) s.frames
   old_keeps = subst (λ w. KeepsFrom (λ b. control_held p y b w s.frames) s.frames) q.at.control_is old_fits.control_keeps
@@ -119,8 +114,8 @@ module _ (p : Program) (y : Typing) (c : Config) (t : ℕ) (s : Thread) (d : Con
       ∙ or_right (nat_eq z q.var) (list_any (is_free p z) (m ∷ []) || list_any (clause_uses (is_free p z) z) q.receives)
       (or_left (list_any (is_free p z) (m ∷ [])) (list_any (clause_uses (is_free p z) z) q.receives) (or_left (is_free p z m) false h))
 
-  new_part : PartFits p typed.interfaces m [] env'
-  new_part = goes_on p typed.interfaces n m core q.env wf q.at.term part sub control_fits.0
+  new_part : PartFits p interfaces m [] env'
+  new_part = goes_on p interfaces n m core q.env wf q.at.term part sub control_fits.0
 
   -- the freed mailbox isn't named any more
   gone : env_refers a env' ≡ false
@@ -129,7 +124,7 @@ module _ (p : Program) (y : Typing) (c : Config) (t : ℕ) (s : Thread) (d : Con
       let r = refers_value a 0 env' narrowed.keys h in
       let at = (narrowed.inside r.0 (Mailbox a) r.1).1 in
       let same : r.0 ≡ q.var = control_fits.0.different r.0 q.var a at q.guards in
-      let some = part_named p y typed.interfaces m [] env' wf typed.typing body.0 body.1 new_part r.0 a r.1 in
+      let some = part_named p y interfaces m [] env' wf typed.typing body.0 body.1 new_part r.0 a r.1 in
       let none : without q.var (y.envs n) q.var ≡ None = cond-true (nat_eq q.var q.var) None (y.envs n q.var) (eq-eqb q.var q.var refl) in
       no_more (y.envs m q.var) (subst (λ o. PassesTo o (y.envs m q.var)) none (guard.free_passes m refl q.var)) (subst (λ z. is_some (y.envs m z) ≡ true) same some))
     where
@@ -162,7 +157,7 @@ module _ (p : Program) (y : Typing) (c : Config) (t : ℕ) (s : Thread) (d : Con
       (λ off. let r = passes_returnable (held (y.envs n) b q.env) k (subst (λ x. PassesTo (held (y.envs n) b q.env) x) h (passes b off)) u in old_keeps b r.0 r.1 r.2)
       (cases_Bool (nat_eq b a))
 
-  thread_fits' : ThreadFits p y typed.interfaces thread'
+  thread_fits' : ThreadFits p y interfaces thread'
   thread_fits' = record {
     control = (new_part, subst (λ w. TypeFits w (wanted p y s.frames)) (sym (guard.free_result m refl)) control_fits.1);
     frames = old_fits.frames;
@@ -198,19 +193,14 @@ module _ (p : Program) (y : Typing) (c : Config) (t : ℕ) (s : Thread) (d : Con
       (λ r. or_right (control_refers b s.control) (list_any (λ f. env_refers b f.env) s.frames) r)
       (or_cases (env_refers b env') (list_any (λ f. env_refers b f.env) s.frames) h)))
 
-  numbers' : NumbersFit after
-  numbers' = record {
-    threads = subst (IsDistinct nat_eq) (sym (keys_of-set c.threads t thread')) typed.numbers.threads;
-    messages = typed.numbers.messages;
-    live = distinct_others a c.live typed.numbers.live;
-    threads_below = set_all (λ e. e.0 < c.next_thread) c.threads t thread' (λ e h. h) typed.numbers.threads_below;
-    messages_below = typed.numbers.messages_below;
-    live_below = all_filter (λ x. x < c.next_mailbox) (λ b. not (nat_eq b a)) c.live typed.numbers.live_below;
+  numbers' : IsOrdered after → NumbersFit after
+  numbers' ordered = record {
+    ordered = ordered;
     threads_live = λ b h.
         ⊎_elim
         (λ here. among_others a b c.live (thread_live b here) (thread_apart b here))
         (λ rest. among_others a b c.live (typed.numbers.threads_live b (other_any (thread_refers b) c.threads t rest)) (apart_by (λ x. other_refers x t c.threads) b alone.0 rest))
-        (set_other (thread_refers b) c.threads t thread' typed.numbers.threads h);
+        (set_other (thread_refers b) c.threads t thread' (ascends_distinct 0 (keys_of c.threads) typed.numbers.ordered.threads) h);
     messages_live = λ b h.
         among_others a b c.live (typed.numbers.messages_live b h)
         (⊎_elim
@@ -219,23 +209,23 @@ module _ (p : Program) (y : Typing) (c : Config) (t : ℕ) (s : Thread) (d : Con
         (or_cases (list_any (message_refers b) c.messages) (has_pending b c.messages) h));
   }
 
-  freed_typed : IsTyped p y after
-  freed_typed = record {
+  freed_typed : IsOrdered after → IsTyped p y interfaces after
+  freed_typed ordered = record {
     typing = typed.typing;
-    interfaces = typed.interfaces;
-    numbers = numbers';
-    threads = set_all (λ e. ThreadFits p y typed.interfaces e.1) c.threads t thread' (λ e h. thread_fits') typed.threads;
+    numbers = numbers' ordered;
+    threads = set_all (λ e. ThreadFits p y interfaces e.1) c.threads t thread' (λ e h. thread_fits') typed.threads;
     messages = typed.messages;
     balanced = λ b live.
         let r = others_among a b c.live live in
-        move_balanced p y typed.interfaces c t s (at_node p m q.env) there b
+        move_balanced p y interfaces c t s (at_node p m q.env) there b
         (subst (λ k. PassesTo (control_held p y b k s.frames) (held (y.envs m) b env')) (sym q.at.control_is) (passes b r.1))
         (typed.balanced b r.0);
   }
 
 -- the law for free
-pub free_keeps : (p : Program) (y : Typing) (c d : Config) (t : ℕ) → WellFormed p → IsTyped p y c → step p c (record { thread = t; act = ActFree }) ≡ Some d → IsTyped p y d
-free_keeps p y c d t wf typed h =
+pub free_keeps : (p : Program) (y : Typing) (interfaces : ℕ → ℕ) (c d : Config) (t : ℕ) → WellFormed p → IsTyped p y interfaces c → step p c (record { thread = t; act = ActFree }) ≡ Some d → IsTyped p y interfaces d
+free_keeps p y interfaces c d t wf typed h =
     let o = step_of p c (record { thread = t; act = ActFree }) d h in
     let q = free_step p c t o.thread d (redex p o.thread.control) refl o.gives in
-    subst (IsTyped p y) (sym q.result) (freed_typed p y c t o.thread d wf typed o.there q)
+    let ordered = subst IsOrdered q.result (step_keeps_order p c d (record { thread = t; act = ActFree }) typed.numbers.ordered h) in
+    subst (IsTyped p y interfaces) (sym q.result) (freed_typed p y interfaces c t o.thread d wf typed o.there q ordered)

@@ -17,7 +17,8 @@ use Rattle.pat_typing.specs.Typings.{Typing, IsTyping, without_name}
 use Rattle.pat_typing.specs.Holdings.{Holding, held, type_at, control_held, frame_held, message_held, wanted, holdings, Balanced}
 use Rattle.pat_typing.specs.Typed.{IsTyped, ThreadFits, ControlFits, PartFits, KeepsFrom, frames_refer}
 use Rattle.pat_preservation_laws.proofs.SplitBalance.{split_refine}
-use Rattle.pat_preservation_laws.proofs.Threads.{lookup_all, split_thread}
+use Rattle.pat_model_laws.proofs.Threads.{lookup_all}
+use Rattle.pat_preservation_laws.proofs.ThreadHoldings.{split_thread}
 use Rattle.pat_model_laws.proofs.Inversion.{StandsAt}
 use Rattle.pat_preservation_laws.proofs.Replace.{replace_keeps}
 use Rattle.pat_preservation_laws.proofs.Nodes.{NodeFacts, node_facts, part_core}
@@ -272,10 +273,10 @@ module _ (p : Program) (y : Typing) (interfaces : ℕ → ℕ) (s : Thread) (n m
       subst (λ l. Balanced (l ++ ms) (pending c a)) (sym (split.changed_is after)) done
 
 -- the law for a let
-pub let_keeps : (p : Program) (y : Typing) (c : Config) (t : ℕ) (s : Thread) (x : Option ℕ) (m b : ℕ) (env : Env) → WellFormed p → (typed : IsTyped p y c) → thread_at c t ≡ Some s → StandsAt p s.control (Let x m b) env → IsTyped p y (with_thread c t (thread_of (at_node p m env) (frame_of p x b env ∷ s.frames)))
-let_keeps p y c t s x m b env wf typed there at =
-    let fits = lookup_all (λ s. ThreadFits p y typed.interfaces s) c.threads t s typed.threads there in
-    replace_keeps p y c t s (thread_of (at_node p m env) (frame_of p x b env ∷ s.frames)) typed there
-    (let_fits p y typed.interfaces s at.node m b x env wf typed.typing fits at.control_is at.term)
-    (let_refers p y typed.interfaces s at.node m b x env wf typed.typing fits at.control_is at.term)
-    (let_balanced p y typed.interfaces s at.node m b x env wf typed.typing fits at.control_is at.term c t there)
+pub let_keeps : (p : Program) (y : Typing) (interfaces : ℕ → ℕ) (c : Config) (t : ℕ) (s : Thread) (x : Option ℕ) (m b : ℕ) (env : Env) → WellFormed p → (typed : IsTyped p y interfaces c) → thread_at c t ≡ Some s → StandsAt p s.control (Let x m b) env → IsTyped p y interfaces (with_thread c t (thread_of (at_node p m env) (frame_of p x b env ∷ s.frames)))
+let_keeps p y interfaces c t s x m b env wf typed there at =
+    let fits = lookup_all (λ s. ThreadFits p y interfaces s) c.threads t s typed.threads there in
+    replace_keeps p y interfaces c t s (thread_of (at_node p m env) (frame_of p x b env ∷ s.frames)) typed there
+    (let_fits p y interfaces s at.node m b x env wf typed.typing fits at.control_is at.term)
+    (let_refers p y interfaces s at.node m b x env wf typed.typing fits at.control_is at.term)
+    (let_balanced p y interfaces s at.node m b x env wf typed.typing fits at.control_is at.term c t there)

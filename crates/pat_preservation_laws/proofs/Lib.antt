@@ -2,7 +2,7 @@ pub mod Passing
 pub mod Balance
 pub mod SplitBalance
 pub mod Refers
-pub mod Threads
+pub mod ThreadHoldings
 pub mod Messages
 pub mod Envs
 pub mod Unbound
@@ -17,6 +17,7 @@ pub mod Bound
 pub mod Payloads
 pub mod Args
 pub mod Agree
+pub mod Interfaces
 pub mod StartTyped
 pub mod PrintKeeps
 pub mod IfKeeps

@@ -1,5 +1,5 @@
 -- A message is taken out of a list of messages.
-use Rattle.std.proofs.Common.{◌≡◌, ℕ, Bool, true, false, cond, ◌||◌, not, nat_eq, if◌then◌else◌, List, [], ◌∷◌, ◌++◌, Some, refl, sym, ap, ◌∙◌, subst, append_assoc, map, ◌<◌, ◌+◌, arith}
+use Rattle.std.proofs.Common.{◌≡◌, ℕ, Bool, true, false, cond, ◌||◌, not, nat_eq, if◌then◌else◌, List, [], ◌∷◌, ◌++◌, Some, refl, sym, ap, ◌∙◌, subst, append_assoc, map}
 use Rattle.std.specs.Prelude.{filter, find}
 use Rattle.std.specs.List.{AllByRecursion, IsDistinct, list_any}
 use Rattle.std.proofs.lemmas.Bool.{eqb-true, eqb-false, eq-eqb, ne_eqb, cond-true, cond-false, or_left, or_right, or_parts}
@@ -8,7 +8,7 @@ use Rattle.pat_words.proofs.WordLaws.{plus_swap}
 use Rattle.pat_model.specs.Configs.{Message, pending_in, has_pending}
 use Rattle.pat_typing.specs.Holdings.{Holding, Balanced, receives, receivers}
 use Rattle.pat_preservation_laws.proofs.Balance.{balance_front, balance_back}
-use Rattle.pat_model_laws.proofs.Lists.{distinct_parts, distinct_join, nil_parts}
+use Rattle.pat_model_laws.proofs.Lists.{distinct_parts, nil_parts}
 
 -- without the messages of a number
 abbrev pub others : ℕ → List Message → List Message
@@ -116,23 +116,6 @@ found_message_any f k (x ∷ xs) m h a =
       | false ↦ λ q. or_right (f x) (list_any f xs) (found_message_any f k xs m q a)
     ]) h
 
-apart_filter : (n : ℕ) (f : Message → Bool) (ms : List Message) → AllByRecursion (λ k. nat_eq n k ≡ false) (map (λ m. m.number) ms) → AllByRecursion (λ k. nat_eq n k ≡ false) (map (λ m. m.number) (filter f ms))
-apart_filter n f [] a = tt
-apart_filter n f (x ∷ xs) a =
-    elim (f x) as (λ t. AllByRecursion (λ k. nat_eq n k ≡ false) (map (λ m. m.number) (cond t (x ∷ filter f xs) (filter f xs)))) [
-      | true ↦ (a.0, apart_filter n f xs a.1)
-      | false ↦ apart_filter n f xs a.1
-    ]
-
-pub distinct_filter : (f : Message → Bool) (ms : List Message) → IsDistinct nat_eq (map (λ m. m.number) ms) → IsDistinct nat_eq (map (λ m. m.number) (filter f ms))
-distinct_filter f [] d = d
-distinct_filter f (x ∷ xs) d =
-    let q = distinct_parts x.number (map (λ m. m.number) xs) d in
-    elim (f x) as (λ t. IsDistinct nat_eq (map (λ m. m.number) (cond t (x ∷ filter f xs) (filter f xs)))) [
-      | true ↦ distinct_join x.number (map (λ m. m.number) (filter f xs)) (apart_filter x.number f xs q.0) (distinct_filter f xs q.1)
-      | false ↦ distinct_filter f xs q.1
-    ]
-
 -- where no message holds a receiving mailbox, none of the others does
 pub none_filter : (h : Message → Holding) (f : Message → Bool) (ms : List Message) → receivers (map h ms) ≡ [] → receivers (map h (filter f ms)) ≡ []
 none_filter h f [] e = refl
@@ -144,14 +127,6 @@ none_filter h f (x ∷ xs) e =
     ]
 
 -- ---- numbers of messages, and mailboxes without one
-
-pub numbers_below : (n : ℕ) (ms : List Message) → AllByRecursion (λ m. m.number < n) ms → AllByRecursion (λ x. x < n) (map (λ m. m.number) ms)
-numbers_below n [] a = tt
-numbers_below n (m ∷ ms) a = (a.0, numbers_below n ms a.1)
-
-pub below_more : (n : ℕ) (ms : List Message) → AllByRecursion (λ m. m.number < n) ms → AllByRecursion (λ m. m.number < n + 1) ms
-below_more n [] a = tt
-below_more n (m ∷ ms) a = (let h = a.0 in omega arith, below_more n ms a.1)
 
 -- nothing is pending in a mailbox that has no message
 pub pending_none : (a : ℕ) (ms : List Message) → has_pending a ms ≡ false → pending_in a ms ≡ no_word

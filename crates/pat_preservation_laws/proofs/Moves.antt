@@ -10,7 +10,8 @@ use Rattle.pat_typing.specs.Typings.{Typing, IsTyping}
 use Rattle.pat_typing.specs.Holdings.{control_held, frame_held, message_held, holdings, Balanced, held, wanted}
 use Rattle.pat_typing.specs.Typed.{IsTyped, ThreadFits, ControlFits, PartFits}
 use Rattle.pat_preservation_laws.proofs.Balance.{passes_refine}
-use Rattle.pat_preservation_laws.proofs.Threads.{lookup_all, split_thread, replace_one}
+use Rattle.pat_model_laws.proofs.Threads.{lookup_all}
+use Rattle.pat_preservation_laws.proofs.ThreadHoldings.{split_thread, replace_one}
 use Rattle.pat_preservation_laws.proofs.Replace.{replace_keeps}
 use Rattle.pat_preservation_laws.proofs.Narrow.{keeps_passes, Narrowed, keep_narrows, narrow_part, narrow_refers, narrow_passes}
 use Rattle.pat_model.specs.Values.{Env}
@@ -52,12 +53,12 @@ move_balanced p y interfaces c t s k there a passes b =
     let new = replace_one split.before fs split.after ms h h' (pending c a) (pending c a) (passes_refine h h' (pending c a) passes) old in
     subst (λ l. Balanced (l ++ ms) (pending c a)) (sym (split.changed_is r)) new
 
-pub move_keeps : (p : Program) (y : Typing) (c : Config) (t : ℕ) (s : Thread) (k : Control) (typed : IsTyped p y c) → thread_at c t ≡ Some s → Move p y typed.interfaces s k → IsTyped p y (with_thread c t (thread_of k s.frames))
-move_keeps p y c t s k typed there m =
-    replace_keeps p y c t s (thread_of k s.frames) typed there
-    (move_thread p y typed.interfaces s k (lookup_all (λ s. ThreadFits p y typed.interfaces s) c.threads t s typed.threads there) m)
-    (move_refers p y typed.interfaces s k m)
-    (λ a b. move_balanced p y typed.interfaces c t s k there a (m.passes a) b)
+pub move_keeps : (p : Program) (y : Typing) (interfaces : ℕ → ℕ) (c : Config) (t : ℕ) (s : Thread) (k : Control) (typed : IsTyped p y interfaces c) → thread_at c t ≡ Some s → Move p y interfaces s k → IsTyped p y interfaces (with_thread c t (thread_of k s.frames))
+move_keeps p y interfaces c t s k typed there m =
+    replace_keeps p y interfaces c t s (thread_of k s.frames) typed there
+    (move_thread p y interfaces s k (lookup_all (λ s. ThreadFits p y interfaces s) c.threads t s typed.threads there) m)
+    (move_refers p y interfaces s k m)
+    (λ a b. move_balanced p y interfaces c t s k there a (m.passes a) b)
 
 -- ---- a part of the node goes on
 

@@ -3,7 +3,7 @@ use Rattle.std.proofs.Common.{◌≡◌, ℕ, suc, Bool, true, false, ◌&&◌, 
 use Rattle.std.specs.Prelude.{is_some, filter}
 use Rattle.std.specs.Map.{lookup}
 use Rattle.std.proofs.lemmas.Bool.{eq-eqb, ne_eqb, cond-true, cond-false, or_cases, and_from, and_parts, false_from_ne_true}
-use Rattle.pat_model.specs.Values.{Value, Mailbox, Kind, Plain, MailboxOf, Env, AscendsFrom, value_at, ValueFits}
+use Rattle.pat_model.specs.Values.{Value, Mailbox, Kind, Plain, MailboxOf, Env, value_at, ValueFits}
 use Rattle.pat_model.specs.Programs.{Program, Core, core_at, is_among, is_free, keep, KindAt}
 use Rattle.pat_model.specs.WellFormed.{WellFormed}
 use Rattle.pat_model.specs.Configs.{Frame, is_mailbox, env_refers}
@@ -12,27 +12,30 @@ use Rattle.pat_typing.specs.Typings.{Typing, IsTyping}
 use Rattle.pat_typing.specs.Holdings.{Holding, held}
 use Rattle.pat_typing.specs.Typed.{PartFits, KeepsFrom}
 use Rattle.pat_preservation_laws.proofs.Refers.{is_mailbox_same, value_refers}
-use Rattle.pat_preservation_laws.proofs.Envs.{value_at-keep, kept, held_cases, HeldCases, by_variable, by_none, ascends_filter, value_at-filter, value_above}
+use Rattle.pat_preservation_laws.proofs.Envs.{value_at-keep, kept, held_cases, HeldCases, by_variable, by_none, value_at-filter}
+use Rattle.pat_model_laws.proofs.Ascending.{ascends_filter, value_above}
 use Rattle.pat_preservation_laws.proofs.Named.{free_named}
 use Rattle.pat_model_laws.proofs.Lists.{not_true}
 use Rattle.pat_preservation_laws.proofs.Passing.{passes_drop}
+use Rattle.pat_model.specs.Orders.{AscendsFrom}
+use Rattle.std.specs.Map.{keys_of}
 
 -- the second environment has just those values of the first whose variable passes the test
 pub record Narrowed (test : ℕ → Bool) (env env' : Env) : Type 0 where
-  pub keys : AscendsFrom 0 env'
+  pub keys : AscendsFrom 0 (keys_of env')
   pub inside : (z : ℕ) (v : Value) → value_at env' z ≡ Some v → (test z ≡ true) × (value_at env z ≡ Some v)
   pub still : (z : ℕ) (v : Value) → value_at env z ≡ Some v → test z ≡ true → value_at env' z ≡ Some v
 
-pub keep_narrows : (p : Program) (m : ℕ) (env : Env) → AscendsFrom 0 env → Narrowed (λ z. is_free p z m) env (keep p m env)
+pub keep_narrows : (p : Program) (m : ℕ) (env : Env) → AscendsFrom 0 (keys_of env) → Narrowed (λ z. is_free p z m) env (keep p m env)
 keep_narrows p m env a = record {
-  keys = ascends_filter (λ b. is_free p b.0 m) 0 env a;
+  keys = ascends_filter (λ (e : ℕ × Value). e.0) (λ b. is_free p b.0 m) 0 env a;
   inside = λ z v at. kept p m env z v at;
   still = λ z v at f. value_at-keep p m env z ∙ cond-true (is_free p z m) (value_at env z) None f ∙ at;
 }
 
-pub filter_narrows : (f : ℕ → Bool) (env : Env) → AscendsFrom 0 env → Narrowed f env (filter (λ b. f b.0) env)
+pub filter_narrows : (f : ℕ → Bool) (env : Env) → AscendsFrom 0 (keys_of env) → Narrowed f env (filter (λ b. f b.0) env)
 filter_narrows f env a = record {
-  keys = ascends_filter (λ b. f b.0) 0 env a;
+  keys = ascends_filter (λ (e : ℕ × Value). e.0) (λ b. f b.0) 0 env a;
   inside = λ z v at.
       (elim (f z) as (λ t. f z ≡ t → (if t then value_at env z else None) ≡ Some v → (f z ≡ true) × (value_at env z ≡ Some v)) [
         | true ↦ λ q k. (q, k)
@@ -52,7 +55,7 @@ narrow_twice f g e1 e2 e3 a b = record {
 }
 
 -- who is referred to, is so by a variable
-pub refers_value : (b n : ℕ) (env : Env) → AscendsFrom n env → env_refers b env ≡ true → (z : ℕ) × (value_at env z ≡ Some (Mailbox b))
+pub refers_value : (b n : ℕ) (env : Env) → AscendsFrom n (keys_of env) → env_refers b env ≡ true → (z : ℕ) × (value_at env z ≡ Some (Mailbox b))
 refers_value b n [] a h = cc
 refers_value b n (e ∷ env) a h =
     ⊎_elim
@@ -79,7 +82,7 @@ pub data NarrowCases (f : ℕ → Bool) (g h : TypeEnv) (env env' : Env) (b : �
   goes : (z : ℕ) → value_at env z ≡ Some (Mailbox b) → f z ≡ false → held g b env ≡ g z → held h b env' ≡ None → NarrowCases f g h env env' b
   absent : ((z : ℕ) → value_at env z ≡ Some (Mailbox b) → ⊥) → held g b env ≡ None → held h b env' ≡ None → NarrowCases f g h env env' b
 
-pub narrow_cases : (f : ℕ → Bool) (g h : TypeEnv) (env env' : Env) (b : ℕ) → AscendsFrom 0 env → NamesApart env → Narrowed f env env' → NarrowCases f g h env env' b
+pub narrow_cases : (f : ℕ → Bool) (g h : TypeEnv) (env env' : Env) (b : ℕ) → AscendsFrom 0 (keys_of env) → NamesApart env → Narrowed f env env' → NarrowCases f g h env env' b
 narrow_cases f g h env env' b a apart w = go (held_cases g b 0 env a) (held_cases h b 0 env' w.keys)
   where
     go : HeldCases g b env → HeldCases h b env' → NarrowCases f g h env env' b
@@ -92,7 +95,7 @@ narrow_cases f g h env env' b a apart w = go (held_cases g b 0 env a) (held_case
     go (by_none none is) (by_none none' is') = absent none is is'
 
 -- what is there passes to what goes on, where each variable's type does
-pub narrow_passes : (f : ℕ → Bool) (g h : TypeEnv) (env env' : Env) (b : ℕ) → AscendsFrom 0 env → NamesApart env → Narrowed f env env' → ((z : ℕ) → value_at env z ≡ Some (Mailbox b) → PassesTo (g z) (h z)) → ((z : ℕ) → f z ≡ false → PassesTo (h z) None) → PassesTo (held g b env) (held h b env')
+pub narrow_passes : (f : ℕ → Bool) (g h : TypeEnv) (env env' : Env) (b : ℕ) → AscendsFrom 0 (keys_of env) → NamesApart env → Narrowed f env env' → ((z : ℕ) → value_at env z ≡ Some (Mailbox b) → PassesTo (g z) (h z)) → ((z : ℕ) → f z ≡ false → PassesTo (h z) None) → PassesTo (held g b env) (held h b env')
 narrow_passes f g h env env' b a apart w passes unused = go (narrow_cases f g h env env' b a apart w)
   where
     go : NarrowCases f g h env env' b → PassesTo (held g b env) (held h b env')

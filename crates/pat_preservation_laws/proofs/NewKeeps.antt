@@ -1,27 +1,34 @@
 -- A step that makes a mailbox keeps a configuration typed.
-use Rattle.std.proofs.Common.{◌≡◌, ℕ, ◌+◌, ◌<◌, true, false, ◌||◌, nat_eq, if◌then◌else◌, List, [], ◌∷◌, ◌++◌, Some, None, refl, sym, ap, ◌∙◌, subst, arith, map, append_assoc, ⊎_elim}
+use Rattle.std.proofs.Common.{◌≡◌, ℕ, ◌+◌, true, false, ◌||◌, nat_eq, if◌then◌else◌, List, [], ◌∷◌, ◌++◌, Some, None, refl, sym, ap, ◌∙◌, subst, arith, map, append_assoc, ⊎_elim}
 use Rattle.std.proofs.lemmas.Bool.{or_cases, or_left, or_right, or_parts, eqb-true, eq-eqb, ne_eqb, false_from_ne_true, cond-true, cond-false}
-use Rattle.std.specs.List.{IsDistinct, list_any}
+use Rattle.std.specs.List.{list_any}
 use Rattle.pat_words.specs.Words.{Word, no_word, plus}
 use Rattle.pat_words.specs.Patterns.{Pat, In}
 use Rattle.pat_words.proofs.WordLaws.{none_plus}
 use Rattle.pat_model.specs.Values.{Mailbox, Kind, MailboxOf, Env, ValueFits}
 use Rattle.pat_model.specs.Programs.{Program, Sending, Receiving, New, is_among}
 use Rattle.pat_model.specs.WellFormed.{WellFormed}
-use Rattle.pat_model.specs.Configs.{Running, Returned, Frame, Thread, Message, Config, thread_at, with_thread, is_mailbox, env_refers, control_refers, thread_refers, message_refers, has_pending, pending}
+use Rattle.pat_model.specs.Configs.{Running, Returned, Frame, Thread, Config, thread_at, with_thread, is_mailbox, env_refers, control_refers, thread_refers, message_refers, has_pending, pending}
 use Rattle.pat_model.specs.Steps.{ActNew, step, redex, thread_of}
 use Rattle.pat_typing.specs.Types.{Returnable, TypeOf, BaseTerm, MailboxTerm, kind_of_type, mailbox_type, TypeFits, no_types, EnvPasses, PassesTo}
 use Rattle.pat_typing.specs.Typings.{Typing, NewTyped}
 use Rattle.pat_typing.specs.Holdings.{Holding, wanted, as_holding, control_held, frame_held, message_held, thread_held, holdings, Balanced}
 use Rattle.pat_typing.specs.Typed.{IsTyped, ThreadFits, NumbersFit, ControlFits, KeepsFrom, frames_refer}
 use Rattle.pat_preservation_laws.proofs.Balance.{passes_refine, balance_back}
-use Rattle.pat_preservation_laws.proofs.Threads.{lookup_all, lookup_any, set_all, set_any, keys_of-set, split_thread, replace_one}
+use Rattle.pat_model_laws.proofs.Threads.{lookup_all, lookup_any, set_all, set_any}
+use Rattle.pat_preservation_laws.proofs.ThreadHoldings.{split_thread, replace_one}
 use Rattle.pat_model_laws.proofs.Inversion.{step_of, new_step}
 use Rattle.pat_preservation_laws.proofs.Nodes.{node_facts, held_all, fits_kind}
 use Rattle.pat_preservation_laws.proofs.Refers.{AllNone, none-append, none_receivers, none_choice, threads_none, frames_none, messages_none}
 use Rattle.pat_preservation_laws.proofs.Agree.{AgreeOn, touches, threads_agree, messages_agree, messages_held, frames_agree}
-use Rattle.pat_model_laws.proofs.Lists.{clash, among_below, below_weaken, distinct_snoc, any-append, any_first, any_last, all_snoc}
+use Rattle.pat_model_laws.proofs.Lists.{clash, among_below, any-append, any_first, any_last}
 use Rattle.pat_preservation_laws.proofs.Messages.{pending_none}
+use Rattle.pat_model.specs.Orders.{IsOrdered}
+use Rattle.pat_model_laws.proofs.Ordered.{step_keeps_order}
+use Rattle.pat_typing.specs.Interfaces.{new_interface, made_by, with_interface, interfaces_after}
+use Rattle.pat_model_laws.proofs.Inversion.{StandsAt}
+use Rattle.pat_model.specs.Steps.{At, redex_at}
+use Rattle.pat_preservation_laws.proofs.Agree.{touched_live}
 
 none_parts : (hs ks : List Holding) → AllNone (hs ++ ks) → AllNone hs × AllNone ks
 none_parts [] ks a = (tt, a)
@@ -55,7 +62,7 @@ alone_balanced i e hs r none empty has = record {
 }
 
 -- a step of thread t, which stands at a node that makes a mailbox of interface i
-record Made (p : Program) (y : Typing) (c : Config) (t : ℕ) (s : Thread) (i : ℕ) (typed : IsTyped p y c) : Type 0 where
+record Made (p : Program) (y : Typing) (interfaces : ℕ → ℕ) (c : Config) (t : ℕ) (s : Thread) (i : ℕ) (typed : IsTyped p y interfaces c) : Type 0 where
   node : ℕ
   env : Env
   there : thread_at c t ≡ Some s
@@ -64,10 +71,10 @@ record Made (p : Program) (y : Typing) (c : Config) (t : ℕ) (s : Thread) (i : 
   drops : EnvPasses (y.envs node) no_types
   new : NewTyped i (y.results node)
 
-module _ (p : Program) (y : Typing) (c : Config) (t : ℕ) (s : Thread) (i : ℕ) (typed : IsTyped p y c) (made : Made p y c t s i typed) where
+module _ (p : Program) (y : Typing) (interfaces : ℕ → ℕ) (c : Config) (t : ℕ) (s : Thread) (i : ℕ) (typed : IsTyped p y interfaces c) (made : Made p y interfaces c t s i typed) where
   -- the interfaces, with that of the new mailbox
   abbrev interfaces' : ℕ → ℕ
-  interfaces' a = if nat_eq a c.next_mailbox then i else typed.interfaces a
+  interfaces' a = if nat_eq a c.next_mailbox then i else interfaces a
 
   abbrev thread' : Thread
   thread' = thread_of (Returned (Mailbox c.next_mailbox)) s.frames
@@ -78,39 +85,23 @@ module _ (p : Program) (y : Typing) (c : Config) (t : ℕ) (s : Thread) (i : ℕ
   -- a live mailbox isn't the new one
   live_apart : (a : ℕ) → is_among a c.live ≡ true → nat_eq a c.next_mailbox ≡ false
   live_apart a h =
-      let below = among_below c.next_mailbox a c.live typed.numbers.live_below h in
+      let below = among_below c.next_mailbox a c.live typed.numbers.ordered.live_below h in
       ne_eqb a c.next_mailbox (λ e. omega arith)
 
-  live_agrees : (a : ℕ) → is_among a c.live ≡ true → interfaces' a ≡ typed.interfaces a
-  live_agrees a h = cond-false (nat_eq a c.next_mailbox) i (typed.interfaces a) (live_apart a h)
+  live_agrees : (a : ℕ) → is_among a c.live ≡ true → interfaces' a ≡ interfaces a
+  live_agrees a h = cond-false (nat_eq a c.next_mailbox) i (interfaces a) (live_apart a h)
 
-  threads_agreed : AgreeOn typed.interfaces interfaces' (λ a. list_any (λ e. thread_refers a e.1) c.threads)
+  threads_agreed : AgreeOn interfaces interfaces' (λ a. list_any (λ e. thread_refers a e.1) c.threads)
   threads_agreed a h = live_agrees a (typed.numbers.threads_live a h)
 
-  touched_live : (a : ℕ) (ms : List Message) → list_any (touches typed.interfaces interfaces' a) ms ≡ true → (list_any (message_refers a) ms || has_pending a ms) ≡ true
-  touched_live a [] h = cc
-  touched_live a (m ∷ ms) h =
-      let ra = list_any (message_refers a) (m ∷ ms) in
-      let pa = has_pending a (m ∷ ms) in
-      ⊎_elim
-      (λ k. ⊎_elim
-      (λ x. or_left ra pa (or_left (message_refers a m) (list_any (message_refers a) ms) x))
-      (λ x. or_right ra pa (or_left (nat_eq m.mailbox a) (has_pending a ms) x))
-      (or_cases (message_refers a m) (nat_eq m.mailbox a) k))
-      (λ k. ⊎_elim
-      (λ x. or_left ra pa (or_right (message_refers a m) (list_any (message_refers a) ms) x))
-      (λ x. or_right ra pa (or_right (nat_eq m.mailbox a) (has_pending a ms) x))
-      (or_cases (list_any (message_refers a) ms) (has_pending a ms) (touched_live a ms k)))
-      (or_cases (touches typed.interfaces interfaces' a m) (list_any (touches typed.interfaces interfaces' a) ms) h)
-
-  messages_agreed : AgreeOn typed.interfaces interfaces' (λ a. list_any (touches typed.interfaces interfaces' a) c.messages)
-  messages_agreed a h = live_agrees a (typed.numbers.messages_live a (touched_live a c.messages h))
+  messages_agreed : AgreeOn interfaces interfaces' (λ a. list_any (touches interfaces interfaces' a) c.messages)
+  messages_agreed a h = live_agrees a (typed.numbers.messages_live a (touched_live interfaces interfaces' a c.messages h))
 
   -- nobody refers to the new mailbox
   new_apart : is_among c.next_mailbox c.live ≡ false
   new_apart =
       false_from_ne_true (is_among c.next_mailbox c.live)
-      (λ h. let below = among_below c.next_mailbox c.next_mailbox c.live typed.numbers.live_below h in absurd (omega arith))
+      (λ h. let below = among_below c.next_mailbox c.next_mailbox c.live typed.numbers.ordered.live_below h in absurd (omega arith))
 
   new_unreferred : list_any (λ e. thread_refers c.next_mailbox e.1) c.threads ≡ false
   new_unreferred =
@@ -131,11 +122,11 @@ module _ (p : Program) (y : Typing) (c : Config) (t : ℕ) (s : Thread) (i : ℕ
   frames_unreferred =
       (or_parts (control_refers c.next_mailbox s.control) (list_any (λ f. env_refers c.next_mailbox f.env) s.frames) thread_unreferred).1
 
-  old_fits : ThreadFits p y typed.interfaces s
-  old_fits = lookup_all (λ r. ThreadFits p y typed.interfaces r) c.threads t s typed.threads made.there
+  old_fits : ThreadFits p y interfaces s
+  old_fits = lookup_all (λ r. ThreadFits p y interfaces r) c.threads t s typed.threads made.there
 
-  control_fits : ControlFits p y typed.interfaces (Running made.node made.env) s.frames
-  control_fits = subst (λ k. ControlFits p y typed.interfaces k s.frames) made.at old_fits.control
+  control_fits : ControlFits p y interfaces (Running made.node made.env) s.frames
+  control_fits = subst (λ k. ControlFits p y interfaces k s.frames) made.at old_fits.control
 
   new_keeps_from : KeepsFrom (λ b. control_held p y b thread'.control s.frames) s.frames
   new_keeps_from b a h u =
@@ -149,8 +140,8 @@ module _ (p : Program) (y : Typing) (c : Config) (t : ℕ) (s : Thread) (i : ℕ
       let k : MailboxOf i ≡ kind_of_type (wanted p y s.frames) =
       sym made.kind ∙ fits_kind (y.results made.node) (wanted p y s.frames) control_fits.1 in
       record {
-        control = subst (λ (x : Kind). ValueFits interfaces' (Mailbox c.next_mailbox) x) k (cond-true (nat_eq c.next_mailbox c.next_mailbox) i (typed.interfaces c.next_mailbox) (eq-eqb c.next_mailbox c.next_mailbox refl));
-        frames = frames_agree typed.interfaces interfaces' p y s.frames
+        control = subst (λ (x : Kind). ValueFits interfaces' (Mailbox c.next_mailbox) x) k (cond-true (nat_eq c.next_mailbox c.next_mailbox) i (interfaces c.next_mailbox) (eq-eqb c.next_mailbox c.next_mailbox refl));
+        frames = frames_agree interfaces interfaces' p y s.frames
             (λ a h. threads_agreed a (lookup_any (thread_refers a) c.threads t s made.there (or_right (control_refers a s.control) (list_any (λ (x : Frame). env_refers a x.env) s.frames) h)))
             old_fits.frames;
         control_keeps = new_keeps_from;
@@ -164,14 +155,9 @@ module _ (p : Program) (y : Typing) (c : Config) (t : ℕ) (s : Thread) (i : ℕ
       (λ k. any_first (nat_eq a) c.live (c.next_mailbox ∷ []) (typed.numbers.threads_live a (lookup_any (thread_refers a) c.threads t s made.there (or_right (control_refers a s.control) (list_any (λ f. env_refers a f.env) s.frames) k))))
       (or_cases (is_mailbox a (Mailbox c.next_mailbox)) (list_any (λ f. env_refers a f.env) s.frames) h)
 
-  numbers' : NumbersFit after
-  numbers' = record {
-    threads = subst (IsDistinct nat_eq) (sym (keys_of-set c.threads t thread')) typed.numbers.threads;
-    messages = typed.numbers.messages;
-    live = distinct_snoc c.next_mailbox c.live typed.numbers.live_below typed.numbers.live;
-    threads_below = set_all (λ e. e.0 < c.next_thread) c.threads t thread' (λ e h. h) typed.numbers.threads_below;
-    messages_below = typed.numbers.messages_below;
-    live_below = all_snoc (λ x. x < c.next_mailbox + 1) c.live c.next_mailbox (below_weaken c.next_mailbox c.live typed.numbers.live_below) (omega arith);
+  numbers' : IsOrdered after → NumbersFit after
+  numbers' ordered = record {
+    ordered = ordered;
     threads_live = λ a h.
         ⊎_elim
         (λ here. refers_live a here)
@@ -180,13 +166,13 @@ module _ (p : Program) (y : Typing) (c : Config) (t : ℕ) (s : Thread) (i : ℕ
     messages_live = λ a h. any_first (nat_eq a) c.live (c.next_mailbox ∷ []) (typed.numbers.messages_live a h);
   }
 
-  same_messages : (a : ℕ) → map (message_held p interfaces' a) c.messages ≡ map (message_held p typed.interfaces a) c.messages
-  same_messages a = messages_held typed.interfaces interfaces' p a c.messages messages_agreed
+  same_messages : (a : ℕ) → map (message_held p interfaces' a) c.messages ≡ map (message_held p interfaces a) c.messages
+  same_messages a = messages_held interfaces interfaces' p a c.messages messages_agreed
 
   -- an old mailbox stays balanced
   old_balanced : (a : ℕ) → is_among a c.live ≡ true → Balanced (holdings p y interfaces' after a) (pending after a)
   old_balanced a live =
-      let ms = map (message_held p typed.interfaces a) c.messages in
+      let ms = map (message_held p interfaces a) c.messages in
       let split = split_thread p y a t s c.threads made.there in
       let fs = map (frame_held y a) s.frames in
       let h = control_held p y a s.control s.frames in
@@ -205,7 +191,7 @@ module _ (p : Program) (y : Typing) (c : Config) (t : ℕ) (s : Thread) (i : ℕ
   new_balanced : Balanced (holdings p y interfaces' after c.next_mailbox) (pending after c.next_mailbox)
   new_balanced =
       let a = c.next_mailbox in
-      let ms = map (message_held p typed.interfaces a) c.messages in
+      let ms = map (message_held p interfaces a) c.messages in
       let split = split_thread p y a t s c.threads made.there in
       let fs = map (frame_held y a) s.frames in
       let unsent = or_parts (list_any (message_refers a) c.messages) (has_pending a c.messages) new_unsent in
@@ -213,7 +199,7 @@ module _ (p : Program) (y : Typing) (c : Config) (t : ℕ) (s : Thread) (i : ℕ
       let tail = none_parts (thread_held p y a s) split.after all.1 in
       let rest_none : AllNone (split.before ++ ((fs ++ split.after) ++ ms)) =
       none-append split.before ((fs ++ split.after) ++ ms) all.0
-      (none-append (fs ++ split.after) ms (none-append fs split.after (frames_none y a s.frames frames_unreferred) tail.1) (messages_none p typed.interfaces a c.messages unsent.0)) in
+      (none-append (fs ++ split.after) ms (none-append fs split.after (frames_none y a s.frames frames_unreferred) tail.1) (messages_none p interfaces a c.messages unsent.0)) in
       let want = new_wanted i (y.results made.node) (wanted p y s.frames) made.new control_fits.1 in
       let k = Some (mailbox_type want.interface Receiving want.pattern Returnable) in
       let empty : pending c a ≡ no_word = pending_none a c.messages unsent.1 in
@@ -228,13 +214,12 @@ module _ (p : Program) (y : Typing) (c : Config) (t : ℕ) (s : Thread) (i : ℕ
       ∙ append_assoc split.before ((k ∷ fs) ++ split.after) ms in
       subst (λ l. Balanced l (pending c a)) (sym flat) placed
 
-  made_typed : IsTyped p y after
-  made_typed = record {
+  made_typed : IsOrdered after → IsTyped p y interfaces' after
+  made_typed ordered = record {
     typing = typed.typing;
-    interfaces = interfaces';
-    numbers = numbers';
-    threads = set_all (λ e. ThreadFits p y interfaces' e.1) c.threads t thread' (λ e h. thread_fits') (threads_agree typed.interfaces interfaces' p y c.threads threads_agreed typed.threads);
-    messages = messages_agree typed.interfaces interfaces' p c.messages messages_agreed typed.messages;
+    numbers = numbers' ordered;
+    threads = set_all (λ e. ThreadFits p y interfaces' e.1) c.threads t thread' (λ e h. thread_fits') (threads_agree interfaces interfaces' p y c.threads threads_agreed typed.threads);
+    messages = messages_agree interfaces interfaces' p c.messages messages_agreed typed.messages;
     balanced = λ a live.
         ⊎_elim
         (λ h. old_balanced a h)
@@ -245,14 +230,20 @@ module _ (p : Program) (y : Typing) (c : Config) (t : ℕ) (s : Thread) (i : ℕ
         (any-append (nat_eq a) c.live (c.next_mailbox ∷ []) live);
   }
 
+-- the interfaces after the step
+made_interfaces : (p : Program) (c : Config) (t : ℕ) (s : Thread) (i : ℕ) (env : Env) (interfaces : ℕ → ℕ) → thread_at c t ≡ Some s → StandsAt p s.control (New i) env → interfaces_after p c (record { thread = t; act = ActNew }) interfaces ≡ (λ a. if nat_eq a c.next_mailbox then i else interfaces a)
+made_interfaces p c t s i env interfaces there at =
+    let control : redex p s.control ≡ At (New i) env = ap (redex p) at.control_is ∙ ap (λ o. redex_at o env) at.term in
+    ap (λ o. with_interface c.next_mailbox (made_by p ActNew o) interfaces) there ∙ ap (λ r. with_interface c.next_mailbox (new_interface r) interfaces) control
+
 -- the law for new
-pub new_keeps : (p : Program) (y : Typing) (c d : Config) (t : ℕ) → WellFormed p → IsTyped p y c → step p c (record { thread = t; act = ActNew }) ≡ Some d → IsTyped p y d
-new_keeps p y c d t wf typed h =
+pub new_keeps : (p : Program) (y : Typing) (interfaces : ℕ → ℕ) (c d : Config) (t : ℕ) → WellFormed p → IsTyped p y interfaces c → step p c (record { thread = t; act = ActNew }) ≡ Some d → IsTyped p y (interfaces_after p c (record { thread = t; act = ActNew }) interfaces) d
+new_keeps p y interfaces c d t wf typed h =
     let o = step_of p c (record { thread = t; act = ActNew }) d h in
     let s = o.thread in
     let q = new_step p c t s d (redex p s.control) refl o.gives in
     let facts = node_facts p y q.at.node (New q.interface) wf typed.typing q.at.term in
-    let made : Made p y c t s q.interface typed = record {
+    let made : Made p y interfaces c t s q.interface typed = record {
       node = q.at.node;
       env = q.env;
       there = o.there;
@@ -261,4 +252,6 @@ new_keeps p y c d t wf typed h =
       drops = facts.term.1;
       new = facts.term.0;
     } in
-    subst (IsTyped p y) (sym q.result) (made_typed p y c t s q.interface typed made)
+    let ordered = subst IsOrdered q.result (step_keeps_order p c d (record { thread = t; act = ActNew }) typed.numbers.ordered h) in
+    subst (λ f. IsTyped p y f d) (sym (made_interfaces p c t s q.interface q.env interfaces o.there q.at))
+    (subst (IsTyped p y (λ a. if nat_eq a c.next_mailbox then q.interface else interfaces a)) (sym q.result) (made_typed p y interfaces c t s q.interface typed made ordered))

@@ -9,7 +9,7 @@ use Rattle.pat_model.specs.Configs.{Running, Thread, Message, Config, thread_at,
 use Rattle.pat_model.specs.Steps.{at_node, received, thread_of, without_message}
 use Rattle.pat_typing.specs.Typings.{Typing, payload_type}
 use Rattle.pat_typing.specs.Holdings.{Holding, held, control_held, frame_held, payload_held, declared_types, message_held, holdings, Balanced}
-use Rattle.pat_preservation_laws.proofs.Threads.{split_thread}
+use Rattle.pat_preservation_laws.proofs.ThreadHoldings.{split_thread}
 use Rattle.pat_preservation_laws.proofs.Messages.{others, Taken, pending_own, pending_other, two_front, one_back}
 use Rattle.pat_preservation_laws.proofs.ReceiveHoldings.{Receipt, other_balanced, own_balanced}
 use Rattle.pat_model_laws.proofs.Lists.{map-append}

@@ -7,7 +7,7 @@ use Rattle.pat_words.specs.Words.{Word, no_word, one, plus}
 use Rattle.pat_words.specs.Patterns.{Pat, In, Included, residual}
 use Rattle.pat_words.proofs.WordLaws.{word_ext}
 use Rattle.pat_words.proofs.PatternLaws.{residual_from}
-use Rattle.pat_model.specs.Values.{Value, Mailbox, Env, AscendsFrom, value_at, bind_all}
+use Rattle.pat_model.specs.Values.{Value, Mailbox, Env, value_at, bind_all}
 use Rattle.pat_model.specs.Programs.{Program, Polarity, Sending, Receiving, Clause, is_among, clause_binders, is_free, keep}
 use Rattle.pat_model.specs.Configs.{Message, is_mailbox}
 use Rattle.pat_model.specs.Steps.{received}
@@ -17,10 +17,13 @@ use Rattle.pat_typing.specs.Holdings.{Holding, held, payload_held, Balanced}
 use Rattle.pat_typing.specs.Typed.{PartFits, mailboxes_of}
 use Rattle.pat_preservation_laws.proofs.Balance.{Refines, active, refine_balance, passes_refine, choice_one, choice_of_one, drop_second, drop_first}
 use Rattle.pat_preservation_laws.proofs.Refers.{payload_none}
-use Rattle.pat_preservation_laws.proofs.Envs.{value_at-bind, kept, held_cases, HeldCases, by_variable, by_none, ascends_bind, ascends_bind_all, ascends_filter, value_at-keep}
+use Rattle.pat_preservation_laws.proofs.Envs.{value_at-bind, kept, held_cases, HeldCases, by_variable, by_none, value_at-keep}
+use Rattle.pat_model_laws.proofs.Ascending.{ascends_bind, ascends_bind_all, ascends_filter}
 use Rattle.pat_preservation_laws.proofs.Payloads.{HaveTypes, payloads_off, value_off, PayloadCases, of_env, of_payload, payload_cases, PayloadPlace, payload_place, names_head}
 use Rattle.pat_model_laws.proofs.Lists.{clash, ne_turn, any_first, any_last}
 use Rattle.pat_preservation_laws.proofs.Passing.{drop_back, passes_drop}
+use Rattle.pat_model.specs.Orders.{AscendsFrom}
+use Rattle.std.specs.Map.{keys_of}
 
 -- ---- balance, where the first holdings are those of the control and of the message
 
@@ -143,9 +146,9 @@ module _ (p : Program) (y : Typing) (interfaces : ℕ → ℕ) (n : ℕ) (env : 
         | false ↦ λ q v. payload_case b z (inr some) q some (payload_cases (without x (y.envs n)) types env b 0 r.vars m.values z known.lengths known.have_types names_distinct v)
       ]) refl (sym (value_at-bind (bind_all env r.vars m.values) r.from (Mailbox m.mailbox) z) ∙ k.1)
 
-  pub kept_ascends : AscendsFrom 0 kept_values
+  pub kept_ascends : AscendsFrom 0 (keys_of kept_values)
   kept_ascends =
-      ascends_filter (λ b. is_free p b.0 r.body) 0 all_values
+      ascends_filter (λ (e : ℕ × Value). e.0) (λ b. is_free p b.0 r.body) 0 all_values
       (ascends_bind 0 (bind_all env r.vars m.values) r.from (Mailbox m.mailbox) (omega arith) (ascends_bind_all env r.vars m.values known.part.keys))
 
   -- a variable that has a value before and isn't kept isn't free

@@ -1,5 +1,5 @@
 -- A receive step keeps a configuration typed.
-use Rattle.std.proofs.Common.{◌≡◌, ℕ, ◌<◌, true, false, ◌||◌, not, nat_eq, if◌then◌else◌, List, [], ◌∷◌, length, map, Some, None, refl, sym, ap, ◌∙◌, subst, ⊎_elim}
+use Rattle.std.proofs.Common.{◌≡◌, ℕ, true, false, ◌||◌, not, nat_eq, if◌then◌else◌, List, [], ◌∷◌, length, map, Some, None, refl, sym, ap, ◌∙◌, subst, ⊎_elim}
 use Rattle.std.specs.Prelude.{is_some, slice_get, option_map}
 use Rattle.std.specs.List.{IsDistinct, list_any, flat_map}
 use Rattle.std.proofs.lemmas.Bool.{eqb-true, eqb-false, eq-eqb, ne_eqb, cond-true, cond-false, or_cases, or_left, or_right, and_from, false_from_ne_true}
@@ -14,7 +14,7 @@ use Rattle.pat_typing.specs.Types.{Usage, Second, Returnable, TypeEnv, PassesTo,
 use Rattle.pat_typing.specs.Typings.{Typing, payload_type, GuardTyped, ClauseTyped}
 use Rattle.pat_typing.specs.Holdings.{Holding, held, control_held, payload_held, wanted}
 use Rattle.pat_typing.specs.Typed.{IsTyped, ThreadFits, MessageFits, NumbersFit, ControlFits, PartFits, KeepsFrom, frames_refer}
-use Rattle.pat_preservation_laws.proofs.Threads.{lookup_all, lookup_any, set_all, set_any, keys_of-set}
+use Rattle.pat_model_laws.proofs.Threads.{lookup_all, lookup_any, set_all, set_any}
 use Rattle.pat_model_laws.proofs.Inversion.{step_of, ReceiveStep, receive_step}
 use Rattle.pat_preservation_laws.proofs.Nodes.{NodeFacts, node_facts, part_core}
 use Rattle.pat_preservation_laws.proofs.Refers.{value_refers}
@@ -23,13 +23,16 @@ use Rattle.pat_preservation_laws.proofs.Payloads.{names_head, payload_place, nam
 use Rattle.pat_preservation_laws.proofs.Named.{free_named, kind_same, part_kind, payloads_typed, tag_payloads}
 use Rattle.pat_preservation_laws.proofs.Narrow.{usage_back, refers_value}
 use Rattle.pat_preservation_laws.proofs.Unused.{unused_drops}
-use Rattle.pat_preservation_laws.proofs.Messages.{others, take_message, found_all, found_message_any, distinct_filter}
+use Rattle.pat_preservation_laws.proofs.Messages.{others, take_message, found_all, found_message_any}
 use Rattle.pat_preservation_laws.proofs.ReceiveHoldings.{Receipt, BodyCases, is_from, is_payload, is_env, body_cases, own_old, kept_ascends, passes_env, still, has_payload}
 use Rattle.pat_preservation_laws.proofs.ReceiveBalance.{after_receive, receive_balanced}
 use Rattle.pat_preservation_laws.proofs.Received.{found_clause, found_binders, found_any, found_body, have_types, held_second, BoundValue, was, of_kind, bound_value, bound_some, bound_different}
 use Rattle.pat_model_laws.proofs.Lists.{clash, distinct_front, distinct_back, any-append, any_last, any_filter, all_filter}
+use Rattle.pat_model.specs.Orders.{IsOrdered}
+use Rattle.pat_model_laws.proofs.Ordered.{step_keeps_order}
+use Rattle.pat_model_laws.proofs.Ascending.{ascends_distinct}
 
-module _ (p : Program) (y : Typing) (c : Config) (t k : ℕ) (s : Thread) (d : Config) (wf : WellFormed p) (typed : IsTyped p y c) (there : thread_at c t ≡ Some s) (q : ReceiveStep p c t k s d) where
+module _ (p : Program) (y : Typing) (interfaces : ℕ → ℕ) (c : Config) (t k : ℕ) (s : Thread) (d : Config) (wf : WellFormed p) (typed : IsTyped p y interfaces c) (there : thread_at c t ≡ Some s) (q : ReceiveStep p c t k s d) where
   abbrev node : ℕ
   node = q.at.node
 
@@ -45,17 +48,17 @@ module _ (p : Program) (y : Typing) (c : Config) (t k : ℕ) (s : Thread) (d : C
   facts : NodeFacts p y node guard_term
   facts = node_facts p y node guard_term wf typed.typing q.at.term
 
-  old_fits : ThreadFits p y typed.interfaces s
-  old_fits = lookup_all (λ w. ThreadFits p y typed.interfaces w) c.threads t s typed.threads there
+  old_fits : ThreadFits p y interfaces s
+  old_fits = lookup_all (λ w. ThreadFits p y interfaces w) c.threads t s typed.threads there
 
-  control_fits : ControlFits p y typed.interfaces (Running node q.env) s.frames
-  control_fits = subst (λ w. ControlFits p y typed.interfaces w s.frames) q.at.control_is old_fits.control
+  control_fits : ControlFits p y interfaces (Running node q.env) s.frames
+  control_fits = subst (λ w. ControlFits p y interfaces w s.frames) q.at.control_is old_fits.control
 
-  part : PartFits p typed.interfaces node [] q.env
+  part : PartFits p interfaces node [] q.env
   part = control_fits.0
 
-  message_fits : MessageFits p typed.interfaces m
-  message_fits = found_all (MessageFits p typed.interfaces) k c.messages m typed.messages q.found
+  message_fits : MessageFits p interfaces m
+  message_fits = found_all (MessageFits p interfaces) k c.messages m typed.messages q.found
 
   own : q.mailbox ≡ m.mailbox
   own = sym (eqb-true m.mailbox q.mailbox q.on)
@@ -82,12 +85,12 @@ module _ (p : Program) (y : Typing) (c : Config) (t k : ℕ) (s : Thread) (d : C
   var_kind : slice_get vars q.var ≡ Some (MailboxOf gi)
   var_kind = kind_same p y node q.var (MailboxOf gi) guard_term facts (facts.typed.kinds q.var guard.guarded guard.named)
 
-  interface_is : typed.interfaces m.mailbox ≡ gi
+  interface_is : interfaces m.mailbox ≡ gi
   interface_is =
       let known = part.kinds q.var (Mailbox m.mailbox) guards in
       let e : Some known.0 ≡ Some (MailboxOf gi) = sym (kind_same p y node q.var known.0 guard_term facts known.1) ∙ var_kind in
       let same : known.0 ≡ MailboxOf gi = cc in
-      subst (λ w. ValueFits typed.interfaces (Mailbox m.mailbox) w) same known.2
+      subst (λ w. ValueFits interfaces (Mailbox m.mailbox) w) same known.2
 
   abbrev ki : ℕ
   ki = facts.kinds.0
@@ -98,14 +101,14 @@ module _ (p : Program) (y : Typing) (c : Config) (t k : ℕ) (s : Thread) (d : C
   clause_kinds : ClauseKinds p vars facts.kinds.0 (kind_of_type (y.results node)) r
   clause_kinds = (found_clause (ClauseKinds p vars facts.kinds.0 (kind_of_type (y.results node))) m.tag q.receives r facts.kinds.4 q.chosen).0
 
-  declared : tag_at p (typed.interfaces m.mailbox) m.tag ≡ Some clause.decl
+  declared : tag_at p (interfaces m.mailbox) m.tag ≡ Some clause.decl
   declared = ap (λ i. tag_at p i m.tag) interface_is ∙ ap (λ w. tag_at p gi w) (sym tag) ∙ clause.declared
 
-  values_fit : ValuesFit typed.interfaces m.values (map kind_of clause.decl.payloads)
+  values_fit : ValuesFit interfaces m.values (map kind_of clause.decl.payloads)
   values_fit =
       let e : Some message_fits.decl ≡ Some clause.decl = sym message_fits.declared ∙ declared in
       let same : message_fits.decl ≡ clause.decl = cc in
-      subst (λ (w : TagDecl). ValuesFit typed.interfaces m.values (map kind_of w.payloads)) same message_fits.values
+      subst (λ (w : TagDecl). ValuesFit interfaces m.values (map kind_of w.payloads)) same message_fits.values
 
   vars_kinds : VarsHaveKinds vars r.vars (map kind_of clause.decl.payloads)
   vars_kinds =
@@ -135,20 +138,20 @@ module _ (p : Program) (y : Typing) (c : Config) (t k : ℕ) (s : Thread) (d : C
   of_vars z w h = (facts.node, facts.fits.function, facts.there, facts.fits.of, h)
 
   -- each value that is kept is of its variable's kind
-  new_kinds : (z : ℕ) (v : Value) → value_at kept_values z ≡ Some v → (w : Kind) × KindAt p r.body z w × ValueFits typed.interfaces v w
+  new_kinds : (z : ℕ) (v : Value) → value_at kept_values z ≡ Some v → (w : Kind) × KindAt p r.body z w × ValueFits interfaces v w
   new_kinds z v at =
       let h = kept p r.body all_values z v at in
-      (elim (nat_eq z r.from) as (λ b. nat_eq z r.from ≡ b → (if b then Some (Mailbox m.mailbox) else value_at (bind_all q.env r.vars m.values) z) ≡ Some v → (w : Kind) × KindAt p r.body z w × ValueFits typed.interfaces v w) [
+      (elim (nat_eq z r.from) as (λ b. nat_eq z r.from ≡ b → (if b then Some (Mailbox m.mailbox) else value_at (bind_all q.env r.vars m.values) z) ≡ Some v → (w : Kind) × KindAt p r.body z w × ValueFits interfaces v w) [
         | true ↦ λ e f.
             let same : Mailbox m.mailbox ≡ v = cc in (
               MailboxOf facts.kinds.0,
               to_body z (MailboxOf facts.kinds.0) (of_vars z (MailboxOf facts.kinds.0) (ap (slice_get vars) (eqb-true z r.from e) ∙ clause_kinds.from)),
-              subst (λ u. ValueFits typed.interfaces u (MailboxOf facts.kinds.0)) same (interface_is ∙ sym ki_is),
+              subst (λ u. ValueFits interfaces u (MailboxOf facts.kinds.0)) same (interface_is ∙ sym ki_is),
             )
-        | false ↦ λ e f. cases z v (bound_value typed.interfaces vars q.env r.vars m.values (map kind_of clause.decl.payloads) z v vars_kinds values_fit f)
+        | false ↦ λ e f. cases z v (bound_value interfaces vars q.env r.vars m.values (map kind_of clause.decl.payloads) z v vars_kinds values_fit f)
       ]) refl (sym (value_at-bind (bind_all q.env r.vars m.values) r.from (Mailbox m.mailbox) z) ∙ h.1)
     where
-      cases : (z : ℕ) (v : Value) → BoundValue typed.interfaces vars q.env r.vars z v → (w : Kind) × KindAt p r.body z w × ValueFits typed.interfaces v w
+      cases : (z : ℕ) (v : Value) → BoundValue interfaces vars q.env r.vars z v → (w : Kind) × KindAt p r.body z w × ValueFits interfaces v w
       cases z v (was out at) = let a = part.kinds z v at in (a.0, to_body z a.0 a.1, a.2)
       cases z v (of_kind w at fits) = (w, to_body z w (of_vars z w at), fits)
 
@@ -158,7 +161,7 @@ module _ (p : Program) (y : Typing) (c : Config) (t k : ℕ) (s : Thread) (d : C
       let f = kept p r.body all_values z (Mailbox b) at in
       of_kind_named h.0 h.1 h.2 f.0
     where
-      of_kind_named : (w : Kind) → KindAt p r.body z w → ValueFits typed.interfaces (Mailbox b) w → is_free p z r.body ≡ true → is_some (y.envs r.body z) ≡ true
+      of_kind_named : (w : Kind) → KindAt p r.body z w → ValueFits interfaces (Mailbox b) w → is_free p z r.body ≡ true → is_some (y.envs r.body z) ≡ true
       of_kind_named (Plain x) kind fits f = absurd fits
       of_kind_named (MailboxOf i) kind fits f = free_named p y wf typed.typing z i r.body body_core.0 body_core.1 kind f
 
@@ -178,7 +181,7 @@ module _ (p : Program) (y : Typing) (c : Config) (t k : ℕ) (s : Thread) (d : C
   clause_apart =
       (found_clause (λ w. IsDistinct nat_eq (clause_binders w)) m.tag q.receives r (guard_apart p wf node facts.node q.var q.pattern q.free q.receives facts.there core_same) q.chosen).0
 
-  known : Receipt p y typed.interfaces node q.env q.var q.pattern q.free q.receives r m
+  known : Receipt p y interfaces node q.env q.var q.pattern q.free q.receives r m
   known = record {
     guard = guard;
     clause = clause;
@@ -190,7 +193,7 @@ module _ (p : Program) (y : Typing) (c : Config) (t k : ℕ) (s : Thread) (d : C
     vars_distinct = distinct_front r.vars r.from clause_apart;
     from_apart = distinct_back r.vars r.from clause_apart;
     fresh = fresh;
-    have_types = have_types typed.interfaces (payload_type clause.decl) 0 m.values clause.decl.payloads values_fit (payloads_typed p clause.decl (tag_payloads p wf gi r.tag clause.decl clause.declared));
+    have_types = have_types interfaces (payload_type clause.decl) 0 m.values clause.decl.payloads values_fit (payloads_typed p clause.decl (tag_payloads p wf gi r.tag clause.decl clause.declared));
     named = named;
     unused = λ z off. unused_drops p y wf typed.typing z r.body body_core.0 body_core.1 off;
   }
@@ -199,11 +202,11 @@ module _ (p : Program) (y : Typing) (c : Config) (t k : ℕ) (s : Thread) (d : C
   body = y.envs r.body
 
   abbrev Cases : ℕ → ℕ → Type 0
-  Cases b z = BodyCases p y typed.interfaces node q.env q.var q.pattern q.free q.receives r m known b z
+  Cases b z = BodyCases p y interfaces node q.env q.var q.pattern q.free q.receives r m known b z
 
   -- where a variable that is kept comes from
   comes_from : (b z : ℕ) → value_at kept_values z ≡ Some (Mailbox b) → Cases b z
-  comes_from b z at = body_cases p y typed.interfaces node q.env q.var q.pattern q.free q.receives r m known b z at
+  comes_from b z at = body_cases p y interfaces node q.env q.var q.pattern q.free q.receives r m known b z at
 
   -- the message's own mailbox isn't in its payload
   own_apart : list_any (is_mailbox m.mailbox) m.values ≡ false
@@ -239,7 +242,7 @@ module _ (p : Program) (y : Typing) (c : Config) (t k : ℕ) (s : Thread) (d : C
                   free_unfolds p z node guard_term wf q.at.term
                   ∙ or_right (nat_eq z q.var) (list_any (is_free p z) (option_list q.free) || list_any (clause_uses (is_free p z) z) q.receives) (or_right (list_any (is_free p z) (option_list q.free)) (list_any (clause_uses (is_free p z) z) q.receives) any) in
                   let h = part.values z here refl in
-                  (h.0, still p y typed.interfaces node q.env q.var q.pattern q.free q.receives r m known z h.0 h.1)
+                  (h.0, still p y interfaces node q.env q.var q.pattern q.free q.receives r m known z h.0 h.1)
             ]) refl
       ]) refl
 
@@ -261,7 +264,7 @@ module _ (p : Program) (y : Typing) (c : Config) (t k : ℕ) (s : Thread) (d : C
   no_env : (b z w : ℕ) (a : ℕ) → list_any (is_mailbox b) m.values ≡ true → is_some (payload_held b (payload_type clause.decl) 0 m.values) ≡ true → value_at kept_values z ≡ Some (Mailbox a) → value_at q.env z ≡ Some (Mailbox a) → ⊥
   unfolding known clause
   no_env b z w a found some at before =
-      let has = has_payload p y typed.interfaces node q.env q.var q.pattern q.free q.receives r m known b 0 m.values some in
+      let has = has_payload p y interfaces node q.env q.var q.pattern q.free q.receives r m known b 0 m.values some in
       clash (clause.own_names has z (named z a at)) (fresh z (Mailbox a) before)
 
   payload_some_of : (b : ℕ) → list_any (is_mailbox b) m.values ≡ true → is_some (payload_held b (payload_type clause.decl) 0 m.values) ≡ true
@@ -287,10 +290,10 @@ module _ (p : Program) (y : Typing) (c : Config) (t k : ℕ) (s : Thread) (d : C
       go (is_env at apart) (is_payload found off among) = absurd (no_env b z z b found (payload_some_of b found) az at)
       go (is_env at apart) (is_env at' apart') = part.different z w b at at'
 
-  new_part : PartFits p typed.interfaces r.body [] kept_values
+  new_part : PartFits p interfaces r.body [] kept_values
   new_part = record {
     there = body_core;
-    keys = kept_ascends p y typed.interfaces node q.env q.var q.pattern q.free q.receives r m known;
+    keys = kept_ascends p y interfaces node q.env q.var q.pattern q.free q.receives r m known;
     values = λ z f out.
         let h = has_value z f in
         (h.0, value_at-keep p r.body all_values z ∙ cond-true (is_free p z r.body) (value_at all_values z) None f ∙ h.1);
@@ -320,7 +323,7 @@ module _ (p : Program) (y : Typing) (c : Config) (t k : ℕ) (s : Thread) (d : C
 
       from_case : (z : ℕ) → body z ≡ Some a → Cases b z → frames_refer b s.frames ≡ false
       from_case z at_body (is_from e o) =
-          let own_held = own_old p y typed.interfaces node q.env q.var q.pattern q.free q.receives r m known (held_cases (y.envs node) m.mailbox 0 q.env part.keys) in
+          let own_held = own_old p y interfaces node q.env q.var q.pattern q.free q.receives r m known (held_cases (y.envs node) m.mailbox 0 q.env part.keys) in
           let keeps = old_keeps m.mailbox guard.guarded own_held (usage_back guard.guarded.usage Returnable guard.fits.usage refl) in
           subst (λ w. frames_refer w s.frames ≡ false) (sym o) keeps
       from_case z at_body (is_payload found off among) = offered_usage (payload_held b (payload_type clause.decl) 0 m.values) refl
@@ -339,7 +342,7 @@ module _ (p : Program) (y : Typing) (c : Config) (t k : ℕ) (s : Thread) (d : C
           passes_env_usage z (y.envs node z) refl at (subst (λ x. PassesTo (y.envs node z) x) at_body (passes_z at))
         where
           passes_z : value_at q.env z ≡ Some (Mailbox b) → PassesTo (y.envs node z) (body z)
-          passes_z at = passes_env p y typed.interfaces node q.env q.var q.pattern q.free q.receives r m known b z at
+          passes_z at = passes_env p y interfaces node q.env q.var q.pattern q.free q.receives r m known b z at
               (ne_eqb b m.mailbox (λ o. clash (eq-eqb q.var z (part.different q.var z m.mailbox guards (at ∙ ap (λ v. Some (Mailbox v)) o))) apart))
 
       go : HeldCases body b kept_values → frames_refer b s.frames ≡ false
@@ -354,7 +357,7 @@ module _ (p : Program) (y : Typing) (c : Config) (t k : ℕ) (s : Thread) (d : C
   abbrev thread' : Thread
   thread' = thread_of (at_node p r.body (received r m q.env)) s.frames
 
-  thread_fits' : ThreadFits p y typed.interfaces thread'
+  thread_fits' : ThreadFits p y interfaces thread'
   thread_fits' = record {
     control = (new_part, subst (λ w. TypeFits w (wanted p y s.frames)) (sym clause.result) control_fits.1);
     frames = old_fits.frames;
@@ -384,14 +387,9 @@ module _ (p : Program) (y : Typing) (c : Config) (t k : ℕ) (s : Thread) (d : C
       (λ l. typed.numbers.threads_live a (lookup_any (thread_refers a) c.threads t s there (or_right (control_refers a s.control) (list_any (λ f. env_refers a f.env) s.frames) l)))
       (or_cases (env_refers a kept_values) (list_any (λ f. env_refers a f.env) s.frames) h)
 
-  numbers' : NumbersFit after
-  numbers' = record {
-    threads = subst (IsDistinct nat_eq) (sym (keys_of-set c.threads t thread')) typed.numbers.threads;
-    messages = distinct_filter (λ w. not (nat_eq w.number m.number)) c.messages typed.numbers.messages;
-    live = typed.numbers.live;
-    threads_below = set_all (λ e. e.0 < c.next_thread) c.threads t thread' (λ e h. h) typed.numbers.threads_below;
-    messages_below = all_filter (λ w. w.number < c.next_message) (λ w. not (nat_eq w.number m.number)) c.messages typed.numbers.messages_below;
-    live_below = typed.numbers.live_below;
+  numbers' : IsOrdered after → NumbersFit after
+  numbers' ordered = record {
+    ordered = ordered;
     threads_live = λ a h. ⊎_elim (λ l. thread_live a l) (λ l. typed.numbers.threads_live a l) (set_any (thread_refers a) c.threads t thread' h);
     messages_live = λ a h.
         typed.numbers.messages_live a
@@ -401,21 +399,21 @@ module _ (p : Program) (y : Typing) (c : Config) (t k : ℕ) (s : Thread) (d : C
         (or_cases (list_any (message_refers a) (others m.number c.messages)) (has_pending a (others m.number c.messages)) h));
   }
 
-  received_typed : IsTyped p y after
+  received_typed : IsOrdered after → IsTyped p y interfaces after
   unfolding known clause
-  received_typed = record {
+  received_typed ordered = record {
     typing = typed.typing;
-    interfaces = typed.interfaces;
-    numbers = numbers';
-    threads = set_all (λ e. ThreadFits p y typed.interfaces e.1) c.threads t thread' (λ e h. thread_fits') typed.threads;
-    messages = all_filter (MessageFits p typed.interfaces) (λ w. not (nat_eq w.number m.number)) c.messages typed.messages;
+    numbers = numbers' ordered;
+    threads = set_all (λ e. ThreadFits p y interfaces e.1) c.threads t thread' (λ e h. thread_fits') typed.threads;
+    messages = all_filter (MessageFits p interfaces) (λ w. not (nat_eq w.number m.number)) c.messages typed.messages;
     balanced = λ a live.
-        receive_balanced p y typed.interfaces c t s node q.env q.var q.pattern q.free q.receives r m known declared there q.at.control_is (take_message k c.messages m q.found typed.numbers.messages) a (typed.balanced a live);
+        receive_balanced p y interfaces c t s node q.env q.var q.pattern q.free q.receives r m known declared there q.at.control_is (take_message k c.messages m q.found (ascends_distinct 0 (map (λ x. x.number) c.messages) typed.numbers.ordered.messages)) a (typed.balanced a live);
   }
 
 -- the law for receive
-pub receive_keeps : (p : Program) (y : Typing) (c d : Config) (t k : ℕ) → WellFormed p → IsTyped p y c → step p c (record { thread = t; act = ActReceive k }) ≡ Some d → IsTyped p y d
-receive_keeps p y c d t k wf typed h =
+pub receive_keeps : (p : Program) (y : Typing) (interfaces : ℕ → ℕ) (c d : Config) (t k : ℕ) → WellFormed p → IsTyped p y interfaces c → step p c (record { thread = t; act = ActReceive k }) ≡ Some d → IsTyped p y interfaces d
+receive_keeps p y interfaces c d t k wf typed h =
     let o = step_of p c (record { thread = t; act = ActReceive k }) d h in
     let q = receive_step p c t k o.thread d (redex p o.thread.control) refl o.gives in
-    subst (IsTyped p y) (sym q.result) (received_typed p y c t k o.thread d wf typed o.there q)
+    let ordered = subst IsOrdered q.result (step_keeps_order p c d (record { thread = t; act = (ActReceive k) }) typed.numbers.ordered h) in
+    subst (IsTyped p y interfaces) (sym q.result) (received_typed p y interfaces c t k o.thread d wf typed o.there q ordered)

@@ -2,7 +2,7 @@
 use Rattle.std.proofs.Common.{◌≡◌, ℕ, true, false, nat_eq, if◌then◌else◌, List, [], ◌∷◌, ◌++◌, Option, Some, None, refl, sym, ap, ◌∙◌, subst, map, ⊎_elim}
 use Rattle.std.proofs.lemmas.Bool.{or_cases, or_left, or_right, or_parts, eq-eqb, cases_Bool, cond-true, cond-false, false_from_ne_true}
 use Rattle.pat_words.specs.Words.{Word}
-use Rattle.pat_model.specs.Values.{Value, Mailbox, Kind, Env, AscendsFrom, value_at, ValueFits}
+use Rattle.pat_model.specs.Values.{Value, Mailbox, Kind, Env, value_at, ValueFits}
 use Rattle.pat_model.specs.Programs.{Program, Core, Let, core_at, is_free, keep, is_among, option_list, KindAt}
 use Rattle.pat_model.specs.WellFormed.{WellFormed, HasKind}
 use Rattle.pat_model.specs.Configs.{Returned, Frame, Thread, Config, thread_at, with_thread, is_mailbox, env_refers, thread_refers, pending}
@@ -12,18 +12,23 @@ use Rattle.pat_typing.specs.Typings.{Typing, IsTyping, NamePasses, name_type}
 use Rattle.pat_typing.specs.Holdings.{Holding, held, as_holding, type_at, control_held, frame_held, message_held, wanted, holdings, Balanced}
 use Rattle.pat_typing.specs.Typed.{IsTyped, ThreadFits, PartFits, IsFrameOfLet, KeepsFrom, frames_refer}
 use Rattle.pat_preservation_laws.proofs.Balance.{refine_balance, passes_refine, drop_second, drop_first}
-use Rattle.pat_preservation_laws.proofs.Threads.{lookup_all, split_thread}
+use Rattle.pat_model_laws.proofs.Threads.{lookup_all}
+use Rattle.pat_preservation_laws.proofs.ThreadHoldings.{split_thread}
 use Rattle.pat_preservation_laws.proofs.Replace.{replace_keeps}
 use Rattle.pat_preservation_laws.proofs.Nodes.{NodeFacts, node_facts, part_core}
 use Rattle.pat_preservation_laws.proofs.Refers.{is_mailbox_same, name_is, held_none, value_refers}
-use Rattle.pat_preservation_laws.proofs.Envs.{value_at-keep, kept, held_cases, HeldCases, by_variable, by_none, ascends_filter}
+use Rattle.pat_preservation_laws.proofs.Envs.{value_at-keep, kept, held_cases, HeldCases, by_variable, by_none}
+use Rattle.pat_model_laws.proofs.Ascending.{ascends_filter}
 use Rattle.pat_preservation_laws.proofs.Named.{part_kind}
 use Rattle.pat_preservation_laws.proofs.Unused.{unused_drops}
 use Rattle.pat_preservation_laws.proofs.Narrow.{refers_value}
 use Rattle.pat_preservation_laws.proofs.Bound.{body_bound, body_among}
-use Rattle.pat_preservation_laws.proofs.Frames.{two_to_one, bind_name_at, ascends_name, only_name, name_here, name_kind}
+use Rattle.pat_preservation_laws.proofs.Frames.{two_to_one, bind_name_at, only_name, name_here, name_kind}
+use Rattle.pat_model_laws.proofs.Ascending.{ascends_name}
 use Rattle.pat_model_laws.proofs.Lists.{clash}
 use Rattle.pat_preservation_laws.proofs.Passing.{passes_drop, name_passes}
+use Rattle.pat_model.specs.Orders.{AscendsFrom}
+use Rattle.std.specs.Map.{keys_of}
 
 -- what a thread returns, as it is wanted
 module _ (p : Program) (y : Typing) (interfaces : ℕ → ℕ) (v : Value) (f : Frame) (fs : List Frame) (wf : WellFormed p) (typing : IsTyping p y) (fits : ThreadFits p y interfaces (thread_of (Returned v) (f ∷ fs))) where
@@ -143,8 +148,8 @@ module _ (p : Program) (y : Typing) (interfaces : ℕ → ℕ) (v : Value) (f : 
   new_different z u a (of_env f1 out1 at1) (of_name f2 among2 is2) = absurd (not_in_env a z is2 at1)
   new_different z u a (of_env f1 out1 at1) (of_env f2 out2 at2) = part.different z u a at1 at2
 
-  keys' : AscendsFrom 0 env'
-  keys' = ascends_filter (λ e. is_free p e.0 f.body) 0 all (ascends_name f.env f.var v part.keys)
+  keys' : AscendsFrom 0 (keys_of env')
+  keys' = ascends_filter (λ (e : ℕ × Value). e.0) (λ e. is_free p e.0 f.body) 0 all (ascends_name f.env f.var v part.keys)
 
   new_part : PartFits p interfaces f.body [] env'
   new_part = record {
@@ -257,11 +262,11 @@ module _ (p : Program) (y : Typing) (interfaces : ℕ → ℕ) (v : Value) (f : 
       subst (λ l. Balanced (l ++ ms) (pending c a)) (sym (split.changed_is after)) done
 
 -- the law for a value that goes to a frame
-pub return_keeps : (p : Program) (y : Typing) (c : Config) (t : ℕ) (v : Value) (f : Frame) (fs : List Frame) → WellFormed p → (typed : IsTyped p y c) → thread_at c t ≡ Some (thread_of (Returned v) (f ∷ fs)) → IsTyped p y (with_thread c t (resume p f fs v))
-return_keeps p y c t v f fs wf typed there =
+pub return_keeps : (p : Program) (y : Typing) (interfaces : ℕ → ℕ) (c : Config) (t : ℕ) (v : Value) (f : Frame) (fs : List Frame) → WellFormed p → (typed : IsTyped p y interfaces c) → thread_at c t ≡ Some (thread_of (Returned v) (f ∷ fs)) → IsTyped p y interfaces (with_thread c t (resume p f fs v))
+return_keeps p y interfaces c t v f fs wf typed there =
     let s = thread_of (Returned v) (f ∷ fs) in
-    let fits = lookup_all (λ s. ThreadFits p y typed.interfaces s) c.threads t s typed.threads there in
-    replace_keeps p y c t s (resume p f fs v) typed there
-    (resumed_fits p y typed.interfaces v f fs wf typed.typing fits)
-    (resumed_refers p y typed.interfaces v f fs wf typed.typing fits)
-    (resumed_balanced p y typed.interfaces v f fs wf typed.typing fits c t there)
+    let fits = lookup_all (λ s. ThreadFits p y interfaces s) c.threads t s typed.threads there in
+    replace_keeps p y interfaces c t s (resume p f fs v) typed there
+    (resumed_fits p y interfaces v f fs wf typed.typing fits)
+    (resumed_refers p y interfaces v f fs wf typed.typing fits)
+    (resumed_balanced p y interfaces v f fs wf typed.typing fits c t there)

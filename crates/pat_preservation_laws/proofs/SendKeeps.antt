@@ -1,5 +1,5 @@
 -- A send keeps a configuration typed.
-use Rattle.std.proofs.Common.{◌≡◌, ℕ, ◌+◌, ◌<◌, true, false, nat_eq, List, [], ◌∷◌, ◌++◌, map, Some, None, refl, sym, ap, ◌∙◌, subst, arith, append_assoc, ⊎_elim}
+use Rattle.std.proofs.Common.{◌≡◌, ℕ, ◌+◌, true, false, nat_eq, List, [], ◌∷◌, ◌++◌, map, Some, None, refl, sym, ap, ◌∙◌, subst, arith, append_assoc, ⊎_elim}
 use Rattle.std.specs.Prelude.{slice_get}
 use Rattle.std.specs.List.{AllByRecursion, IsDistinct, list_any}
 use Rattle.std.proofs.lemmas.Bool.{eq-eqb, eqb-true, eqb-false, ne_eqb, or_left, or_right, or_cases, cases_Bool, cond-true, cond-false}
@@ -16,17 +16,20 @@ use Rattle.pat_typing.specs.Typings.{Typing, payload_type, args_need, mailbox_ar
 use Rattle.pat_typing.specs.Holdings.{Holding, held, control_held, frame_held, payload_held, declared_types, message_held, holdings, Balanced}
 use Rattle.pat_typing.specs.Typed.{IsTyped, ThreadFits, ControlFits, PartFits, MessageFits, NumbersFit, mailboxes_of}
 use Rattle.pat_preservation_laws.proofs.Balance.{Refines, quiet, refine_balance, passes_refine, balance_front, balance_back, choice_one, choice_of_one, nothing_more}
-use Rattle.pat_preservation_laws.proofs.Threads.{lookup_all, lookup_any, set_all, set_any, keys_of-set, split_thread}
+use Rattle.pat_model_laws.proofs.Threads.{lookup_all, lookup_any, set_all, set_any}
+use Rattle.pat_preservation_laws.proofs.ThreadHoldings.{split_thread}
 use Rattle.pat_model_laws.proofs.Inversion.{step_of, SendStep, send_step}
 use Rattle.pat_preservation_laws.proofs.Nodes.{NodeFacts, node_facts}
 use Rattle.pat_preservation_laws.proofs.Refers.{value_refers, payload_none}
-use Rattle.pat_preservation_laws.proofs.Messages.{pending_own, pending_other, numbers_below, below_more}
+use Rattle.pat_preservation_laws.proofs.Messages.{pending_own, pending_other}
 use Rattle.pat_preservation_laws.proofs.Envs.{held_cases, HeldCases, by_variable, by_none}
 use Rattle.pat_preservation_laws.proofs.Named.{payloads_typed, tag_payloads, target_same, env_fits}
 use Rattle.pat_preservation_laws.proofs.Payloads.{names_head}
 use Rattle.pat_preservation_laws.proofs.Replace.{unit_fits, unit_refers}
 use Rattle.pat_preservation_laws.proofs.Args.{all_fit, args_refer, names_apart, names_distinct, args_pass}
-use Rattle.pat_model_laws.proofs.Lists.{distinct_parts, distinct_join, distinct_snoc, any-append, all_snoc, nil_right, map_snoc}
+use Rattle.pat_model_laws.proofs.Lists.{distinct_parts, distinct_join, any-append, all_snoc, nil_right, map_snoc}
+use Rattle.pat_model.specs.Orders.{IsOrdered}
+use Rattle.pat_model_laws.proofs.Ordered.{step_keeps_order}
 
 -- ---- balance
 
@@ -58,7 +61,7 @@ send_place before fs after mh k r b =
 
 -- ---- the step
 
-module _ (p : Program) (y : Typing) (c : Config) (t : ℕ) (s : Thread) (d : Config) (wf : WellFormed p) (typed : IsTyped p y c) (there : thread_at c t ≡ Some s) (q : SendStep p c t s d) where
+module _ (p : Program) (y : Typing) (interfaces : ℕ → ℕ) (c : Config) (t : ℕ) (s : Thread) (d : Config) (wf : WellFormed p) (typed : IsTyped p y interfaces c) (there : thread_at c t ≡ Some s) (q : SendStep p c t s d) where
   abbrev n : ℕ
   n = q.at.node
 
@@ -80,13 +83,13 @@ module _ (p : Program) (y : Typing) (c : Config) (t : ℕ) (s : Thread) (d : Con
   facts : NodeFacts p y n core
   facts = node_facts p y n core wf typed.typing q.at.term
 
-  old_fits : ThreadFits p y typed.interfaces s
-  old_fits = lookup_all (λ s. ThreadFits p y typed.interfaces s) c.threads t s typed.threads there
+  old_fits : ThreadFits p y interfaces s
+  old_fits = lookup_all (λ s. ThreadFits p y interfaces s) c.threads t s typed.threads there
 
-  control_fits : ControlFits p y typed.interfaces (Running n q.env) s.frames
-  control_fits = subst (λ k. ControlFits p y typed.interfaces k s.frames) q.at.control_is old_fits.control
+  control_fits : ControlFits p y interfaces (Running n q.env) s.frames
+  control_fits = subst (λ k. ControlFits p y interfaces k s.frames) q.at.control_is old_fits.control
 
-  part : PartFits p typed.interfaces n [] q.env
+  part : PartFits p interfaces n [] q.env
   part = control_fits.0
 
   abbrev i : ℕ
@@ -101,8 +104,8 @@ module _ (p : Program) (y : Typing) (c : Config) (t : ℕ) (s : Thread) (d : Con
   abbrev target : MailboxType
   target = mailbox_type facts.term.0 Sending (Tag q.tag) Second
 
-  fit : (x : ℕ) (v : Value) (k : Kind) → value_at q.env x ≡ Some v → slice_get facts.fits.function.vars x ≡ Some k → ValueFits typed.interfaces v k
-  fit = env_fits p y typed.interfaces n core q.env facts part
+  fit : (x : ℕ) (v : Value) (k : Kind) → value_at q.env x ≡ Some v → slice_get facts.fits.function.vars x ≡ Some k → ValueFits interfaces v k
+  fit = env_fits p y interfaces n core q.env facts part
 
   target_passes : PassesTo (y.envs n q.var) (Some target)
   target_passes =
@@ -119,10 +122,10 @@ module _ (p : Program) (y : Typing) (c : Config) (t : ℕ) (s : Thread) (d : Con
   have_kinds : HaveKinds facts.fits.function.vars q.args (map kind_of facts.term.1.payloads)
   have_kinds = subst (λ (w : TagDecl). HaveKinds facts.fits.function.vars q.args (map kind_of w.payloads)) same_decl facts.kinds.1.4
 
-  interface_is : typed.interfaces a ≡ i
+  interface_is : interfaces a ≡ i
   interface_is = fit q.var (Mailbox a) (MailboxOf facts.kinds.1.0) q.target facts.kinds.1.2 ∙ same_interface
 
-  declared : tag_at p (typed.interfaces a) q.tag ≡ Some decl
+  declared : tag_at p (interfaces a) q.tag ≡ Some decl
   declared = ap (λ j. tag_at p j q.tag) interface_is ∙ facts.term.2
 
   payloads : AllByRecursion (IsPayload p) facts.term.1.payloads
@@ -137,14 +140,14 @@ module _ (p : Program) (y : Typing) (c : Config) (t : ℕ) (s : Thread) (d : Con
   message_distinct : IsDistinct nat_eq (a ∷ mailboxes_of q.values)
   message_distinct =
       distinct_join a (mailboxes_of q.values)
-      (names_apart typed.interfaces facts.fits.function.vars q.env fit part.different a q.var q.target types 0 q.args facts.term.1.payloads q.values have_kinds (payloads_typed p facts.term.1 payloads) q.payload apart_args)
-      (names_distinct typed.interfaces facts.fits.function.vars q.env fit part.different types 0 q.args facts.term.1.payloads q.values have_kinds (payloads_typed p facts.term.1 payloads) q.payload distinct_args)
+      (names_apart interfaces facts.fits.function.vars q.env fit part.different a q.var q.target types 0 q.args facts.term.1.payloads q.values have_kinds (payloads_typed p facts.term.1 payloads) q.payload apart_args)
+      (names_distinct interfaces facts.fits.function.vars q.env fit part.different types 0 q.args facts.term.1.payloads q.values have_kinds (payloads_typed p facts.term.1 payloads) q.payload distinct_args)
 
-  message_fits : MessageFits p typed.interfaces message
+  message_fits : MessageFits p interfaces message
   message_fits = record {
     decl = decl;
     declared = declared;
-    values = all_fit typed.interfaces facts.fits.function.vars q.env fit q.args (map kind_of facts.term.1.payloads) q.values have_kinds q.payload;
+    values = all_fit interfaces facts.fits.function.vars q.env fit q.args (map kind_of facts.term.1.payloads) q.values have_kinds q.payload;
     different = message_distinct;
   }
 
@@ -173,15 +176,9 @@ module _ (p : Program) (y : Typing) (c : Config) (t : ℕ) (s : Thread) (d : Con
       env_live b q.var (q.target ∙ ap (λ z. Some (Mailbox z)) (eqb-true a b on)))
       (any-append (λ m. nat_eq m.mailbox b) c.messages (message ∷ []) h)
 
-  numbers' : NumbersFit after
-  numbers' = record {
-    threads = subst (IsDistinct nat_eq) (sym (keys_of-set c.threads t unit)) typed.numbers.threads;
-    messages = subst (IsDistinct nat_eq) (sym (map_snoc (λ m. m.number) c.messages message))
-        (distinct_snoc c.next_message (map (λ m. m.number) c.messages) (numbers_below c.next_message c.messages typed.numbers.messages_below) typed.numbers.messages);
-    live = typed.numbers.live;
-    threads_below = set_all (λ e. e.0 < c.next_thread) c.threads t unit (λ e h. h) typed.numbers.threads_below;
-    messages_below = all_snoc (λ m. m.number < c.next_message + 1) c.messages message (below_more c.next_message c.messages typed.numbers.messages_below) (omega arith);
-    live_below = typed.numbers.live_below;
+  numbers' : IsOrdered after → NumbersFit after
+  numbers' ordered = record {
+    ordered = ordered;
     threads_live = λ b h.
         typed.numbers.threads_live b
         (⊎_elim (λ here. lookup_any (thread_refers b) c.threads t s there (unit_refers s b here)) (λ x. x) (set_any (thread_refers b) c.threads t unit h));
@@ -194,7 +191,7 @@ module _ (p : Program) (y : Typing) (c : Config) (t : ℕ) (s : Thread) (d : Con
   abbrev sent : ℕ → Holding
   sent b = payload_held b types 0 q.values
 
-  sent_is : (b : ℕ) → message_held p typed.interfaces b message ≡ sent b
+  sent_is : (b : ℕ) → message_held p interfaces b message ≡ sent b
   sent_is b = ap (λ o. payload_held b (declared_types o) 0 q.values) declared
 
   own_unsent : sent a ≡ None
@@ -206,13 +203,13 @@ module _ (p : Program) (y : Typing) (c : Config) (t : ℕ) (s : Thread) (d : Con
 
   other_passes : (b : ℕ) → nat_eq b a ≡ false → PassesTo (held (y.envs n) b q.env) (sent b)
   other_passes b off =
-      args_pass typed.interfaces facts.fits.function.vars q.env fit part.keys part.different (y.envs n) types q.args facts.term.1.payloads q.values have_kinds (payloads_typed p facts.term.1 payloads) q.payload b
+      args_pass interfaces facts.fits.function.vars q.env fit part.keys part.different (y.envs n) types q.args facts.term.1.payloads q.values have_kinds (payloads_typed p facts.term.1 payloads) q.payload b
       (λ x at.
       let apart : nat_eq q.var x ≡ false = ne_eqb q.var x (λ e. let w : Some (Mailbox a) ≡ Some (Mailbox b) = sym q.target ∙ ap (value_at q.env) e ∙ at in eqb-false b a off cc) in
       subst (λ o. PassesTo (y.envs n x) o) (cond-false (nat_eq q.var x) (Some target) (args_need types 0 q.args x) apart) (facts.term.4 x))
 
   abbrev rest : (b : ℕ) → List Holding → List Holding → List Holding
-  rest b before behind = before ++ ((map (frame_held y b) s.frames ++ behind) ++ map (message_held p typed.interfaces b) c.messages)
+  rest b before behind = before ++ ((map (frame_held y b) s.frames ++ behind) ++ map (message_held p interfaces b) c.messages)
 
   -- the control's holding at the front gives way to none, and to the message's
   turn : (b : ℕ) (ks : List Holding) → Balanced (held (y.envs n) b q.env ∷ ks) (pending c b) → Balanced (None ∷ sent b ∷ ks) (pending after b)
@@ -236,37 +233,37 @@ module _ (p : Program) (y : Typing) (c : Config) (t : ℕ) (s : Thread) (d : Con
       subst (λ w. Balanced (None ∷ sent b ∷ ks) w) (sym now) more)
       (cases_Bool (nat_eq b a))
 
-  balanced' : (b : ℕ) → Balanced (holdings p y typed.interfaces c b) (pending c b) → Balanced (holdings p y typed.interfaces after b) (pending after b)
+  balanced' : (b : ℕ) → Balanced (holdings p y interfaces c b) (pending c b) → Balanced (holdings p y interfaces after b) (pending after b)
   balanced' b bal =
-      let mh = map (message_held p typed.interfaces b) c.messages in
+      let mh = map (message_held p interfaces b) c.messages in
       let fs = map (frame_held y b) s.frames in
       let split = split_thread p y b t s c.threads there in
       let h = held (y.envs n) b q.env in
-      let flat : holdings p y typed.interfaces c b ≡ split.before ++ (h ∷ ((fs ++ split.after) ++ mh)) =
+      let flat : holdings p y interfaces c b ≡ split.before ++ (h ∷ ((fs ++ split.after) ++ mh)) =
       ap (λ l. l ++ mh) split.now_is
       ∙ ap (λ k. (split.before ++ ((control_held p y b k s.frames ∷ fs) ++ split.after)) ++ mh) q.at.control_is
       ∙ append_assoc split.before ((h ∷ fs) ++ split.after) mh in
       let front = balance_front split.before h ((fs ++ split.after) ++ mh) (pending c b) (subst (λ l. Balanced l (pending c b)) flat bal) in
       let turned = turn b (split.before ++ ((fs ++ split.after) ++ mh)) front in
       let placed = send_place split.before fs split.after mh (sent b) (pending after b) turned in
-      let now : holdings p y typed.interfaces after b ≡ (split.before ++ ((None ∷ fs) ++ split.after)) ++ (mh ++ sent b ∷ []) =
-      ap (λ l. l ++ map (message_held p typed.interfaces b) (c.messages ++ message ∷ [])) (split.changed_is unit)
-      ∙ ap (λ l. (split.before ++ ((None ∷ fs) ++ split.after)) ++ l) (map_snoc (message_held p typed.interfaces b) c.messages message ∙ ap (λ k. mh ++ k ∷ []) (sent_is b)) in
+      let now : holdings p y interfaces after b ≡ (split.before ++ ((None ∷ fs) ++ split.after)) ++ (mh ++ sent b ∷ []) =
+      ap (λ l. l ++ map (message_held p interfaces b) (c.messages ++ message ∷ [])) (split.changed_is unit)
+      ∙ ap (λ l. (split.before ++ ((None ∷ fs) ++ split.after)) ++ l) (map_snoc (message_held p interfaces b) c.messages message ∙ ap (λ k. mh ++ k ∷ []) (sent_is b)) in
       subst (λ l. Balanced l (pending after b)) (sym now) placed
 
-  sent_typed : IsTyped p y after
-  sent_typed = record {
+  sent_typed : IsOrdered after → IsTyped p y interfaces after
+  sent_typed ordered = record {
     typing = typed.typing;
-    interfaces = typed.interfaces;
-    numbers = numbers';
-    threads = set_all (λ e. ThreadFits p y typed.interfaces e.1) c.threads t unit (λ e h. unit_fits p y typed.interfaces s n q.env old_fits q.at.control_is facts.kinds.0) typed.threads;
-    messages = all_snoc (MessageFits p typed.interfaces) c.messages message typed.messages message_fits;
+    numbers = numbers' ordered;
+    threads = set_all (λ e. ThreadFits p y interfaces e.1) c.threads t unit (λ e h. unit_fits p y interfaces s n q.env old_fits q.at.control_is facts.kinds.0) typed.threads;
+    messages = all_snoc (MessageFits p interfaces) c.messages message typed.messages message_fits;
     balanced = λ b live. balanced' b (typed.balanced b live);
   }
 
 -- the law for send
-pub send_keeps : (p : Program) (y : Typing) (c d : Config) (t : ℕ) → WellFormed p → IsTyped p y c → step p c (record { thread = t; act = ActSend }) ≡ Some d → IsTyped p y d
-send_keeps p y c d t wf typed h =
+pub send_keeps : (p : Program) (y : Typing) (interfaces : ℕ → ℕ) (c d : Config) (t : ℕ) → WellFormed p → IsTyped p y interfaces c → step p c (record { thread = t; act = ActSend }) ≡ Some d → IsTyped p y interfaces d
+send_keeps p y interfaces c d t wf typed h =
     let o = step_of p c (record { thread = t; act = ActSend }) d h in
     let q = send_step p c t o.thread d (redex p o.thread.control) refl o.gives in
-    subst (IsTyped p y) (sym q.result) (sent_typed p y c t o.thread d wf typed o.there q)
+    let ordered = subst IsOrdered q.result (step_keeps_order p c d (record { thread = t; act = ActSend }) typed.numbers.ordered h) in
+    subst (IsTyped p y interfaces) (sym q.result) (sent_typed p y interfaces c t o.thread d wf typed o.there q ordered)

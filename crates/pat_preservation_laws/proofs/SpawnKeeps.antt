@@ -1,7 +1,7 @@
 -- A spawn keeps a configuration typed.
-use Rattle.std.proofs.Common.{◌≡◌, ℕ, ◌+◌, ◌<◌, true, false, nat_eq, if◌then◌else◌, List, [], ◌∷◌, ◌++◌, Some, None, refl, sym, ap, ◌∙◌, subst, map, append_assoc, ⊎_elim, arith}
-use Rattle.std.specs.List.{AllByRecursion, IsDistinct, list_any}
-use Rattle.std.specs.Map.{set_value, keys_of}
+use Rattle.std.proofs.Common.{◌≡◌, ℕ, true, false, nat_eq, if◌then◌else◌, List, [], ◌∷◌, ◌++◌, Some, None, refl, sym, ap, ◌∙◌, subst, map, append_assoc, ⊎_elim}
+use Rattle.std.specs.List.{list_any}
+use Rattle.std.specs.Map.{set_value}
 use Rattle.std.proofs.lemmas.Bool.{or_cases, or_left, eq-eqb}
 use Rattle.pat_words.specs.Words.{Word}
 use Rattle.pat_model.specs.Values.{BaseUnit, Env}
@@ -15,14 +15,17 @@ use Rattle.pat_typing.specs.Typings.{Typing}
 use Rattle.pat_typing.specs.Holdings.{Holding, held, control_held, frame_held, message_held, holdings, Balanced}
 use Rattle.pat_typing.specs.Typed.{IsTyped, ThreadFits, ControlFits, PartFits, NumbersFit}
 use Rattle.pat_preservation_laws.proofs.Balance.{Refines, quiet, active, refine_balance, balance_front, balance_back, passes_refine, nothing_more}
-use Rattle.pat_preservation_laws.proofs.Threads.{lookup_all, lookup_any, set_all, set_any, keys_of-set, split_thread, threads_append, key_append, keys_below, threads_weaken}
+use Rattle.pat_model_laws.proofs.Threads.{lookup_all, lookup_any, set_all, set_any}
+use Rattle.pat_preservation_laws.proofs.ThreadHoldings.{split_thread, threads_append}
 use Rattle.pat_model_laws.proofs.Inversion.{step_of, spawn_step, after_spawn}
 use Rattle.pat_preservation_laws.proofs.Nodes.{node_facts, part_core, NodeFacts}
 use Rattle.pat_preservation_laws.proofs.Replace.{unit_fits, unit_refers}
 use Rattle.pat_preservation_laws.proofs.Unused.{unused_drops}
 use Rattle.pat_preservation_laws.proofs.Narrow.{keep_narrows, narrow_refers, narrow_passes}
-use Rattle.pat_model_laws.proofs.Lists.{distinct_snoc, any-append, all_snoc}
+use Rattle.pat_model_laws.proofs.Lists.{any-append, all_snoc}
 use Rattle.pat_preservation_laws.proofs.Moves.{goes_on}
+use Rattle.pat_model.specs.Orders.{IsOrdered}
+use Rattle.pat_model_laws.proofs.Ordered.{step_keeps_order}
 
 -- the usage doesn't matter to what is held
 usage_free : (h k : Holding) (r s : Word) → Refines (returnable h ∷ []) r (k ∷ []) s → Refines (h ∷ []) r (k ∷ []) s
@@ -32,7 +35,7 @@ usage_free (Some m) k r s (quiet a b f) = quiet a b f
 usage_free (Some m) k r s (active e f a b g) = active e f a b g
 
 -- a spawned thread stands with part of what a thread had, which returns nothing
-module _ (p : Program) (y : Typing) (c : Config) (t : ℕ) (s : Thread) (n m : ℕ) (env : Env) (wf : WellFormed p) (typed : IsTyped p y c) (there : thread_at c t ≡ Some s) (at : s.control ≡ Running n env) (term : core_at p n ≡ Some (Spawn m)) where
+module _ (p : Program) (y : Typing) (interfaces : ℕ → ℕ) (c : Config) (t : ℕ) (s : Thread) (n m : ℕ) (env : Env) (wf : WellFormed p) (typed : IsTyped p y interfaces c) (there : thread_at c t ≡ Some s) (at : s.control ≡ Running n env) (term : core_at p n ≡ Some (Spawn m)) where
   abbrev made : Thread
   made = thread_of (at_node p m env) []
 
@@ -48,19 +51,19 @@ module _ (p : Program) (y : Typing) (c : Config) (t : ℕ) (s : Thread) (n m : �
   facts : NodeFacts p y n (Spawn m)
   facts = node_facts p y n (Spawn m) wf typed.typing term
 
-  old_fits : ThreadFits p y typed.interfaces s
-  old_fits = lookup_all (λ s. ThreadFits p y typed.interfaces s) c.threads t s typed.threads there
+  old_fits : ThreadFits p y interfaces s
+  old_fits = lookup_all (λ s. ThreadFits p y interfaces s) c.threads t s typed.threads there
 
-  control_fits : ControlFits p y typed.interfaces (Running n env) s.frames
-  control_fits = subst (λ k. ControlFits p y typed.interfaces k s.frames) at old_fits.control
+  control_fits : ControlFits p y interfaces (Running n env) s.frames
+  control_fits = subst (λ k. ControlFits p y interfaces k s.frames) at old_fits.control
 
   part : is_among m (parts (Spawn m)) ≡ true
   part = or_left (nat_eq m m) false (eq-eqb m m refl)
 
-  made_part : PartFits p typed.interfaces m [] (keep p m env)
-  made_part = goes_on p typed.interfaces n m (Spawn m) env wf term part (λ z h. free_unfolds p z n (Spawn m) wf term ∙ h) control_fits.0
+  made_part : PartFits p interfaces m [] (keep p m env)
+  made_part = goes_on p interfaces n m (Spawn m) env wf term part (λ z h. free_unfolds p z n (Spawn m) wf term ∙ h) control_fits.0
 
-  made_fits : ThreadFits p y typed.interfaces made
+  made_fits : ThreadFits p y interfaces made
   made_fits = record {
     control = (made_part, subst (λ w. TypeFits w (BaseTerm BaseUnit)) (sym facts.term.0) refl);
     frames = tt;
@@ -68,8 +71,8 @@ module _ (p : Program) (y : Typing) (c : Config) (t : ℕ) (s : Thread) (n m : �
     frames_keep = tt;
   }
 
-  unit_fits' : ThreadFits p y typed.interfaces unit
-  unit_fits' = unit_fits p y typed.interfaces s n env old_fits at facts.kinds.0
+  unit_fits' : ThreadFits p y interfaces unit
+  unit_fits' = unit_fits p y interfaces s n env old_fits at facts.kinds.0
 
   made_refers : (a : ℕ) → thread_refers a made ≡ true → thread_refers a s ≡ true
   made_refers a h =
@@ -87,18 +90,9 @@ module _ (p : Program) (y : Typing) (c : Config) (t : ℕ) (s : Thread) (n m : �
       (λ r. lookup_any (thread_refers a) c.threads t s there (made_refers a (⊎_elim (λ x. x) (λ x. cc) (or_cases (thread_refers a made) false r))))
       (any-append (λ e. thread_refers a e.1) set ((c.next_thread, made) ∷ []) h)
 
-  set_below : AllByRecursion (λ e. e.0 < c.next_thread) set
-  set_below = set_all (λ e. e.0 < c.next_thread) c.threads t unit (λ e h. h) typed.numbers.threads_below
-
-  numbers' : NumbersFit after
-  numbers' = record {
-    threads = subst (IsDistinct nat_eq) (sym (key_append set c.next_thread made))
-        (distinct_snoc c.next_thread (keys_of set) (keys_below c.next_thread set set_below) (subst (IsDistinct nat_eq) (sym (keys_of-set c.threads t unit)) typed.numbers.threads));
-    messages = typed.numbers.messages;
-    live = typed.numbers.live;
-    threads_below = all_snoc (λ e. e.0 < c.next_thread + 1) set (c.next_thread, made) (threads_weaken c.next_thread set set_below) (omega arith);
-    messages_below = typed.numbers.messages_below;
-    live_below = typed.numbers.live_below;
+  numbers' : IsOrdered after → NumbersFit after
+  numbers' ordered = record {
+    ordered = ordered;
     threads_live = λ a h. typed.numbers.threads_live a (threads_refer a h);
     messages_live = typed.numbers.messages_live;
   }
@@ -116,15 +110,15 @@ module _ (p : Program) (y : Typing) (c : Config) (t : ℕ) (s : Thread) (n m : �
         | false ↦ held_returnable b env
       ]
 
-  balanced' : (a : ℕ) → Balanced (holdings p y typed.interfaces c a) (pending c a) → Balanced (holdings p y typed.interfaces after a) (pending c a)
+  balanced' : (a : ℕ) → Balanced (holdings p y interfaces c a) (pending c a) → Balanced (holdings p y interfaces after a) (pending c a)
   balanced' a bal =
-      let ms = map (message_held p typed.interfaces a) c.messages in
+      let ms = map (message_held p interfaces a) c.messages in
       let split = split_thread p y a t s c.threads there in
       let fs = map (frame_held y a) s.frames in
       let h = held (y.envs n) a env in
       let k = held (y.envs m) a (keep p m env) in
       let w = pending c a in
-      let flat : holdings p y typed.interfaces c a ≡ split.before ++ (h ∷ ((fs ++ split.after) ++ ms)) =
+      let flat : holdings p y interfaces c a ≡ split.before ++ (h ∷ ((fs ++ split.after) ++ ms)) =
       ap (λ l. l ++ ms) split.now_is
       ∙ ap (λ q. (split.before ++ ((control_held p y a q s.frames ∷ fs) ++ split.after)) ++ ms) at
       ∙ append_assoc split.before ((h ∷ fs) ++ split.after) ms in
@@ -137,25 +131,25 @@ module _ (p : Program) (y : Typing) (c : Config) (t : ℕ) (s : Thread) (n m : �
       let two = balance_back (k ∷ split.before) None ((fs ++ split.after) ++ ms) w (balance_front (k ∷ []) None (split.before ++ ((fs ++ split.after) ++ ms)) w one) in
       let joined : split.before ++ (None ∷ ((fs ++ split.after) ++ ms)) ≡ others ++ ms = sym (append_assoc split.before ((None ∷ fs) ++ split.after) ms) in
       let three = balance_back others k ms w (subst (λ l. Balanced (k ∷ l) w) joined two) in
-      let now : holdings p y typed.interfaces after a ≡ others ++ (k ∷ ms) =
+      let now : holdings p y interfaces after a ≡ others ++ (k ∷ ms) =
       ap (λ l. l ++ ms) (threads_append p y a set ((c.next_thread, made) ∷ []) ∙ ap (λ l. l ++ (k ∷ [])) (split.changed_is unit))
       ∙ append_assoc others (k ∷ []) ms in
       subst (λ l. Balanced l w) (sym now) three
 
-  spawned_typed : IsTyped p y after
-  spawned_typed = record {
+  spawned_typed : IsOrdered after → IsTyped p y interfaces after
+  spawned_typed ordered = record {
     typing = typed.typing;
-    interfaces = typed.interfaces;
-    numbers = numbers';
-    threads = all_snoc (λ e. ThreadFits p y typed.interfaces e.1) set (c.next_thread, made) (set_all (λ e. ThreadFits p y typed.interfaces e.1) c.threads t unit (λ e h. unit_fits') typed.threads) made_fits;
+    numbers = numbers' ordered;
+    threads = all_snoc (λ e. ThreadFits p y interfaces e.1) set (c.next_thread, made) (set_all (λ e. ThreadFits p y interfaces e.1) c.threads t unit (λ e h. unit_fits') typed.threads) made_fits;
     messages = typed.messages;
     balanced = λ a live. balanced' a (typed.balanced a live);
   }
 
 -- the law for spawn
-pub spawn_keeps : (p : Program) (y : Typing) (c d : Config) (t : ℕ) → WellFormed p → IsTyped p y c → step p c (record { thread = t; act = ActSpawn }) ≡ Some d → IsTyped p y d
-spawn_keeps p y c d t wf typed h =
+pub spawn_keeps : (p : Program) (y : Typing) (interfaces : ℕ → ℕ) (c d : Config) (t : ℕ) → WellFormed p → IsTyped p y interfaces c → step p c (record { thread = t; act = ActSpawn }) ≡ Some d → IsTyped p y interfaces d
+spawn_keeps p y interfaces c d t wf typed h =
     let o = step_of p c (record { thread = t; act = ActSpawn }) d h in
     let s = o.thread in
     let q = spawn_step p c t s d (redex p s.control) refl o.gives in
-    subst (IsTyped p y) (sym q.result) (spawned_typed p y c t s q.at.node q.body q.env wf typed o.there q.at.control_is q.at.term)
+    let ordered = subst IsOrdered q.result (step_keeps_order p c d (record { thread = t; act = ActSpawn }) typed.numbers.ordered h) in
+    subst (IsTyped p y interfaces) (sym q.result) (spawned_typed p y interfaces c t s q.at.node q.body q.env wf typed o.there q.at.control_is q.at.term ordered)

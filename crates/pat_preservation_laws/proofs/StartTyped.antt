@@ -1,6 +1,5 @@
 -- The start of a typed program is a typed configuration.
-use Rattle.std.proofs.Common.{◌≡◌, ℕ, nat_eq, [], length, Some, refl, sym, ap, ◌∙◌, subst, arith}
-use Rattle.std.specs.List.{IsDistinct}
+use Rattle.std.proofs.Common.{◌≡◌, ℕ, [], length, Some, refl, sym, ap, ◌∙◌, subst, arith}
 use Rattle.pat_model.specs.Values.{BaseUnit}
 use Rattle.pat_model.specs.Programs.{Program, Function, BaseSort, function_at, Node}
 use Rattle.pat_model.specs.WellFormed.{WellFormed, FunctionFits}
@@ -9,12 +8,8 @@ use Rattle.pat_model.specs.Steps.{thread_of}
 use Rattle.pat_typing.specs.Types.{BaseTerm, TypeFits}
 use Rattle.pat_typing.specs.Typings.{Typing, IsTyping, FunctionTyped, result_of}
 use Rattle.pat_typing.specs.Typed.{IsTyped, ThreadFits, PartFits}
-use Rattle.pat_model_laws.proofs.Lists.{one_distinct}
+use Rattle.pat_model_laws.proofs.Ordered.{start_of_ordered}
 use Rattle.std.specs.Prelude.{option_map}
-
-none_distinct : IsDistinct nat_eq []
-unfolding IsDistinct
-none_distinct = tt
 
 -- main's body has no free variable
 main_part : (p : Program) (g : Function) (f : ℕ) → FunctionFits p f g → g.params ≡ [] → (interfaces : ℕ → ℕ) → PartFits p interfaces g.body [] []
@@ -33,12 +28,12 @@ main_part p g f fits none interfaces = record {
 main_result : (p : Program) (y : Typing) (g : Function) (f : ℕ) → FunctionTyped p y f g → g.result ≡ BaseSort BaseUnit → y.results g.body ≡ BaseTerm BaseUnit
 main_result p y g f typed unit = typed.result ∙ ap (result_of (y.result_patterns f)) unit
 
-typed_main : (p : Program) (y : Typing) (g : Function) → WellFormed p → IsTyping p y → function_at p p.main ≡ Some g → g.params ≡ [] → g.result ≡ BaseSort BaseUnit → IsTyped p y (start_of (Some g))
-typed_main p y g w i at none unit =
+typed_main : (p : Program) (y : Typing) (interfaces : ℕ → ℕ) (g : Function) → WellFormed p → IsTyping p y → function_at p p.main ≡ Some g → g.params ≡ [] → g.result ≡ BaseSort BaseUnit → IsTyped p y interfaces (start_of (Some g))
+typed_main p y interfaces g w i at none unit =
     let s = thread_of (Running g.body []) [] in
-    let fits : ThreadFits p y (λ a. 0) s = record {
+    let fits : ThreadFits p y interfaces s = record {
       control = (
-        main_part p g p.main (w.functions p.main g at) none (λ a. 0),
+        main_part p g p.main (w.functions p.main g at) none interfaces,
         subst (λ t. TypeFits t (BaseTerm BaseUnit)) (sym (main_result p y g p.main (i.functions p.main g at) unit)) refl,
       );
       frames = tt;
@@ -47,14 +42,8 @@ typed_main p y g w i at none unit =
     } in
     record {
       typing = i;
-      interfaces = λ a. 0;
       numbers = record {
-        threads = one_distinct 0;
-        messages = none_distinct;
-        live = none_distinct;
-        threads_below = (omega arith, tt);
-        messages_below = tt;
-        live_below = tt;
+        ordered = start_of_ordered (Some g);
         threads_live = λ a h. cc;
         messages_live = λ a h. cc;
       };
@@ -63,7 +52,7 @@ typed_main p y g w i at none unit =
       balanced = λ a h. cc;
     }
 
-pub start_typed : (p : Program) (y : Typing) → WellFormed p → IsTyping p y → IsTyped p y (start p)
-start_typed p y w i =
+pub start_typed : (p : Program) (y : Typing) (interfaces : ℕ → ℕ) → WellFormed p → IsTyping p y → IsTyped p y interfaces (start p)
+start_typed p y interfaces w i =
     let m = w.main in
-    subst (λ o. IsTyped p y (start_of o)) (sym m.1) (typed_main p y m.0 w i m.1 m.2 m.3)
+    subst (λ o. IsTyped p y interfaces (start_of o)) (sym m.1) (typed_main p y interfaces m.0 w i m.1 m.2 m.3)

@@ -11,7 +11,7 @@ use Rattle.pat_typing.specs.Types.{Returnable, TypeOf, BaseTerm, MailboxTerm, ki
 use Rattle.pat_typing.specs.Typings.{Typing, ValueTyped}
 use Rattle.pat_typing.specs.Holdings.{Holding, held, as_holding, control_held, wanted}
 use Rattle.pat_typing.specs.Typed.{IsTyped, ThreadFits, ControlFits}
-use Rattle.pat_preservation_laws.proofs.Threads.{lookup_all}
+use Rattle.pat_model_laws.proofs.Threads.{lookup_all}
 use Rattle.pat_model_laws.proofs.Inversion.{StandsAt}
 use Rattle.pat_preservation_laws.proofs.Nodes.{NodeFacts, node_facts, fits_kind}
 use Rattle.pat_preservation_laws.proofs.Refers.{is_mailbox_same, name_is, value_refers}
@@ -92,12 +92,12 @@ put_twice (e ∷ es) t r u =
     ]) refl
 
 -- the law for an expression whose value goes to a frame
-pub value_keeps : (p : Program) (y : Typing) (c : Config) (t : ℕ) (s : Thread) (e : Expr) (env : Env) (f : Frame) (fs : List Frame) (v : Value) → WellFormed p → (typed : IsTyped p y c) → thread_at c t ≡ Some s → StandsAt p s.control (Val e) env → s.frames ≡ f ∷ fs → eval env e ≡ Some v → IsTyped p y (with_thread c t (resume p f fs v))
-value_keeps p y c t s e env f fs v wf typed there at frames value =
+pub value_keeps : (p : Program) (y : Typing) (interfaces : ℕ → ℕ) (c : Config) (t : ℕ) (s : Thread) (e : Expr) (env : Env) (f : Frame) (fs : List Frame) (v : Value) → WellFormed p → (typed : IsTyped p y interfaces c) → thread_at c t ≡ Some s → StandsAt p s.control (Val e) env → s.frames ≡ f ∷ fs → eval env e ≡ Some v → IsTyped p y interfaces (with_thread c t (resume p f fs v))
+value_keeps p y interfaces c t s e env f fs v wf typed there at frames value =
     let facts = node_facts p y at.node (Val e) wf typed.typing at.term in
-    let fits = lookup_all (λ s. ThreadFits p y typed.interfaces s) c.threads t s typed.threads there in
+    let fits = lookup_all (λ s. ThreadFits p y interfaces s) c.threads t s typed.threads there in
     let r = thread_of (Returned v) (f ∷ fs) in
-    let mid = move_keeps p y c t s (Returned v) typed there (value_move p y typed.interfaces s at.node e env v facts fits at.control_is value) in
-    let mid' = subst (λ l. IsTyped p y (with_thread c t (thread_of (Returned v) l))) frames mid in
-    let done = return_keeps p y (with_thread c t r) t v f fs wf mid' (lookup_put c.threads t s r there) in
-    subst (λ ts. IsTyped p y (record c { threads = ts })) (put_twice c.threads t r (resume p f fs v)) done
+    let mid = move_keeps p y interfaces c t s (Returned v) typed there (value_move p y interfaces s at.node e env v facts fits at.control_is value) in
+    let mid' = subst (λ l. IsTyped p y interfaces (with_thread c t (thread_of (Returned v) l))) frames mid in
+    let done = return_keeps p y interfaces (with_thread c t r) t v f fs wf mid' (lookup_put c.threads t s r there) in
+    subst (λ ts. IsTyped p y interfaces (record c { threads = ts })) (put_twice c.threads t r (resume p f fs v)) done

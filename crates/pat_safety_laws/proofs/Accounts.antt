@@ -69,22 +69,22 @@ messages_receive p interfaces b (m ∷ ms) h =
 no_single : {A : Type 0} (e : A) → [] ≡ e ∷ [] → ⊥
 no_single e h = cc
 
-reached_by : (p : Program) (y : Typing) (c : Config) → (typed : IsTyped p y c) → (a : ℕ) → is_among a c.live ≡ true → (some_thread_refers c a || is_delegated p typed.interfaces c a) ≡ true
-reached_by p y c typed a live =
+reached_by : (p : Program) (y : Typing) (interfaces : ℕ → ℕ) (c : Config) → (typed : IsTyped p y interfaces c) → (a : ℕ) → is_among a c.live ≡ true → (some_thread_refers c a || is_delegated p interfaces c a) ≡ true
+reached_by p y interfaces c typed a live =
     ⊎_elim
-    (λ on. or_left (some_thread_refers c a) (is_delegated p typed.interfaces c a) on)
+    (λ on. or_left (some_thread_refers c a) (is_delegated p interfaces c a) on)
     (λ off.
     ⊎_elim
-    (λ on. or_right (some_thread_refers c a) (is_delegated p typed.interfaces c a) on)
+    (λ on. or_right (some_thread_refers c a) (is_delegated p interfaces c a) on)
     (λ none.
     let b = typed.balanced a live in
-    let ms = map (message_held p typed.interfaces a) c.messages in
-    let empty : receivers (holdings p y typed.interfaces c a) ≡ [] =
+    let ms = map (message_held p interfaces a) c.messages in
+    let empty : receivers (holdings p y interfaces c a) ≡ [] =
     receivers-append (threads_held p y a c.threads) ms
     ∙ ap (λ l. l ++ receivers ms) (none_receivers (threads_held p y a c.threads) (threads_none p y a c.threads off))
-    ∙ messages_receive p typed.interfaces a c.messages none in
+    ∙ messages_receive p interfaces a c.messages none in
     absurd (no_single b.pattern (sym empty ∙ b.one_receiver)))
-    (cases_Bool (is_delegated p typed.interfaces c a)))
+    (cases_Bool (is_delegated p interfaces c a)))
     (cases_Bool (some_thread_refers c a))
 
 -- ---- variables and messages
@@ -115,16 +115,16 @@ messages_agree : (p : Program) (interfaces : ℕ → ℕ) (ms : List Message) �
 messages_agree p i [] h = tt
 messages_agree p i (m ∷ ms) h = (record { decl = h.0.decl; declared = h.0.declared; values = h.0.values }, messages_agree p i ms h.1)
 
-pub accounts : (p : Program) (y : Typing) (c : Config) → (typed : IsTyped p y c) → AccountsFor p c typed.interfaces
-accounts p y c typed = record {
-  threads = threads_agree p y typed.interfaces c.live c.threads typed.threads;
-  messages = messages_agree p typed.interfaces c.messages typed.messages;
-  reached = reached_by p y c typed;
+pub accounts : (p : Program) (y : Typing) (interfaces : ℕ → ℕ) (c : Config) → (typed : IsTyped p y interfaces c) → AccountsFor p c interfaces
+accounts p y interfaces c typed = record {
+  threads = threads_agree p y interfaces c.live c.threads typed.threads;
+  messages = messages_agree p interfaces c.messages typed.messages;
+  reached = reached_by p y interfaces c typed;
 }
 
-pub not_left : (p : Program) (y : Typing) (c : Config) → IsTyped p y c → LeftBehind p c → ⊥
-not_left p y c typed (unreached none) = none typed.interfaces (accounts p y c typed)
-not_left p y c typed (dead a gone refers) =
+pub not_left : (p : Program) (y : Typing) (interfaces : ℕ → ℕ) (c : Config) → IsTyped p y interfaces c → LeftBehind p c → ⊥
+not_left p y interfaces c typed (unreached none) = none interfaces (accounts p y interfaces c typed)
+not_left p y interfaces c typed (dead a gone refers) =
     ⊎_elim
     (λ l. clash (typed.numbers.threads_live a l) gone)
     (λ r. clash (typed.numbers.messages_live a r) gone)

@@ -5,7 +5,7 @@ use Rattle.std.specs.List.{list_any}
 use Rattle.std.proofs.lemmas.Bool.{or_cases, or_left, or_right, or_parts, and_parts, cases_Bool}
 use Rattle.pat_model.specs.Values.{Value}
 use Rattle.pat_model.specs.Programs.{Program, Interface, TagDecl, Sort, tag_at, is_among, is_receiving, delegates}
-use Rattle.pat_model.specs.Configs.{Message, Config, is_mailbox, message_refers, has_pending, some_thread_refers, some_message_refers, thread_refers}
+use Rattle.pat_model.specs.Configs.{Message, Config, is_mailbox, message_refers, has_pending, some_thread_refers, some_message_refers, thread_refers, start}
 use Rattle.pat_model.specs.WellFormed.{WellFormed}
 use Rattle.pat_model.specs.Steps.{Step}
 use Rattle.pat_model.specs.Runs.{run}
@@ -15,6 +15,7 @@ use Rattle.pat_model_laws.proofs.Lists.{clash, among_head}
 use Rattle.pat_preservation_laws.proofs.Preserved.{run_typed}
 use Rattle.pat_safety_laws.specs.Laws.{JustDelegated}
 use Rattle.pat_safety_laws.proofs.Accounts.{accounts}
+use Rattle.pat_typing.specs.Interfaces.{interfaces_along}
 
 -- ---- a program that declares no receiving payload
 
@@ -100,12 +101,13 @@ delegated_refers p f a (m ∷ ms) h =
 
 pub done_leaves_delegated : (p : Program) (ks : List Step) (c : Config) → WellFormed p → IsTypable p → run p ks ≡ Some c → c.threads ≡ [] → JustDelegated p c
 done_leaves_delegated p ks c wf y h none =
-    let typed = run_typed p y.0 ks c wf y.1 h in
-    let account = accounts p y.0 c typed in (
-      typed.interfaces,
+    let interfaces = interfaces_along p (start p) ks (λ a. 0) in
+    let typed = run_typed p y.0 (λ a. 0) ks c wf y.1 h in
+    let account = accounts p y.0 interfaces c typed in (
+      interfaces,
       account,
       λ a. (
-        (λ live. ⊎_elim (λ l. absurd (clash l (no_thread_refers c a none))) (λ r. r) (or_cases (some_thread_refers c a) (is_delegated p typed.interfaces c a) (account.reached a live))),
-        λ sent. typed.numbers.messages_live a (or_left (some_message_refers c a) (has_pending a c.messages) (delegated_refers p typed.interfaces a c.messages sent)),
+        (λ live. ⊎_elim (λ l. absurd (clash l (no_thread_refers c a none))) (λ r. r) (or_cases (some_thread_refers c a) (is_delegated p interfaces c a) (account.reached a live))),
+        λ sent. typed.numbers.messages_live a (or_left (some_message_refers c a) (has_pending a c.messages) (delegated_refers p interfaces a c.messages sent)),
       ),
     )

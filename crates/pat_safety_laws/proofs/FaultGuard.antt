@@ -1,9 +1,9 @@
 -- At a guard of a typed configuration what is pending fits, and something is there for it.
 use Rattle.std.proofs.Common.{◌≡◌, ℕ, suc, ◌+◌, ◌≤◌, true, false, cond, ◌||◌, ◌&&◌, not, nat_eq, if◌then◌else◌, List, [], ◌∷◌, ◌++◌, map, Option, Some, None, refl, sym, ap, ◌∙◌, subst, arith, append_assoc, inl, inr, ⊎_elim}
-use Rattle.std.specs.Prelude.{slice_get, option_and_then, find}
+use Rattle.std.specs.Prelude.{slice_get, option_and_then}
 use Rattle.std.specs.List.{AllByRecursion, IsDistinct, list_any}
 use Rattle.std.specs.Map.{lookup, keys_of}
-use Rattle.std.proofs.lemmas.Bool.{or_left, or_parts, eq-eqb, eqb-true, eqb-false, ne_eqb, and_cases, cond-true, cond-false, false_from_ne_true}
+use Rattle.std.proofs.lemmas.Bool.{or_left, or_parts, eq-eqb, eqb-true, eqb-false, ne_eqb, and_cases, cond-true, false_from_ne_true}
 use Rattle.pat_words.specs.Words.{Word, no_word, one, plus}
 use Rattle.pat_words.specs.Patterns.{Pat}
 use Rattle.pat_words.proofs.WordLaws.{plus_none}
@@ -22,7 +22,7 @@ use Rattle.pat_preservation_laws.proofs.Refers.{AllNone, none-append, thread_non
 use Rattle.pat_preservation_laws.proofs.Named.{tag_payloads}
 use Rattle.pat_preservation_laws.proofs.Bound.{body_bound}
 use Rattle.pat_model_laws.proofs.Lists.{clash, distinct_parts, all_join, all_at}
-use Rattle.pat_preservation_laws.proofs.Threads.{apart_any}
+use Rattle.pat_model_laws.proofs.Threads.{apart_any}
 
 -- ---- a word of each sending holding
 
@@ -127,11 +127,11 @@ module _ (p : Program) (y : Typing) (interfaces : ℕ → ℕ) (wf : WellFormed 
       let word = payload_word types (place_word a.0.decl (tag_payloads p wf (interfaces m.mailbox) m.tag a.0.decl a.0.declared)) b 0 m.values in
       (subst (λ o. HoldingHasWord (payload_held b (declared_types o) 0 m.values)) (sym a.0.declared) word, messages_words ms b a.1)
 
-pub all_words : (p : Program) (y : Typing) (c : Config) → WellFormed p → (typed : IsTyped p y c) → (b : ℕ) → AllHaveWords (holdings p y typed.interfaces c b)
-all_words p y c wf typed b =
-    all_join HoldingHasWord (threads_held p y b c.threads) (map (message_held p typed.interfaces b) c.messages)
-    (threads_words p y typed.interfaces wf typed.typing c.threads b typed.threads)
-    (messages_words p y typed.interfaces wf typed.typing c.messages b typed.messages)
+pub all_words : (p : Program) (y : Typing) (interfaces : ℕ → ℕ) (c : Config) → WellFormed p → (typed : IsTyped p y interfaces c) → (b : ℕ) → AllHaveWords (holdings p y interfaces c b)
+all_words p y interfaces c wf typed b =
+    all_join HoldingHasWord (threads_held p y b c.threads) (map (message_held p interfaces b) c.messages)
+    (threads_words p y interfaces wf typed.typing c.threads b typed.threads)
+    (messages_words p y interfaces wf typed.typing c.messages b typed.messages)
 
 -- ---- where nobody else refers to the mailbox
 
@@ -215,24 +215,6 @@ nothing_pending a ms none = false_from_ne_true (has_pending a ms) (λ h. let q =
               (m.tag, more)
           | false ↦ λ k. some_pending ms k
         ]) h
-
--- a message is found by its number
-pub found_by_number : (ms : List Message) (m : Message) → IsIn m ms → IsDistinct nat_eq (map (λ x. x.number) ms) → find (λ x. nat_eq m.number x.number) ms ≡ Some m
-found_by_number [] m h d = absurd h
-found_by_number (x ∷ xs) m h d =
-    let q = distinct_parts x.number (map (λ y. y.number) xs) d in
-    ⊎_elim
-    (λ same.
-    cond-true (nat_eq m.number x.number) (Some x) (find (λ y. nat_eq m.number y.number) xs) (eq-eqb m.number x.number (ap (λ (w : Message). w.number) (sym same)))
-    ∙ ap (λ w. Some w) same)
-    (λ rest.
-    let off : nat_eq m.number x.number ≡ false = ne_eqb m.number x.number (λ e. eqb-false x.number m.number (apart_from xs rest q.0) (sym e)) in
-    cond-false (nat_eq m.number x.number) (Some x) (find (λ y. nat_eq m.number y.number) xs) off ∙ found_by_number xs m rest q.1)
-    h
-  where
-    apart_from : (ys : List Message) → IsIn m ys → AllByRecursion (λ k. nat_eq x.number k ≡ false) (map (λ y. y.number) ys) → nat_eq x.number m.number ≡ false
-    apart_from [] i a = absurd i
-    apart_from (z ∷ zs) i a = ⊎_elim (λ same. subst (λ (w : Message). nat_eq x.number w.number ≡ false) same a.0) (λ r. apart_from zs r a.1) i
 
 -- the clause of a received tag is found
 pub found_by_tag : (cs : List Clause) (tag : ℕ) → is_received cs tag ≡ true → (r : Clause) × (clause_for tag cs ≡ Some r)

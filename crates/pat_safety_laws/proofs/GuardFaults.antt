@@ -18,17 +18,21 @@ use Rattle.pat_typing.specs.Typings.{Typing, GuardTyped, ClauseTyped, is_receive
 use Rattle.pat_typing.specs.Holdings.{Holding, held, frame_held, message_held, holdings, receives_by, receivers, SendsBy, Choice, Balanced}
 use Rattle.pat_typing.specs.Typed.{IsTyped, ThreadFits, PartFits, MessageFits}
 use Rattle.pat_preservation_laws.proofs.Balance.{balance_front}
-use Rattle.pat_preservation_laws.proofs.Threads.{lookup_all, lookup_any, split_thread}
+use Rattle.pat_model_laws.proofs.Threads.{lookup_all, lookup_any}
+use Rattle.pat_preservation_laws.proofs.ThreadHoldings.{split_thread}
 use Rattle.pat_preservation_laws.proofs.Nodes.{NodeFacts, node_facts}
 use Rattle.pat_preservation_laws.proofs.Refers.{AllNone, none-append, frames_none, messages_none, value_refers}
 use Rattle.pat_preservation_laws.proofs.Envs.{held_cases, HeldCases, by_variable, by_none}
 use Rattle.pat_preservation_laws.proofs.Narrow.{usage_back}
 use Rattle.pat_preservation_laws.proofs.Received.{found_clause}
 use Rattle.pat_safety_laws.proofs.FaultParts.{part_interface, message_declared}
-use Rattle.pat_safety_laws.proofs.FaultGuard.{AllHaveWords, HoldingHasWord, some_choice, all_words, none_chosen, split_alone, pending_message, nothing_pending, found_by_number, found_by_tag}
+use Rattle.pat_safety_laws.proofs.FaultGuard.{AllHaveWords, HoldingHasWord, some_choice, all_words, none_chosen, split_alone, pending_message, nothing_pending, found_by_tag}
 use Rattle.pat_model_laws.proofs.Lists.{clash, not_true, all_front, is_in_all, only_first}
 use Rattle.pat_preservation_laws.proofs.Named.{env_fits}
 use Rattle.pat_model_laws.proofs.Inversion.{after_free}
+use Rattle.std.specs.Map.{keys_of}
+use Rattle.pat_model_laws.proofs.Ascending.{ascends_distinct}
+use Rattle.pat_model_laws.proofs.Leasts.{message_is_found}
 
 vars_length : (vars : List Kind) (xs : List ℕ) (ks : List Kind) → VarsHaveKinds vars xs ks → length xs ≡ length ks
 vars_length vars [] [] h = refl
@@ -59,7 +63,7 @@ front_fits g rest r q b w c =
     subst (λ (e : Pat). In e (plus r w)) (sym same.0) (b.fits w c)
 
 -- thread t stands at a guard on mailbox a
-module _ (p : Program) (y : Typing) (c : Config) (wf : WellFormed p) (typed : IsTyped p y c) (t : ℕ) (g : GuardAt p c t) (a : ℕ) (names : value_at g.env g.var ≡ Some (Mailbox a)) where
+module _ (p : Program) (y : Typing) (interfaces : ℕ → ℕ) (c : Config) (wf : WellFormed p) (typed : IsTyped p y interfaces c) (t : ℕ) (g : GuardAt p c t) (a : ℕ) (names : value_at g.env g.var ≡ Some (Mailbox a)) where
   abbrev n : ℕ
   n = g.node
 
@@ -75,10 +79,10 @@ module _ (p : Program) (y : Typing) (c : Config) (wf : WellFormed p) (typed : Is
   guard : GuardTyped p y (y.envs n) (y.results n) g.var g.pattern g.free g.receives
   guard = facts.term
 
-  fits : ThreadFits p y typed.interfaces s
-  fits = lookup_all (λ s. ThreadFits p y typed.interfaces s) c.threads t s typed.threads g.stands
+  fits : ThreadFits p y interfaces s
+  fits = lookup_all (λ s. ThreadFits p y interfaces s) c.threads t s typed.threads g.stands
 
-  part : PartFits p typed.interfaces n [] g.env
+  part : PartFits p interfaces n [] g.env
   part = fits.control.0
 
   live : is_among a c.live ≡ true
@@ -101,7 +105,7 @@ module _ (p : Program) (y : Typing) (c : Config) (wf : WellFormed p) (typed : Is
   in_pattern w h = guard.fits.pattern w h
 
   abbrev ms : List Holding
-  ms = map (message_held p typed.interfaces a) c.messages
+  ms = map (message_held p interfaces a) c.messages
 
   -- what is pending with some word is in the pattern
   pub some_fits : (w : Word) × In g.pattern (plus (pending c a) w)
@@ -110,10 +114,10 @@ module _ (p : Program) (y : Typing) (c : Config) (wf : WellFormed p) (typed : Is
       let gs = map (frame_held y a) g.frames in
       let h = held (y.envs n) a g.env in
       let rest = (gs ++ split.after) ++ ms in
-      let flat : holdings p y typed.interfaces c a ≡ split.before ++ (h ∷ rest) =
+      let flat : holdings p y interfaces c a ≡ split.before ++ (h ∷ rest) =
       ap (λ l. l ++ ms) split.now_is ∙ append_assoc split.before ((h ∷ gs) ++ split.after) ms in
       let front = balance_front split.before h rest (pending c a) (subst (λ l. Balanced l (pending c a)) flat (typed.balanced a live)) in
-      let words = all_front HoldingHasWord split.before h rest (subst AllHaveWords flat (all_words p y c wf typed a)) in
+      let words = all_front HoldingHasWord split.before h rest (subst AllHaveWords flat (all_words p y interfaces c wf typed a)) in
       let bal = subst (λ k. Balanced (k ∷ (split.before ++ rest)) (pending c a)) held_is front in
       let has = subst (λ k. AllHaveWords (k ∷ (split.before ++ rest))) held_is words in
       let w = some_choice (Some guarded ∷ (split.before ++ rest)) has in
@@ -123,11 +127,11 @@ module _ (p : Program) (y : Typing) (c : Config) (wf : WellFormed p) (typed : Is
   pub alone_fits : is_reached_by_none_but c a t ≡ true → In g.pattern (pending c a)
   alone_fits reached =
       let parts = and_parts (not (other_refers a t c.threads)) (not (list_any (message_refers a) c.messages)) reached in
-      let split = split_alone p y a t s c.threads g.stands typed.numbers.threads (not_true (other_refers a t c.threads) parts.0) in
+      let split = split_alone p y a t s c.threads g.stands (ascends_distinct 0 (keys_of c.threads) typed.numbers.ordered.threads) (not_true (other_refers a t c.threads) parts.0) in
       let gs = map (frame_held y a) g.frames in
       let h = held (y.envs n) a g.env in
       let rest = (gs ++ split.after) ++ ms in
-      let flat : holdings p y typed.interfaces c a ≡ split.before ++ (h ∷ rest) =
+      let flat : holdings p y interfaces c a ≡ split.before ++ (h ∷ rest) =
       ap (λ l. l ++ ms) split.now_is ∙ append_assoc split.before ((h ∷ gs) ++ split.after) ms in
       let front = balance_front split.before h rest (pending c a) (subst (λ l. Balanced l (pending c a)) flat (typed.balanced a live)) in
       let bal = subst (λ k. Balanced (k ∷ (split.before ++ rest)) (pending c a)) held_is front in
@@ -135,7 +139,7 @@ module _ (p : Program) (y : Typing) (c : Config) (wf : WellFormed p) (typed : Is
       let none : AllNone (split.before ++ rest) =
       none-append split.before rest split.before_none
       (none-append (gs ++ split.after) ms (none-append gs split.after (frames_none y a g.frames apart) split.after_none)
-      (messages_none p typed.interfaces a c.messages (not_true (list_any (message_refers a) c.messages) parts.1))) in
+      (messages_none p interfaces a c.messages (not_true (list_any (message_refers a) c.messages) parts.1))) in
       let chosen : Choice (Some guarded ∷ (split.before ++ rest)) no_word =
       (no_word, no_word, sends_none guarded.polarity guarded.pattern guard.fits.polarity, none_chosen (split.before ++ rest) none, sym (plus_none no_word)) in
       subst (In g.pattern) (plus_none (pending c a)) (in_pattern (plus (pending c a) no_word) (front_fits guarded (split.before ++ rest) (pending c a) guard.fits.polarity bal no_word chosen))
@@ -167,7 +171,7 @@ module _ (p : Program) (y : Typing) (c : Config) (wf : WellFormed p) (typed : Is
   receive_enabled tag received_tag there off =
       let q = pending_message a tag c.messages there in
       let m = q.message in
-      let found = found_by_number c.messages m q.is_in typed.numbers.messages in
+      let found = message_is_found c m typed.numbers.ordered q.is_in in
       let chosen = found_by_tag g.receives tag received_tag in
       let r = chosen.0 in
       let chosen_m : clause_for m.tag g.receives ≡ Some r = ap (λ k. clause_for k g.receives) q.tag_is ∙ chosen.1 in
@@ -175,18 +179,18 @@ module _ (p : Program) (y : Typing) (c : Config) (wf : WellFormed p) (typed : Is
       let vars = facts.fits.function.vars in
       let clause = found_clause (ClauseTyped p y (y.envs n) (y.results n) g.var gi g.pattern) m.tag g.receives r guard.receives chosen_m in
       let kinds = found_clause (ClauseKinds p vars facts.kinds.0 (kind_of_type (y.results n))) m.tag g.receives r facts.kinds.4 chosen_m in
-      let message_fits = is_in_all (MessageFits p typed.interfaces) c.messages m typed.messages q.is_in in
+      let message_fits = is_in_all (MessageFits p interfaces) c.messages m typed.messages q.is_in in
       let own : m.mailbox ≡ a = eqb-true m.mailbox a q.mailbox in
-      let interface_is : typed.interfaces a ≡ facts.kinds.0 =
-      env_fits p y typed.interfaces n core g.env facts part g.var (Mailbox a) (MailboxOf facts.kinds.0) names facts.kinds.1 in
-      let declared : tag_at p (typed.interfaces m.mailbox) m.tag ≡ Some kinds.0.decl =
-      ap (λ b. tag_at p (typed.interfaces b) m.tag) own ∙ ap (λ i. tag_at p i m.tag) interface_is ∙ ap (λ k. tag_at p facts.kinds.0 k) (sym kinds.1) ∙ kinds.0.declared in
+      let interface_is : interfaces a ≡ facts.kinds.0 =
+      env_fits p y interfaces n core g.env facts part g.var (Mailbox a) (MailboxOf facts.kinds.0) names facts.kinds.1 in
+      let declared : tag_at p (interfaces m.mailbox) m.tag ≡ Some kinds.0.decl =
+      ap (λ b. tag_at p (interfaces b) m.tag) own ∙ ap (λ i. tag_at p i m.tag) interface_is ∙ ap (λ k. tag_at p facts.kinds.0 k) (sym kinds.1) ∙ kinds.0.declared in
       let both : Some message_fits.decl ≡ Some kinds.0.decl = sym message_fits.declared ∙ declared in
       let same : message_fits.decl ≡ kinds.0.decl = some_same message_fits.decl kinds.0.decl both in
       let lengths : length r.vars ≡ length m.values =
       vars_length vars r.vars (map kind_of kinds.0.decl.payloads) kinds.0.payloads
       ∙ ap (λ (d : TagDecl). length (map kind_of d.payloads)) (sym same)
-      ∙ sym (values_length typed.interfaces m.values (map kind_of message_fits.decl.payloads) message_fits.values) in
+      ∙ sym (values_length interfaces m.values (map kind_of message_fits.decl.payloads) message_fits.values) in
       let test = nat_eq m.mailbox a && nat_eq (length r.vars) (length m.values) in
       let on : test ≡ true = and_from (nat_eq m.mailbox a) (nat_eq (length r.vars) (length m.values)) q.mailbox (eq-eqb (length r.vars) (length m.values) lengths) in
       let made = with_thread (without_message c m.number) t (thread_of (at_node p r.body (received r m g.env)) g.frames) in
@@ -228,8 +232,8 @@ module _ (p : Program) (y : Typing) (c : Config) (wf : WellFormed p) (typed : Is
 
   pub is_declared : (i : ℕ) (m : Message) → KindAt p n g.var (MailboxOf i) → IsIn m c.messages → m.mailbox ≡ a → IsAsDeclared p i m
   is_declared i m kind is_in own =
-      message_declared p typed.interfaces i m (is_in_all (MessageFits p typed.interfaces) c.messages m typed.messages is_in)
-      (ap typed.interfaces own ∙ part_interface p typed.interfaces n [] g.env part g.var a i names kind)
+      message_declared p interfaces i m (is_in_all (MessageFits p interfaces) c.messages m typed.messages is_in)
+      (ap interfaces own ∙ part_interface p interfaces n [] g.env part g.var a i names kind)
 
 -- a guard's variable is free in it
 guard_free : (p : Program) (n x : ℕ) (e : Pat) (free : Option ℕ) (cs : List Clause) → WellFormed p → core_at p n ≡ Some (Guard x e free cs) → is_free p x n ≡ true
@@ -238,30 +242,30 @@ guard_free p n x e free cs wf at =
     ∙ or_left (nat_eq x x) (list_any (is_free p x) (option_list free) || list_any (clause_uses (is_free p x) x) cs) (eq-eqb x x refl)
 
 -- a guard's variable names a mailbox
-pub guard_names : (p : Program) (y : Typing) (c : Config) (wf : WellFormed p) (typed : IsTyped p y c) (t : ℕ) (g : GuardAt p c t) → (a : ℕ) × (value_at g.env g.var ≡ Some (Mailbox a))
-guard_names p y c wf typed t g =
+pub guard_names : (p : Program) (y : Typing) (interfaces : ℕ → ℕ) (c : Config) (wf : WellFormed p) (typed : IsTyped p y interfaces c) (t : ℕ) (g : GuardAt p c t) → (a : ℕ) × (value_at g.env g.var ≡ Some (Mailbox a))
+guard_names p y interfaces c wf typed t g =
     let s = thread_of (Running g.node g.env) g.frames in
     let core = Guard g.var g.pattern g.free g.receives in
     let facts = node_facts p y g.node core wf typed.typing g.term in
-    let fits = lookup_all (λ s. ThreadFits p y typed.interfaces s) c.threads t s typed.threads g.stands in
+    let fits = lookup_all (λ s. ThreadFits p y interfaces s) c.threads t s typed.threads g.stands in
     let part = fits.control.0 in
     let free = guard_free p g.node g.var g.pattern g.free g.receives wf g.term in
     let v = part.values g.var free refl in
-    let fit = env_fits p y typed.interfaces g.node core g.env facts part g.var v.0 (MailboxOf facts.kinds.0) v.1 facts.kinds.1 in
-    let a = a_name typed.interfaces v.0 facts.kinds.0 fit in
+    let fit = env_fits p y interfaces g.node core g.env facts part g.var v.0 (MailboxOf facts.kinds.0) v.1 facts.kinds.1 in
+    let a = a_name interfaces v.0 facts.kinds.0 fit in
     (a.0, v.1 ∙ ap (λ w. Some w) a.1)
   where
     a_name : (f : ℕ → ℕ) (v : Value) (i : ℕ) → ValueFits f v (MailboxOf i) → (a : ℕ) × (v ≡ Mailbox a)
     a_name f (Mailbox a) i h = (a, refl)
     a_name f (Const k) i h = absurd h
 
-pub not_failing : (p : Program) (y : Typing) (c : Config) → WellFormed p → IsTyped p y c → FailingGuard p c → ⊥
-not_failing p y c wf typed (no_clause t g free none) =
-    let a = guard_names p y c wf typed t g in has_clause p y c wf typed t g a.0 a.1 free none
-not_failing p y c wf typed (starved t a g no_receive no_free reached) =
-    not_starved p y c wf typed t g.guard a g.names no_receive no_free reached
+pub not_failing : (p : Program) (y : Typing) (interfaces : ℕ → ℕ) (c : Config) → WellFormed p → IsTyped p y interfaces c → FailingGuard p c → ⊥
+not_failing p y interfaces c wf typed (no_clause t g free none) =
+    let a = guard_names p y interfaces c wf typed t g in has_clause p y interfaces c wf typed t g a.0 a.1 free none
+not_failing p y interfaces c wf typed (starved t a g no_receive no_free reached) =
+    not_starved p y interfaces c wf typed t g.guard a g.names no_receive no_free reached
 
-pub not_unexpected : (p : Program) (y : Typing) (c : Config) → WellFormed p → IsTyped p y c → UnexpectedMessage p c → ⊥
-not_unexpected p y c wf typed (too_many t a g off) = not_too_many p y c wf typed t g.guard a g.names off
-not_unexpected p y c wf typed (undeclared t a i g m kind is_in own off) =
-    off (is_declared p y c wf typed t g.guard a g.names i m kind is_in own)
+pub not_unexpected : (p : Program) (y : Typing) (interfaces : ℕ → ℕ) (c : Config) → WellFormed p → IsTyped p y interfaces c → UnexpectedMessage p c → ⊥
+not_unexpected p y interfaces c wf typed (too_many t a g off) = not_too_many p y interfaces c wf typed t g.guard a g.names off
+not_unexpected p y interfaces c wf typed (undeclared t a i g m kind is_in own off) =
+    off (is_declared p y interfaces c wf typed t g.guard a g.names i m kind is_in own)

@@ -14,7 +14,7 @@ use Rattle.pat_model.specs.Faults.{GuardAt, WrongValue, in_control, in_frame, in
 use Rattle.pat_model_laws.proofs.FreeVars.{free_unfolds}
 use Rattle.pat_typing.specs.Typings.{Typing}
 use Rattle.pat_typing.specs.Typed.{IsTyped, ThreadFits, ControlFits, PartFits}
-use Rattle.pat_preservation_laws.proofs.Threads.{lookup_all}
+use Rattle.pat_model_laws.proofs.Threads.{lookup_all}
 use Rattle.pat_preservation_laws.proofs.Nodes.{NodeFacts, node_facts}
 use Rattle.pat_preservation_laws.proofs.Named.{op_parts, env_fits}
 use Rattle.pat_preservation_laws.proofs.Args.{eval_fits}
@@ -127,7 +127,7 @@ enabled p c t j a d at h = any_at (λ a. is_some (step p c (record { thread = t;
 step_of_thread : (p : Program) (c : Config) (t : ℕ) (s : Thread) (a : Act) → thread_at c t ≡ Some s → step p c (record { thread = t; act = a }) ≡ thread_step p c t s a
 step_of_thread p c t s a there = ap (λ o. option_and_then (λ s. thread_step p c t s a) o) there
 
-module _ (p : Program) (y : Typing) (c : Config) (t n : ℕ) (env : Env) (fs : List Frame) (wf : WellFormed p) (typed : IsTyped p y c) (there : thread_at c t ≡ Some (thread_of (Running n env) fs)) (part : PartFits p typed.interfaces n [] env) where
+module _ (p : Program) (y : Typing) (interfaces : ℕ → ℕ) (c : Config) (t n : ℕ) (env : Env) (fs : List Frame) (wf : WellFormed p) (typed : IsTyped p y interfaces c) (there : thread_at c t ≡ Some (thread_of (Running n env) fs)) (part : PartFits p interfaces n [] env) where
   abbrev s : Thread
   s = thread_of (Running n env) fs
 
@@ -148,7 +148,7 @@ module _ (p : Program) (y : Typing) (c : Config) (t n : ℕ) (env : Env) (fs : L
   value_goes e at (f ∷ gs) frames =
       let there' = there ∙ ap (λ l. Some (thread_of (Running n env) l)) frames in
       let facts = node_facts p y n (Val e) wf typed.typing at in
-      let v = has_value typed.interfaces facts.fits.function.vars env (env_fits p y typed.interfaces n (Val e) env facts part) e (kind_of_type (y.results n)) facts.kinds (λ x o. value_of (Val e) at x o) in
+      let v = has_value interfaces facts.fits.function.vars env (env_fits p y interfaces n (Val e) env facts part) e (kind_of_type (y.results n)) facts.kinds (λ x o. value_of (Val e) at x o) in
       enabled p c t 0 ActLocal (with_thread c t (resume p f gs v.0)) refl
       (step_of_thread p c t (thread_of (Running n env) (f ∷ gs)) ActLocal there'
       ∙ ap (λ r. option_map (with_thread c t) (local_at p r (f ∷ gs))) (redex_is (Val e) at)
@@ -161,26 +161,26 @@ module _ (p : Program) (y : Typing) (c : Config) (t n : ℕ) (env : Env) (fs : L
       (step_of_thread p c t s ActLocal there ∙ ap (λ r. option_map (with_thread c t) (local_at p r fs)) (redex_is (Let x m b) at))
   running_goes (Call f args) at guard =
       let facts = node_facts p y n (Call f args) wf typed.typing at in
-      let vs = have_values typed.interfaces facts.fits.function.vars env (env_fits p y typed.interfaces n (Call f args) env facts part) args (map kind_of facts.kinds.0.params) facts.kinds.2 (λ x o. value_of (Call f args) at x o) in
+      let vs = have_values interfaces facts.fits.function.vars env (env_fits p y interfaces n (Call f args) env facts part) args (map kind_of facts.kinds.0.params) facts.kinds.2 (λ x o. value_of (Call f args) at x o) in
       enabled p c t 0 ActLocal (with_thread c t (thread_of (at_node p facts.kinds.0.body (numbered 0 vs.0)) fs)) refl
       (step_of_thread p c t s ActLocal there
       ∙ ap (λ r. option_map (with_thread c t) (local_at p r fs)) (redex_is (Call f args) at)
       ∙ ap₂ (λ o w. option_map (with_thread c t) (enter p o w fs)) facts.kinds.1 vs.1)
   running_goes (If e m b) at guard =
       let facts = node_facts p y n (If e m b) wf typed.typing at in
-      let fit = env_fits p y typed.interfaces n (If e m b) env facts part in
-      let v = has_value typed.interfaces facts.fits.function.vars env fit e (Plain BaseBool) facts.kinds.0 (λ x o. value_of (If e m b) at x (or_left (occurs x e) (is_free p x m || is_free p x b) o)) in
-      let w = bool_value typed.interfaces v.0 (eval_fits typed.interfaces facts.fits.function.vars env fit e (Plain BaseBool) v.0 facts.kinds.0 v.1) in
+      let fit = env_fits p y interfaces n (If e m b) env facts part in
+      let v = has_value interfaces facts.fits.function.vars env fit e (Plain BaseBool) facts.kinds.0 (λ x o. value_of (If e m b) at x (or_left (occurs x e) (is_free p x m || is_free p x b) o)) in
+      let w = bool_value interfaces v.0 (eval_fits interfaces facts.fits.function.vars env fit e (Plain BaseBool) v.0 facts.kinds.0 v.1) in
       enabled p c t 0 ActLocal (with_thread c t (thread_of (at_node p (if w.0 then m else b) env) fs)) refl
       (step_of_thread p c t s ActLocal there
       ∙ ap (λ r. option_map (with_thread c t) (local_at p r fs)) (redex_is (If e m b) at)
       ∙ ap (λ o. option_map (with_thread c t) (choose p o m b env fs)) (v.1 ∙ ap (λ u. Some u) w.1))
   running_goes (Print e) at guard =
       let facts = node_facts p y n (Print e) wf typed.typing at in
-      let fit = env_fits p y typed.interfaces n (Print e) env facts part in
+      let fit = env_fits p y interfaces n (Print e) env facts part in
       let k = facts.kinds.1.0 in
-      let v = has_value typed.interfaces facts.fits.function.vars env fit e k facts.kinds.1.1 (λ x o. value_of (Print e) at x o) in
-      let line = printed_value typed.interfaces v.0 k facts.kinds.1.2 (eval_fits typed.interfaces facts.fits.function.vars env fit e k v.0 facts.kinds.1.1 v.1) in
+      let v = has_value interfaces facts.fits.function.vars env fit e k facts.kinds.1.1 (λ x o. value_of (Print e) at x o) in
+      let line = printed_value interfaces v.0 k facts.kinds.1.2 (eval_fits interfaces facts.fits.function.vars env fit e k v.0 facts.kinds.1.1 v.1) in
       enabled p c t 4 ActPrint (record (with_thread c t (returned_unit fs)) { printed = c.printed ++ line.0 ∷ [] }) refl
       (step_of_thread p c t s ActPrint there
       ∙ ap (λ r. print_at c t fs r) (redex_is (Print e) at)
@@ -191,10 +191,10 @@ module _ (p : Program) (y : Typing) (c : Config) (t n : ℕ) (env : Env) (fs : L
       (step_of_thread p c t s ActNew there ∙ ap (λ r. new_at c t fs r) (redex_is (New i) at))
   running_goes (Send x m args) at guard =
       let facts = node_facts p y n (Send x m args) wf typed.typing at in
-      let fit = env_fits p y typed.interfaces n (Send x m args) env facts part in
+      let fit = env_fits p y interfaces n (Send x m args) env facts part in
       let v = value_of (Send x m args) at x (or_left (nat_eq x x) (list_any (occurs x) args) (eq-eqb x x refl)) in
-      let a = name_value typed.interfaces v.0 facts.kinds.1.0 (fit x v.0 (MailboxOf facts.kinds.1.0) v.1 facts.kinds.1.2) in
-      let vs = have_values typed.interfaces facts.fits.function.vars env fit args (map kind_of facts.kinds.1.1.payloads) facts.kinds.1.4 (λ z o. value_of (Send x m args) at z (or_right (nat_eq z x) (list_any (occurs z) args) o)) in
+      let a = name_value interfaces v.0 facts.kinds.1.0 (fit x v.0 (MailboxOf facts.kinds.1.0) v.1 facts.kinds.1.2) in
+      let vs = have_values interfaces facts.fits.function.vars env fit args (map kind_of facts.kinds.1.1.payloads) facts.kinds.1.4 (λ z o. value_of (Send x m args) at z (or_right (nat_eq z x) (list_any (occurs z) args) o)) in
       enabled p c t 2 ActSend (record (with_thread c t (returned_unit fs)) { messages = c.messages ++ record { number = c.next_message; mailbox = a.0; tag = m; values = vs.0 } ∷ []; next_message = c.next_message + 1 }) refl
       (step_of_thread p c t s ActSend there
       ∙ ap (λ r. send_at c t fs r) (redex_is (Send x m args) at)
@@ -205,32 +205,32 @@ module _ (p : Program) (y : Typing) (c : Config) (t n : ℕ) (env : Env) (fs : L
   running_goes (Guard x e free cs) at guard =
       absurd (guard (record { node = n; env = env; frames = fs; var = x; pattern = e; free = free; receives = cs; stands = there; term = at }))
 
-pub thread_goes : (p : Program) (y : Typing) (c : Config) (t : ℕ) (k : Control) (fs : List Frame) → WellFormed p → (typed : IsTyped p y c) → thread_at c t ≡ Some (thread_of k fs) → ControlFits p y typed.interfaces k fs → (GuardAt p c t → ⊥) → can_step_thread p c t ≡ true
-thread_goes p y c t (Running n env) fs wf typed there fits guard =
-    running_goes p y c t n env fs wf typed there fits.0 fits.0.there.0 fits.0.there.1 guard
-thread_goes p y c t (Returned v) [] wf typed there fits guard =
+pub thread_goes : (p : Program) (y : Typing) (interfaces : ℕ → ℕ) (c : Config) (t : ℕ) (k : Control) (fs : List Frame) → WellFormed p → (typed : IsTyped p y interfaces c) → thread_at c t ≡ Some (thread_of k fs) → ControlFits p y interfaces k fs → (GuardAt p c t → ⊥) → can_step_thread p c t ≡ true
+thread_goes p y interfaces c t (Running n env) fs wf typed there fits guard =
+    running_goes p y interfaces c t n env fs wf typed there fits.0 fits.0.there.0 fits.0.there.1 guard
+thread_goes p y interfaces c t (Returned v) [] wf typed there fits guard =
     enabled p c t 5 ActEnd (without_thread c t) refl (step_of_thread p c t (thread_of (Returned v) []) ActEnd there)
-thread_goes p y c t (Returned v) (f ∷ fs) wf typed there fits guard =
+thread_goes p y interfaces c t (Returned v) (f ∷ fs) wf typed there fits guard =
     enabled p c t 0 ActLocal (with_thread c t (resume p f fs v)) refl (step_of_thread p c t (thread_of (Returned v) (f ∷ fs)) ActLocal there)
 
 -- ---- no fault
 
-pub not_wrong : (p : Program) (y : Typing) (c : Config) → WellFormed p → IsTyped p y c → WrongValue p c → ⊥
-not_wrong p y c wf typed (in_control t n x env fs there free off) =
-    let fits = lookup_all (λ s. ThreadFits p y typed.interfaces s) c.threads t (thread_of (Running n env) fs) typed.threads there in
-    off (part_has p typed.interfaces n [] env fits.control.0 x free refl)
-not_wrong p y c wf typed (in_frame t x s f there is_in free out off) =
-    let fits = lookup_all (λ s. ThreadFits p y typed.interfaces s) c.threads t s typed.threads there in
-    off (part_has p typed.interfaces f.body (option_list f.var) f.env (frame_has p y typed.interfaces s.frames f fits.frames is_in) x free out)
-not_wrong p y c wf typed (in_return t x v f fs k there named kind off) =
-    let fits = lookup_all (λ s. ThreadFits p y typed.interfaces s) c.threads t (thread_of (Returned v) (f ∷ fs)) typed.threads there in
-    off (returned_has p y typed.interfaces v f fs wf typed.typing fits x k named kind)
-not_wrong p y c wf typed (stuck t s there guard off) =
-    let fits = lookup_all (λ s. ThreadFits p y typed.interfaces s) c.threads t s typed.threads there in
-    clash (thread_goes p y c t s.control s.frames wf typed there fits.control guard) off
+pub not_wrong : (p : Program) (y : Typing) (interfaces : ℕ → ℕ) (c : Config) → WellFormed p → IsTyped p y interfaces c → WrongValue p c → ⊥
+not_wrong p y interfaces c wf typed (in_control t n x env fs there free off) =
+    let fits = lookup_all (λ s. ThreadFits p y interfaces s) c.threads t (thread_of (Running n env) fs) typed.threads there in
+    off (part_has p interfaces n [] env fits.control.0 x free refl)
+not_wrong p y interfaces c wf typed (in_frame t x s f there is_in free out off) =
+    let fits = lookup_all (λ s. ThreadFits p y interfaces s) c.threads t s typed.threads there in
+    off (part_has p interfaces f.body (option_list f.var) f.env (frame_has p y interfaces s.frames f fits.frames is_in) x free out)
+not_wrong p y interfaces c wf typed (in_return t x v f fs k there named kind off) =
+    let fits = lookup_all (λ s. ThreadFits p y interfaces s) c.threads t (thread_of (Returned v) (f ∷ fs)) typed.threads there in
+    off (returned_has p y interfaces v f fs wf typed.typing fits x k named kind)
+not_wrong p y interfaces c wf typed (stuck t s there guard off) =
+    let fits = lookup_all (λ s. ThreadFits p y interfaces s) c.threads t s typed.threads there in
+    clash (thread_goes p y interfaces c t s.control s.frames wf typed there fits.control guard) off
 
-pub no_fault : (p : Program) (y : Typing) (c : Config) → WellFormed p → IsTyped p y c → Fault p c → ⊥
-no_fault p y c wf typed (failing f) = not_failing p y c wf typed f
-no_fault p y c wf typed (unexpected f) = not_unexpected p y c wf typed f
-no_fault p y c wf typed (wrong f) = not_wrong p y c wf typed f
-no_fault p y c wf typed (left f) = not_left p y c typed f
+pub no_fault : (p : Program) (y : Typing) (interfaces : ℕ → ℕ) (c : Config) → WellFormed p → IsTyped p y interfaces c → Fault p c → ⊥
+no_fault p y interfaces c wf typed (failing f) = not_failing p y interfaces c wf typed f
+no_fault p y interfaces c wf typed (unexpected f) = not_unexpected p y interfaces c wf typed f
+no_fault p y interfaces c wf typed (wrong f) = not_wrong p y interfaces c wf typed f
+no_fault p y interfaces c wf typed (left f) = not_left p y interfaces c typed f

@@ -1,7 +1,8 @@
 -- Steps from a typed configuration reach no fault, and a well-formed program that can be typed is safe.
-use Rattle.std.proofs.Common.{◌≡◌, List, Some}
+use Rattle.std.proofs.Common.{◌≡◌, ℕ, List, Some}
 use Rattle.pat_model.specs.Programs.{Program}
-use Rattle.pat_model.specs.Configs.{Config}
+use Rattle.pat_model.specs.Configs.{Config, start}
+use Rattle.pat_typing.specs.Interfaces.{interfaces_along}
 use Rattle.pat_model.specs.Steps.{Step}
 use Rattle.pat_model.specs.Runs.{run_from}
 use Rattle.pat_typing.specs.Typed.{IsTyped}
@@ -12,7 +13,7 @@ use Rattle.pat_preservation_laws.proofs.Preserved.{run_keeps, run_typed}
 use Rattle.pat_safety_laws.proofs.Progress.{no_fault}
 
 pub typable_safe : (p : Program) → WellFormed p → IsTypable p → IsSafe p
-typable_safe p wf y = λ ks c h f. no_fault p y.0 c wf (run_typed p y.0 ks c wf y.1 h) f
+typable_safe p wf y = λ ks c h f. no_fault p y.0 (interfaces_along p (start p) ks (λ a. 0)) c wf (run_typed p y.0 (λ a. 0) ks c wf y.1 h) f
 
-pub typed_stays : (p : Program) (y : Typing) (ks : List Step) (c d : Config) → WellFormed p → IsTyped p y c → run_from p c ks ≡ Some d → Fault p d → ⊥
-typed_stays p y ks c d wf typed h f = no_fault p y d wf (run_keeps p y ks c d wf typed h) f
+pub typed_stays : (p : Program) (y : Typing) (interfaces : ℕ → ℕ) (ks : List Step) (c d : Config) → WellFormed p → IsTyped p y interfaces c → run_from p c ks ≡ Some d → Fault p d → ⊥
+typed_stays p y interfaces ks c d wf typed h f = no_fault p y (interfaces_along p c ks interfaces) d wf (run_keeps p y interfaces ks c d wf typed h) f

@@ -12,16 +12,16 @@ use Rattle.pat_typing.specs.Typings.{Typing, IsTypable}
 use Rattle.pat_typing.specs.Typed.{IsTyped, ThreadFits, ControlFits}
 use Rattle.pat_model_laws.proofs.Lists.{clash}
 use Rattle.pat_model_laws.proofs.Enabled.{some_key, found_step}
-use Rattle.pat_preservation_laws.proofs.Threads.{lookup_all}
+use Rattle.pat_model_laws.proofs.Threads.{lookup_all}
 use Rattle.pat_preservation_laws.proofs.Preserved.{run_typed}
 use Rattle.pat_safety_laws.proofs.Progress.{thread_goes}
 use Rattle.pat_words.specs.Patterns.{Pat}
 
 -- a thread that doesn't stand at a guard has an enabled step
-others_go : (p : Program) (y : Typing) (c : Config) → WellFormed p → IsTyped p y c → can_step p c ≡ false → (t : ℕ) (s : Thread) → thread_at c t ≡ Some s → (GuardAt p c t → ⊥) → ⊥
-others_go p y c wf typed off t s there guard =
-    let fits = lookup_all (λ s. ThreadFits p y typed.interfaces s) c.threads t s typed.threads there in
-    let goes = thread_goes p y c t s.control s.frames wf typed there fits.control guard in
+others_go : (p : Program) (y : Typing) (interfaces : ℕ → ℕ) (c : Config) → WellFormed p → IsTyped p y interfaces c → can_step p c ≡ false → (t : ℕ) (s : Thread) → thread_at c t ≡ Some s → (GuardAt p c t → ⊥) → ⊥
+others_go p y interfaces c wf typed off t s there guard =
+    let fits = lookup_all (λ s. ThreadFits p y interfaces s) c.threads t s typed.threads there in
+    let goes = thread_goes p y interfaces c t s.control s.frames wf typed there fits.control guard in
     clash (some_key (can_step_thread p c) c.threads t s there goes) off
 
 no_other : (p : Program) (c : Config) (t : ℕ) (s : Thread) → thread_at c t ≡ Some s → ((n : ℕ) (env : Env) (x : ℕ) (e : Pat) (free : Option ℕ) (cs : List Clause) → s.control ≡ Running n env → core_at p n ≡ Some (Guard x e free cs) → ⊥) → GuardAt p c t → ⊥
@@ -32,9 +32,9 @@ no_other p c t s there off g =
     some_same : {A : Type 0} {x z : A} → Some x ≡ Some z → x ≡ z
     some_same h = cc
 
-pub waits : (p : Program) (y : Typing) (c : Config) → WellFormed p → (typed : IsTyped p y c) → can_step p c ≡ false → (t : ℕ) (s : Thread) → thread_at c t ≡ Some s → GuardAt p c t
-waits p y c wf typed off t s there =
-    let fits = lookup_all (λ s. ThreadFits p y typed.interfaces s) c.threads t s typed.threads there in
+pub waits : (p : Program) (y : Typing) (interfaces : ℕ → ℕ) (c : Config) → WellFormed p → (typed : IsTyped p y interfaces c) → can_step p c ≡ false → (t : ℕ) (s : Thread) → thread_at c t ≡ Some s → GuardAt p c t
+waits p y interfaces c wf typed off t s there =
+    let fits = lookup_all (λ s. ThreadFits p y interfaces s) c.threads t s typed.threads there in
     by_control s.control refl fits.control
   where
     by_core : (n : ℕ) (env : Env) (core : Core) → s.control ≡ Running n env → core_at p n ≡ Some core → GuardAt p c t
@@ -49,24 +49,24 @@ waits p y c wf typed off t s there =
       stands = there ∙ ap (λ k. Some (thread_of k s.frames)) is;
       term = at;
     }
-    by_core n env (Val v) is at = absurd (others_go p y c wf typed off t s there (no_other p c t s there (λ m e x q f cs is' at'. cc)))
-    by_core n env (Let x a b) is at = absurd (others_go p y c wf typed off t s there (no_other p c t s there (λ m e x q f cs is' at'. cc)))
-    by_core n env (Call f args) is at = absurd (others_go p y c wf typed off t s there (no_other p c t s there (λ m e x q f cs is' at'. cc)))
-    by_core n env (If v a b) is at = absurd (others_go p y c wf typed off t s there (no_other p c t s there (λ m e x q f cs is' at'. cc)))
-    by_core n env (Print v) is at = absurd (others_go p y c wf typed off t s there (no_other p c t s there (λ m e x q f cs is' at'. cc)))
-    by_core n env (New i) is at = absurd (others_go p y c wf typed off t s there (no_other p c t s there (λ m e x q f cs is' at'. cc)))
-    by_core n env (Send x m args) is at = absurd (others_go p y c wf typed off t s there (no_other p c t s there (λ m e x q f cs is' at'. cc)))
-    by_core n env (Spawn m) is at = absurd (others_go p y c wf typed off t s there (no_other p c t s there (λ m e x q f cs is' at'. cc)))
+    by_core n env (Val v) is at = absurd (others_go p y interfaces c wf typed off t s there (no_other p c t s there (λ m e x q f cs is' at'. cc)))
+    by_core n env (Let x a b) is at = absurd (others_go p y interfaces c wf typed off t s there (no_other p c t s there (λ m e x q f cs is' at'. cc)))
+    by_core n env (Call f args) is at = absurd (others_go p y interfaces c wf typed off t s there (no_other p c t s there (λ m e x q f cs is' at'. cc)))
+    by_core n env (If v a b) is at = absurd (others_go p y interfaces c wf typed off t s there (no_other p c t s there (λ m e x q f cs is' at'. cc)))
+    by_core n env (Print v) is at = absurd (others_go p y interfaces c wf typed off t s there (no_other p c t s there (λ m e x q f cs is' at'. cc)))
+    by_core n env (New i) is at = absurd (others_go p y interfaces c wf typed off t s there (no_other p c t s there (λ m e x q f cs is' at'. cc)))
+    by_core n env (Send x m args) is at = absurd (others_go p y interfaces c wf typed off t s there (no_other p c t s there (λ m e x q f cs is' at'. cc)))
+    by_core n env (Spawn m) is at = absurd (others_go p y interfaces c wf typed off t s there (no_other p c t s there (λ m e x q f cs is' at'. cc)))
 
-    by_control : (k : Control) → s.control ≡ k → ControlFits p y typed.interfaces s.control s.frames → GuardAt p c t
+    by_control : (k : Control) → s.control ≡ k → ControlFits p y interfaces s.control s.frames → GuardAt p c t
     by_control (Running n env) is fits =
-        let part = subst (λ k. ControlFits p y typed.interfaces k s.frames) is fits in
+        let part = subst (λ k. ControlFits p y interfaces k s.frames) is fits in
         by_core n env part.0.there.0 is part.0.there.1
-    by_control (Returned v) is fits = absurd (others_go p y c wf typed off t s there (no_other p c t s there (λ m e x q f cs is' at'. cc)))
+    by_control (Returned v) is fits = absurd (others_go p y interfaces c wf typed off t s there (no_other p c t s there (λ m e x q f cs is' at'. cc)))
 
 pub run_waits : (p : Program) (ks : List Step) (c : Config) (t : ℕ) (s : Thread) → WellFormed p → IsTypable p → run p ks ≡ Some c → ((k : Step) → step p c k ≡ None) → thread_at c t ≡ Some s → GuardAt p c t
 run_waits p ks c t s wf y h none there =
-    waits p y.0 c wf (run_typed p y.0 ks c wf y.1 h)
+    waits p y.0 _ c wf (run_typed p y.0 (λ a. 0) ks c wf y.1 h)
     (false_from_ne_true (can_step p c) (λ on. let k = found_step p c on in some_none (sym (none k.0) ∙ k.1.1))) t s there
   where
     some_none : {A : Type 0} {x : A} → None ≡ Some x → ⊥

@@ -11,12 +11,12 @@ use Rattle.pat_typing.specs.Typed.{IsTyped}
 
 -- nothing has gone wrong in a typed configuration
 abbrev pub TypedHasNoFault : Type 0
-TypedHasNoFault = (p : Program) (y : Typing) (c : Config) → WellFormed p → IsTyped p y c → Fault p c → ⊥
+TypedHasNoFault = (p : Program) (y : Typing) (interfaces : ℕ → ℕ) (c : Config) → WellFormed p → IsTyped p y interfaces c → Fault p c → ⊥
 
 -- nor does anything go wrong in what steps from a typed configuration lead to
 abbrev pub TypedStaysSafe : Type 0
 TypedStaysSafe =
-    (p : Program) (y : Typing) (ks : List Step) (c d : Config) → WellFormed p → IsTyped p y c → run_from p c ks ≡ Some d → Fault p d → ⊥
+    (p : Program) (y : Typing) (interfaces : ℕ → ℕ) (ks : List Step) (c d : Config) → WellFormed p → IsTyped p y interfaces c → run_from p c ks ≡ Some d → Fault p d → ⊥
 
 -- a well-formed program that can be typed is safe
 abbrev pub TypableIsSafe : Type 0
