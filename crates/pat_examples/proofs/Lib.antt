@@ -1,8 +1,8 @@
-pub mod Tests
-pub mod Inclusion
-pub mod KindTests
-pub mod FitTests
-pub mod TypeTests
-pub mod SafePrograms
-pub mod Histories
-pub mod UnsafePrograms
+mod Tests
+mod Inclusion
+mod KindTests
+mod FitTests
+mod TypeTests
+mod SafePrograms
+mod Histories
+mod UnsafePrograms

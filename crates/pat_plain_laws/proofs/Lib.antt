@@ -1,2 +1,3 @@
+-- for others: programs without mailboxes
 pub mod Typable
 pub mod Straight

@@ -1,5 +1,5 @@
 -- The values of expressions: their kinds, and the mailboxes among them.
-use Rattle.std.proofs.Common.{◌≡◌, ℕ, suc, true, false, nat_eq, List, [], ◌∷◌, map, Option, Some, None, refl, sym, ap, ◌∙◌, subst, ⊎_elim, arith, zero, ◌+◌, if◌then◌else◌, ◌||◌, ◌<◌, length, take}
+use Rattle.std.proofs.Common.{◌≡◌, ℕ, suc, true, false, nat_eq, List, [], ◌∷◌, map, Option, Some, None, refl, sym, ap, ◌∙◌, subst, ⊎_elim, arith, zero, ◌+◌, if◌then◌else◌, ◌||◌, ◌<◌, length}
 use Rattle.std.specs.Prelude.{is_some, slice_get, option_map}
 use Rattle.std.specs.List.{AllByRecursion, IsDistinct, list_any}
 use Rattle.std.proofs.lemmas.Bool.{or_cases, eqb-true, eqb-false, ne_eqb, cond-true, cond-false, false_from_ne_true, eq-eqb, or_left, or_right}
@@ -12,8 +12,9 @@ use Rattle.pat_typing.specs.Typings.{with_option, args_need, mailbox_args, if_ma
 use Rattle.pat_typing.specs.Holdings.{payload_held, held}
 use Rattle.pat_typing.specs.Typed.{mailboxes_of}
 use Rattle.pat_preservation_laws.proofs.Refers.{is_mailbox_same, name_is, payload_none}
-use Rattle.pat_preservation_laws.proofs.Payloads.{option_here, option_there, names_head, names_tail}
-use Rattle.pat_preservation_laws.proofs.Named.{PlacesTyped}
+use Rattle.pat_typing_laws.proofs.Environments.{option_here, option_there}
+use Rattle.pat_preservation_laws.proofs.Payloads.{names_head, names_tail}
+use Rattle.pat_typing_laws.proofs.Named.{PlacesTyped}
 use Rattle.pat_model_laws.proofs.Lists.{distinct_parts}
 use Rattle.pat_model.specs.Steps.{numbered}
 use Rattle.pat_preservation_laws.proofs.Envs.{held_cases, HeldCases, by_variable, by_none}
@@ -281,12 +282,6 @@ fit_kind f [] ks z v h at = cc
 fit_kind f (w ∷ vs) [] z v h at = absurd h
 fit_kind f (w ∷ vs) (k ∷ ks) zero v h at = let same : w ≡ v = cc in (k, refl, subst (λ u. ValueFits f u k) same h.0)
 fit_kind f (w ∷ vs) (k ∷ ks) (suc z) v h at = fit_kind f vs ks z v h.1 at
-
-pub take_at : (n : ℕ) (ks : List Kind) (z : ℕ) (k : Kind) → slice_get (take n ks) z ≡ Some k → slice_get ks z ≡ Some k
-take_at zero ks z k h = cc
-take_at (suc n) [] z k h = cc
-take_at (suc n) (x ∷ ks) zero k h = h
-take_at (suc n) (x ∷ ks) (suc z) k h = take_at n ks z k h
 
 -- ---- what is held of arguments
 

@@ -13,15 +13,17 @@ use Rattle.pat_typing.specs.Holdings.{held, control_held, payload_held, wanted}
 use Rattle.pat_typing.specs.Typed.{IsTyped, ThreadFits, ControlFits, PartFits, mailboxes_of}
 use Rattle.pat_model_laws.proofs.Threads.{lookup_all}
 use Rattle.pat_model_laws.proofs.Inversion.{StandsAt}
-use Rattle.pat_preservation_laws.proofs.Nodes.{NodeFacts, node_facts}
+use Rattle.pat_typing_laws.proofs.Nodes.{NodeFacts, node_facts}
 use Rattle.pat_preservation_laws.proofs.Refers.{value_refers}
-use Rattle.pat_preservation_laws.proofs.Named.{params_typed, env_fits}
-use Rattle.pat_preservation_laws.proofs.Unused.{unused_drops}
+use Rattle.pat_typing_laws.proofs.Named.{params_typed}
+use Rattle.pat_preservation_laws.proofs.Envs.{env_fits}
+use Rattle.pat_typing_laws.proofs.Unused.{unused_drops}
 use Rattle.pat_preservation_laws.proofs.Narrow.{Narrowed, keep_narrows, narrow_refers, narrow_passes}
 use Rattle.pat_preservation_laws.proofs.Moves.{Move, move_keeps}
-use Rattle.pat_preservation_laws.proofs.Args.{all_fit, args_refer, names_distinct, place_at, numbered_held, numbered_refers, places_apart, fit_some, fit_kind, take_at, args_pass}
+use Rattle.pat_preservation_laws.proofs.Args.{all_fit, args_refer, names_distinct, place_at, numbered_held, numbered_refers, places_apart, fit_some, fit_kind, args_pass}
+use Rattle.pat_typing_laws.proofs.Environments.{take_at}
 use Rattle.pat_model_laws.proofs.Ascending.{numbered_ascends}
-use Rattle.pat_preservation_laws.proofs.Passing.{passes_twice, type_twice}
+use Rattle.pat_typing_laws.proofs.Passing.{passes_twice, type_twice}
 
 -- ---- the step
 

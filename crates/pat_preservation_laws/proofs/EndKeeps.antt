@@ -14,7 +14,8 @@ use Rattle.pat_model_laws.proofs.Threads.{lookup_all, remove_all, remove_any}
 use Rattle.pat_preservation_laws.proofs.ThreadHoldings.{cut_thread}
 use Rattle.pat_model_laws.proofs.Ordered.{without_ordered}
 use Rattle.pat_model_laws.proofs.Inversion.{step_of, EndStep, end_value, end_return, end_step}
-use Rattle.pat_preservation_laws.proofs.Nodes.{node_facts, held_all}
+use Rattle.pat_typing_laws.proofs.Nodes.{node_facts}
+use Rattle.pat_preservation_laws.proofs.Envs.{held_all}
 
 -- ---- what the ended thread held may be dropped
 

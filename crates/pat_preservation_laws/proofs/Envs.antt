@@ -1,5 +1,5 @@
 -- Look-ups in environments, and what an environment holds of a mailbox.
-use Rattle.std.proofs.Common.{◌≡◌, ℕ, suc, Bool, true, false, cond, nat_eq, nat_lt, if◌then◌else◌, [], ◌∷◌, Some, None, refl, sym, ap, ◌∙◌, arith, ⊎_elim}
+use Rattle.std.proofs.Common.{◌≡◌, ℕ, suc, Bool, true, false, cond, nat_eq, nat_lt, if◌then◌else◌, [], ◌∷◌, Some, None, refl, sym, ap, ◌∙◌, arith, ⊎_elim, subst}
 use Rattle.std.specs.Prelude.{filter}
 use Rattle.std.specs.Map.{lookup}
 use Rattle.std.proofs.lemmas.Bool.{eqb-true, eqb-false, eq-eqb, ne_eqb, cond-true, cond-false, cases_Bool}
@@ -12,8 +12,14 @@ use Rattle.pat_preservation_laws.proofs.Refers.{is_mailbox_same, name_is}
 use Rattle.pat_model.specs.Orders.{AscendsFrom}
 use Rattle.std.specs.Map.{keys_of}
 use Rattle.pat_model_laws.proofs.Ascending.{value_above}
-
--- ---- ascending environments
+use Rattle.std.specs.Prelude.{slice_get}
+use Rattle.pat_model.specs.Values.{Kind, ValueFits}
+use Rattle.pat_model.specs.Programs.{Core}
+use Rattle.pat_typing.specs.Holdings.{Holding}
+use Rattle.pat_typing.specs.Typings.{Typing}
+use Rattle.pat_typing.specs.Typed.{PartFits}
+use Rattle.pat_typing_laws.proofs.Nodes.{NodeFacts}
+use Rattle.pat_typing_laws.proofs.Named.{kind_same}
 
 -- ---- look-ups
 
@@ -103,3 +109,20 @@ held_cases g b n (e ∷ env) a =
     (λ found. by_variable e.0 (cond-true (nat_eq e.0 e.0) (Some e.1) (lookup (nat_eq e.0) env) (eq-eqb e.0 e.0 refl) ∙ ap (λ v. Some v) (is_mailbox_same b e.1 found)) (cond-true (is_mailbox b e.1) (g e.0) (held g b env) found))
     (λ off. held_on g b e env a.1 off (held_cases g b (suc e.0) env a.1))
     (cases_Bool (is_mailbox b e.1))
+
+-- what holds of no holding and of each variable's type holds of what an environment holds
+pub held_all : (g : TypeEnv) (b : ℕ) (P : Holding → Type 0) → P None → ((x : ℕ) → P (g x)) → (env : Env) → P (held g b env)
+held_all g b P none each [] = none
+held_all g b P none each (e ∷ env) =
+    elim (is_mailbox b e.1) as (λ v. P (if v then g e.0 else held g b env)) [
+      | true ↦ each e.0
+      | false ↦ held_all g b P none each env
+    ]
+
+-- a variable's value is of the variable's kind
+pub env_fits : (p : Program) (y : Typing) (interfaces : ℕ → ℕ) (n : ℕ) (core : Core) (env : Env) (facts : NodeFacts p y n core) → PartFits p interfaces n [] env → (x : ℕ) (v : Value) (k : Kind) → value_at env x ≡ Some v → slice_get facts.fits.function.vars x ≡ Some k → ValueFits interfaces v k
+env_fits p y f n core env facts part x v k at is =
+    let h = part.kinds x v at in
+    let e : Some h.0 ≡ Some k = sym (kind_same p y n x h.0 core facts h.1) ∙ is in
+    let same : h.0 ≡ k = cc in
+    subst (λ w. ValueFits f v w) same h.2

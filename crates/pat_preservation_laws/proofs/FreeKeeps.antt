@@ -15,9 +15,9 @@ use Rattle.pat_typing.specs.Holdings.{Holding, held, control_held, wanted}
 use Rattle.pat_typing.specs.Typed.{IsTyped, ThreadFits, ControlFits, PartFits, NumbersFit, KeepsFrom, frames_refer}
 use Rattle.pat_model_laws.proofs.Threads.{lookup_all, lookup_any, set_all, set_other, other_any}
 use Rattle.pat_model_laws.proofs.Inversion.{step_of, FreeStep, free_step, after_free}
-use Rattle.pat_preservation_laws.proofs.Nodes.{NodeFacts, node_facts, part_core}
+use Rattle.pat_typing_laws.proofs.Nodes.{NodeFacts, node_facts, part_core}
 use Rattle.pat_preservation_laws.proofs.Envs.{held_cases, HeldCases, by_variable, by_none}
-use Rattle.pat_preservation_laws.proofs.Unused.{unused_drops}
+use Rattle.pat_typing_laws.proofs.Unused.{unused_drops}
 use Rattle.pat_preservation_laws.proofs.Narrow.{Narrowed, keep_narrows, narrow_refers, narrow_passes, part_named, refers_value, passes_returnable, usage_back}
 use Rattle.pat_preservation_laws.proofs.Moves.{move_balanced, goes_on}
 use Rattle.pat_model_laws.proofs.Lists.{clash, not_true, all_filter}

@@ -11,7 +11,7 @@ use Rattle.pat_typing.specs.Typings.{Typing}
 use Rattle.pat_typing.specs.Typed.{IsTyped, ThreadFits}
 use Rattle.pat_model_laws.proofs.Threads.{lookup_all}
 use Rattle.pat_model_laws.proofs.Inversion.{StandsAt}
-use Rattle.pat_preservation_laws.proofs.Nodes.{node_facts}
+use Rattle.pat_typing_laws.proofs.Nodes.{node_facts}
 use Rattle.pat_preservation_laws.proofs.Moves.{move_keeps, part_move}
 
 -- the law for a choice

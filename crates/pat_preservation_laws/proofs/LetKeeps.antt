@@ -21,15 +21,15 @@ use Rattle.pat_model_laws.proofs.Threads.{lookup_all}
 use Rattle.pat_preservation_laws.proofs.ThreadHoldings.{split_thread}
 use Rattle.pat_model_laws.proofs.Inversion.{StandsAt}
 use Rattle.pat_preservation_laws.proofs.Replace.{replace_keeps}
-use Rattle.pat_preservation_laws.proofs.Nodes.{NodeFacts, node_facts, part_core}
+use Rattle.pat_typing_laws.proofs.Nodes.{NodeFacts, node_facts, part_core}
 use Rattle.pat_preservation_laws.proofs.Envs.{held_cases, HeldCases, by_variable, by_none}
-use Rattle.pat_preservation_laws.proofs.Named.{part_kind}
-use Rattle.pat_preservation_laws.proofs.Unused.{unused_drops}
+use Rattle.pat_typing_laws.proofs.Named.{part_kind}
+use Rattle.pat_typing_laws.proofs.Unused.{unused_drops}
 use Rattle.pat_preservation_laws.proofs.Narrow.{Narrowed, keep_narrows, filter_narrows, narrow_twice, narrow_refers, narrow_part, NarrowCases, stays, goes, absent, narrow_cases, part_named, refers_value, usage_back}
 use Rattle.pat_preservation_laws.proofs.Bound.{body_bound, body_among}
 use Rattle.pat_preservation_laws.proofs.Frames.{one_to_two}
 use Rattle.pat_model_laws.proofs.Lists.{clash}
-use Rattle.pat_preservation_laws.proofs.Passing.{passes_drop, type_same}
+use Rattle.pat_typing_laws.proofs.Passing.{passes_drop, type_same}
 use Rattle.pat_preservation_laws.proofs.Moves.{goes_on}
 
 -- ---- what is divided, where one of the parts may drop it

@@ -1,38 +1,35 @@
-pub mod Passing
+-- for others: what no fault and the endings are proved from
 pub mod Balance
-pub mod SplitBalance
 pub mod Refers
 pub mod ThreadHoldings
-pub mod Messages
 pub mod Envs
-pub mod Unbound
-pub mod Nodes
-pub mod Named
-pub mod Unused
 pub mod Narrow
-pub mod Replace
-pub mod Moves
 pub mod Frames
 pub mod Bound
-pub mod Payloads
 pub mod Args
-pub mod Agree
-pub mod Interfaces
-pub mod StartTyped
-pub mod PrintKeeps
-pub mod IfKeeps
-pub mod EndKeeps
-pub mod SpawnKeeps
-pub mod FreeKeeps
-pub mod NewKeeps
 pub mod Received
-pub mod ReceiveHoldings
-pub mod ReceiveBalance
-pub mod ReceiveKeeps
-pub mod ReturnKeeps
-pub mod LetKeeps
-pub mod ValueKeeps
-pub mod CallKeeps
-pub mod LocalKeeps
-pub mod SendKeeps
 pub mod Preserved
+-- the crate's own
+mod SplitBalance
+mod Messages
+mod Replace
+mod Moves
+mod Payloads
+mod Agree
+mod Interfaces
+mod StartTyped
+mod PrintKeeps
+mod IfKeeps
+mod EndKeeps
+mod SpawnKeeps
+mod FreeKeeps
+mod NewKeeps
+mod ReceiveHoldings
+mod ReceiveBalance
+mod ReceiveKeeps
+mod ReturnKeeps
+mod LetKeeps
+mod ValueKeeps
+mod CallKeeps
+mod LocalKeeps
+mod SendKeeps

@@ -16,9 +16,9 @@ use Rattle.pat_preservation_laws.proofs.Replace.{replace_keeps}
 use Rattle.pat_preservation_laws.proofs.Narrow.{keeps_passes, Narrowed, keep_narrows, narrow_part, narrow_refers, narrow_passes}
 use Rattle.pat_model.specs.Values.{Env}
 use Rattle.pat_model.specs.WellFormed.{WellFormed}
-use Rattle.pat_preservation_laws.proofs.Nodes.{part_core}
-use Rattle.pat_preservation_laws.proofs.Named.{part_kind}
-use Rattle.pat_preservation_laws.proofs.Unused.{unused_drops}
+use Rattle.pat_typing_laws.proofs.Nodes.{part_core}
+use Rattle.pat_typing_laws.proofs.Named.{part_kind}
+use Rattle.pat_typing_laws.proofs.Unused.{unused_drops}
 
 -- the new control has what the old one had, and no more
 pub record Move (p : Program) (y : Typing) (interfaces : ℕ → ℕ) (s : Thread) (k : Control) : Type 0 where

@@ -14,9 +14,9 @@ use Rattle.pat_typing.specs.Typed.{PartFits, KeepsFrom}
 use Rattle.pat_preservation_laws.proofs.Refers.{is_mailbox_same, value_refers}
 use Rattle.pat_preservation_laws.proofs.Envs.{value_at-keep, kept, held_cases, HeldCases, by_variable, by_none, value_at-filter}
 use Rattle.pat_model_laws.proofs.Ascending.{ascends_filter, value_above}
-use Rattle.pat_preservation_laws.proofs.Named.{free_named}
+use Rattle.pat_typing_laws.proofs.Named.{free_named}
 use Rattle.pat_model_laws.proofs.Lists.{not_true}
-use Rattle.pat_preservation_laws.proofs.Passing.{passes_drop}
+use Rattle.pat_typing_laws.proofs.Passing.{passes_drop}
 use Rattle.pat_model.specs.Orders.{AscendsFrom}
 use Rattle.std.specs.Map.{keys_of}
 

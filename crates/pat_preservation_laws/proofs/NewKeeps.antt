@@ -18,7 +18,8 @@ use Rattle.pat_preservation_laws.proofs.Balance.{passes_refine, balance_back}
 use Rattle.pat_model_laws.proofs.Threads.{lookup_all, lookup_any, set_all, set_any}
 use Rattle.pat_preservation_laws.proofs.ThreadHoldings.{split_thread, replace_one}
 use Rattle.pat_model_laws.proofs.Inversion.{step_of, new_step}
-use Rattle.pat_preservation_laws.proofs.Nodes.{node_facts, held_all, fits_kind}
+use Rattle.pat_typing_laws.proofs.Nodes.{node_facts, fits_kind}
+use Rattle.pat_preservation_laws.proofs.Envs.{held_all}
 use Rattle.pat_preservation_laws.proofs.Refers.{AllNone, none-append, none_receivers, none_choice, threads_none, frames_none, messages_none}
 use Rattle.pat_preservation_laws.proofs.Agree.{AgreeOn, touches, threads_agree, messages_agree, messages_held, frames_agree}
 use Rattle.pat_model_laws.proofs.Lists.{clash, among_below, any-append, any_first, any_last}

@@ -1,18 +1,19 @@
 -- The payloads of a received message, under the names of a clause.
-use Rattle.std.proofs.Common.{◌≡◌, ℕ, suc, true, false, ◌||◌, nat_eq, if◌then◌else◌, List, [], ◌∷◌, length, Option, Some, None, refl, sym, ap, ◌∙◌, subst, arith, ⊎_elim, IsTrue}
+use Rattle.std.proofs.Common.{◌≡◌, ℕ, suc, true, false, ◌||◌, nat_eq, if◌then◌else◌, List, [], ◌∷◌, length, Some, refl, sym, ap, ◌∙◌, subst, arith, ⊎_elim, IsTrue}
 use Rattle.std.specs.Prelude.{is_some}
 use Rattle.std.specs.List.{AllByRecursion, IsDistinct, list_any}
 use Rattle.std.proofs.lemmas.Bool.{eqb-true, eq-eqb, cond-true, cond-false, cases_Bool, or_parts, or_cases, or_left, or_right}
 use Rattle.pat_model.specs.Values.{Value, Const, Mailbox, Env, value_at, bind_all}
 use Rattle.pat_model.specs.Programs.{is_among}
 use Rattle.pat_model.specs.Configs.{is_mailbox}
-use Rattle.pat_typing.specs.Types.{MailboxType, TypeEnv}
-use Rattle.pat_typing.specs.Typings.{with_option, with_payloads}
+use Rattle.pat_typing.specs.Types.{TypeEnv}
+use Rattle.pat_typing.specs.Typings.{with_payloads}
 use Rattle.pat_typing.specs.Holdings.{payload_held}
 use Rattle.pat_typing.specs.Typed.{mailboxes_of}
 use Rattle.pat_preservation_laws.proofs.Refers.{is_mailbox_same, name_is}
 use Rattle.pat_preservation_laws.proofs.Envs.{value_at-bind}
 use Rattle.pat_model_laws.proofs.Lists.{ne_turn, distinct_parts}
+use Rattle.pat_typing_laws.proofs.Environments.{option_here, option_there}
 
 -- a place whose value is a mailbox has a type
 abbrev pub HaveTypes : TypeEnv → ℕ → List Value → Type 0
@@ -38,22 +39,6 @@ names_head b vs d = apart_from b vs d.0
 types_tail : (types : TypeEnv) (k : ℕ) (v : Value) (vs : List Value) → HaveTypes types k (v ∷ vs) → HaveTypes types (suc k) vs
 types_tail types k (Const c) vs h = h
 types_tail types k (Mailbox a) vs h = h.1
-
--- the type at the first place, for its variable
-pub option_here : (x : ℕ) (o : Option MailboxType) (g : TypeEnv) (z : ℕ) → is_some o ≡ true → nat_eq x z ≡ true → with_option x o g z ≡ o
-option_here x None g z s h = cc
-option_here x (Some a) g z s h = cond-true (nat_eq x z) (Some a) (g z) h
-
-pub option_there : (x : ℕ) (o : Option MailboxType) (g : TypeEnv) (z : ℕ) → nat_eq x z ≡ false → with_option x o g z ≡ g z
-option_there x None g z h = refl
-option_there x (Some a) g z h = cond-false (nat_eq x z) (Some a) (g z) h
-
--- a variable that is none of the names keeps its type and its value
-pub payloads_off : (types : TypeEnv) (k : ℕ) (xs : List ℕ) (g : TypeEnv) (z : ℕ) → is_among z xs ≡ false → with_payloads types k xs g z ≡ g z
-payloads_off types k [] g z h = refl
-payloads_off types k (x ∷ xs) g z h =
-    let p = or_parts (nat_eq z x) (is_among z xs) h in
-    option_there x (types k) (with_payloads types (suc k) xs g) z (ne_turn z x p.0) ∙ payloads_off types (suc k) xs g z p.1
 
 pub value_off : (env : Env) (xs : List ℕ) (vs : List Value) (z : ℕ) → is_among z xs ≡ false → value_at (bind_all env xs vs) z ≡ value_at env z
 value_off env [] vs z h = refl

@@ -11,7 +11,8 @@ use Rattle.pat_typing.specs.Holdings.{control_held}
 use Rattle.pat_typing.specs.Typed.{IsTyped, ThreadFits}
 use Rattle.pat_model_laws.proofs.Threads.{lookup_all}
 use Rattle.pat_model_laws.proofs.Inversion.{step_of, print_step}
-use Rattle.pat_preservation_laws.proofs.Nodes.{node_facts, held_all}
+use Rattle.pat_typing_laws.proofs.Nodes.{node_facts}
+use Rattle.pat_preservation_laws.proofs.Envs.{held_all}
 use Rattle.pat_preservation_laws.proofs.Replace.{printed_keeps, unit_fits}
 use Rattle.pat_preservation_laws.proofs.Moves.{move_keeps}
 

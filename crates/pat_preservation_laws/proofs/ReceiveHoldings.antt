@@ -19,9 +19,10 @@ use Rattle.pat_preservation_laws.proofs.Balance.{Refines, active, refine_balance
 use Rattle.pat_preservation_laws.proofs.Refers.{payload_none}
 use Rattle.pat_preservation_laws.proofs.Envs.{value_at-bind, kept, held_cases, HeldCases, by_variable, by_none, value_at-keep}
 use Rattle.pat_model_laws.proofs.Ascending.{ascends_bind, ascends_bind_all, ascends_filter}
-use Rattle.pat_preservation_laws.proofs.Payloads.{HaveTypes, payloads_off, value_off, PayloadCases, of_env, of_payload, payload_cases, PayloadPlace, payload_place, names_head}
+use Rattle.pat_preservation_laws.proofs.Payloads.{HaveTypes, value_off, PayloadCases, of_env, of_payload, payload_cases, PayloadPlace, payload_place, names_head}
+use Rattle.pat_typing_laws.proofs.Environments.{payloads_off}
 use Rattle.pat_model_laws.proofs.Lists.{clash, ne_turn, any_first, any_last}
-use Rattle.pat_preservation_laws.proofs.Passing.{drop_back, passes_drop}
+use Rattle.pat_typing_laws.proofs.Passing.{drop_back, passes_drop}
 use Rattle.pat_model.specs.Orders.{AscendsFrom}
 use Rattle.std.specs.Map.{keys_of}
 

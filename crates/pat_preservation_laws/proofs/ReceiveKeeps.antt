@@ -16,13 +16,13 @@ use Rattle.pat_typing.specs.Holdings.{Holding, held, control_held, payload_held,
 use Rattle.pat_typing.specs.Typed.{IsTyped, ThreadFits, MessageFits, NumbersFit, ControlFits, PartFits, KeepsFrom, frames_refer}
 use Rattle.pat_model_laws.proofs.Threads.{lookup_all, lookup_any, set_all, set_any}
 use Rattle.pat_model_laws.proofs.Inversion.{step_of, ReceiveStep, receive_step}
-use Rattle.pat_preservation_laws.proofs.Nodes.{NodeFacts, node_facts, part_core}
+use Rattle.pat_typing_laws.proofs.Nodes.{NodeFacts, node_facts, part_core}
 use Rattle.pat_preservation_laws.proofs.Refers.{value_refers}
 use Rattle.pat_preservation_laws.proofs.Envs.{value_at-bind, value_at-keep, kept, held_cases, HeldCases, by_variable, by_none}
 use Rattle.pat_preservation_laws.proofs.Payloads.{names_head, payload_place, names_tail}
-use Rattle.pat_preservation_laws.proofs.Named.{free_named, kind_same, part_kind, payloads_typed, tag_payloads}
+use Rattle.pat_typing_laws.proofs.Named.{free_named, kind_same, part_kind, payloads_typed, tag_payloads}
 use Rattle.pat_preservation_laws.proofs.Narrow.{usage_back, refers_value}
-use Rattle.pat_preservation_laws.proofs.Unused.{unused_drops}
+use Rattle.pat_typing_laws.proofs.Unused.{unused_drops}
 use Rattle.pat_preservation_laws.proofs.Messages.{others, take_message, found_all, found_message_any}
 use Rattle.pat_preservation_laws.proofs.ReceiveHoldings.{Receipt, BodyCases, is_from, is_payload, is_env, body_cases, own_old, kept_ascends, passes_env, still, has_payload}
 use Rattle.pat_preservation_laws.proofs.ReceiveBalance.{after_receive, receive_balanced}

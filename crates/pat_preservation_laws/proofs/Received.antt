@@ -15,7 +15,7 @@ use Rattle.pat_typing.specs.Typed.{mailboxes_of}
 use Rattle.pat_preservation_laws.proofs.Refers.{name_is}
 use Rattle.pat_preservation_laws.proofs.Envs.{value_at-bind}
 use Rattle.pat_preservation_laws.proofs.Payloads.{HaveTypes, names_head, names_tail}
-use Rattle.pat_preservation_laws.proofs.Named.{PlacesTyped}
+use Rattle.pat_typing_laws.proofs.Named.{PlacesTyped}
 use Rattle.pat_model_laws.proofs.Lists.{any_first, any_last}
 
 -- ---- the clause of a message

@@ -10,7 +10,7 @@ use Rattle.pat_typing.specs.Typings.{Typing}
 use Rattle.pat_typing.specs.Holdings.{wanted, holdings, Balanced}
 use Rattle.pat_typing.specs.Typed.{IsTyped, ThreadFits, ControlFits, FramesFit}
 use Rattle.pat_model_laws.proofs.Threads.{set_all, lookup_any, set_any}
-use Rattle.pat_preservation_laws.proofs.Nodes.{fits_kind}
+use Rattle.pat_typing_laws.proofs.Nodes.{fits_kind}
 use Rattle.std.proofs.lemmas.Bool.{or_right}
 use Rattle.pat_model.specs.Orders.{AscendsFrom, ControlIsOrdered, ThreadIsOrdered}
 use Rattle.pat_model_laws.proofs.Ordered.{with_ordered, printed_ordered}

@@ -15,18 +15,18 @@ use Rattle.pat_preservation_laws.proofs.Balance.{refine_balance, passes_refine, 
 use Rattle.pat_model_laws.proofs.Threads.{lookup_all}
 use Rattle.pat_preservation_laws.proofs.ThreadHoldings.{split_thread}
 use Rattle.pat_preservation_laws.proofs.Replace.{replace_keeps}
-use Rattle.pat_preservation_laws.proofs.Nodes.{NodeFacts, node_facts, part_core}
+use Rattle.pat_typing_laws.proofs.Nodes.{NodeFacts, node_facts, part_core}
 use Rattle.pat_preservation_laws.proofs.Refers.{is_mailbox_same, name_is, held_none, value_refers}
 use Rattle.pat_preservation_laws.proofs.Envs.{value_at-keep, kept, held_cases, HeldCases, by_variable, by_none}
 use Rattle.pat_model_laws.proofs.Ascending.{ascends_filter}
-use Rattle.pat_preservation_laws.proofs.Named.{part_kind}
-use Rattle.pat_preservation_laws.proofs.Unused.{unused_drops}
+use Rattle.pat_typing_laws.proofs.Named.{part_kind}
+use Rattle.pat_typing_laws.proofs.Unused.{unused_drops}
 use Rattle.pat_preservation_laws.proofs.Narrow.{refers_value}
 use Rattle.pat_preservation_laws.proofs.Bound.{body_bound, body_among}
 use Rattle.pat_preservation_laws.proofs.Frames.{two_to_one, bind_name_at, only_name, name_here, name_kind}
 use Rattle.pat_model_laws.proofs.Ascending.{ascends_name}
 use Rattle.pat_model_laws.proofs.Lists.{clash}
-use Rattle.pat_preservation_laws.proofs.Passing.{passes_drop, name_passes}
+use Rattle.pat_typing_laws.proofs.Passing.{passes_drop, name_passes}
 use Rattle.pat_model.specs.Orders.{AscendsFrom}
 use Rattle.std.specs.Map.{keys_of}
 

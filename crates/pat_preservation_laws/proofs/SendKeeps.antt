@@ -19,11 +19,12 @@ use Rattle.pat_preservation_laws.proofs.Balance.{Refines, quiet, refine_balance,
 use Rattle.pat_model_laws.proofs.Threads.{lookup_all, lookup_any, set_all, set_any}
 use Rattle.pat_preservation_laws.proofs.ThreadHoldings.{split_thread}
 use Rattle.pat_model_laws.proofs.Inversion.{step_of, SendStep, send_step}
-use Rattle.pat_preservation_laws.proofs.Nodes.{NodeFacts, node_facts}
+use Rattle.pat_typing_laws.proofs.Nodes.{NodeFacts, node_facts}
 use Rattle.pat_preservation_laws.proofs.Refers.{value_refers, payload_none}
 use Rattle.pat_preservation_laws.proofs.Messages.{pending_own, pending_other}
 use Rattle.pat_preservation_laws.proofs.Envs.{held_cases, HeldCases, by_variable, by_none}
-use Rattle.pat_preservation_laws.proofs.Named.{payloads_typed, tag_payloads, target_same, env_fits}
+use Rattle.pat_typing_laws.proofs.Named.{payloads_typed, tag_payloads, target_same}
+use Rattle.pat_preservation_laws.proofs.Envs.{env_fits}
 use Rattle.pat_preservation_laws.proofs.Payloads.{names_head}
 use Rattle.pat_preservation_laws.proofs.Replace.{unit_fits, unit_refers}
 use Rattle.pat_preservation_laws.proofs.Args.{all_fit, args_refer, names_apart, names_distinct, args_pass}

@@ -18,9 +18,9 @@ use Rattle.pat_preservation_laws.proofs.Balance.{Refines, quiet, active, refine_
 use Rattle.pat_model_laws.proofs.Threads.{lookup_all, lookup_any, set_all, set_any}
 use Rattle.pat_preservation_laws.proofs.ThreadHoldings.{split_thread, threads_append}
 use Rattle.pat_model_laws.proofs.Inversion.{step_of, spawn_step, after_spawn}
-use Rattle.pat_preservation_laws.proofs.Nodes.{node_facts, part_core, NodeFacts}
+use Rattle.pat_typing_laws.proofs.Nodes.{node_facts, part_core, NodeFacts}
 use Rattle.pat_preservation_laws.proofs.Replace.{unit_fits, unit_refers}
-use Rattle.pat_preservation_laws.proofs.Unused.{unused_drops}
+use Rattle.pat_typing_laws.proofs.Unused.{unused_drops}
 use Rattle.pat_preservation_laws.proofs.Narrow.{keep_narrows, narrow_refers, narrow_passes}
 use Rattle.pat_model_laws.proofs.Lists.{any-append, all_snoc}
 use Rattle.pat_preservation_laws.proofs.Moves.{goes_on}

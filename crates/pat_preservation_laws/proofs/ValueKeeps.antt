@@ -13,14 +13,14 @@ use Rattle.pat_typing.specs.Holdings.{Holding, held, as_holding, control_held, w
 use Rattle.pat_typing.specs.Typed.{IsTyped, ThreadFits, ControlFits}
 use Rattle.pat_model_laws.proofs.Threads.{lookup_all}
 use Rattle.pat_model_laws.proofs.Inversion.{StandsAt}
-use Rattle.pat_preservation_laws.proofs.Nodes.{NodeFacts, node_facts, fits_kind}
+use Rattle.pat_typing_laws.proofs.Nodes.{NodeFacts, node_facts, fits_kind}
 use Rattle.pat_preservation_laws.proofs.Refers.{is_mailbox_same, name_is, value_refers}
 use Rattle.pat_preservation_laws.proofs.Envs.{held_cases, HeldCases, by_variable, by_none}
-use Rattle.pat_preservation_laws.proofs.Named.{env_fits}
+use Rattle.pat_preservation_laws.proofs.Envs.{env_fits}
 use Rattle.pat_preservation_laws.proofs.Moves.{Move, move_keeps}
 use Rattle.pat_preservation_laws.proofs.Args.{eval_fits, eval_name}
 use Rattle.pat_preservation_laws.proofs.ReturnKeeps.{return_keeps}
-use Rattle.pat_preservation_laws.proofs.Passing.{passes_twice, type_passes}
+use Rattle.pat_typing_laws.proofs.Passing.{passes_twice, type_passes}
 
 -- ---- a value in place of its expression
 

@@ -17,9 +17,10 @@ use Rattle.pat_typing.specs.Types.{MailboxType, TypeOf, BaseTerm, MailboxTerm, T
 use Rattle.pat_typing.specs.Typings.{Typing, IsTyping, HasWord, TypeHasWord, payload_sort, payload_type, is_received}
 use Rattle.pat_typing.specs.Holdings.{Holding, held, as_holding, type_at, control_held, frame_held, thread_held, threads_held, payload_held, declared_types, message_held, wanted, holdings, SendsBy, Sends, Choice}
 use Rattle.pat_typing.specs.Typed.{IsTyped, ThreadFits, ControlFits, PartFits, FramesFit, MessageFits}
-use Rattle.pat_preservation_laws.proofs.Nodes.{node_facts, part_core, held_all}
+use Rattle.pat_typing_laws.proofs.Nodes.{node_facts, part_core}
+use Rattle.pat_preservation_laws.proofs.Envs.{held_all}
 use Rattle.pat_preservation_laws.proofs.Refers.{AllNone, none-append, thread_none, threads_none}
-use Rattle.pat_preservation_laws.proofs.Named.{tag_payloads}
+use Rattle.pat_typing_laws.proofs.Named.{tag_payloads}
 use Rattle.pat_preservation_laws.proofs.Bound.{body_bound}
 use Rattle.pat_model_laws.proofs.Lists.{clash, distinct_parts, all_join, all_at}
 use Rattle.pat_model_laws.proofs.Threads.{apart_any}

@@ -12,8 +12,8 @@ use Rattle.pat_typing.specs.Types.{kind_of_type}
 use Rattle.pat_typing.specs.Typings.{Typing, IsTyping}
 use Rattle.pat_typing.specs.Holdings.{wanted, type_at}
 use Rattle.pat_typing.specs.Typed.{ThreadFits, PartFits, FramesFit, MessageFits}
-use Rattle.pat_preservation_laws.proofs.Nodes.{node_facts}
-use Rattle.pat_preservation_laws.proofs.Named.{part_kind}
+use Rattle.pat_typing_laws.proofs.Nodes.{node_facts}
+use Rattle.pat_typing_laws.proofs.Named.{part_kind}
 use Rattle.pat_preservation_laws.proofs.Bound.{body_bound, body_among}
 use Rattle.pat_preservation_laws.proofs.Frames.{name_kind}
 

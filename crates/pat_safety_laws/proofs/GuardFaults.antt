@@ -20,7 +20,7 @@ use Rattle.pat_typing.specs.Typed.{IsTyped, ThreadFits, PartFits, MessageFits}
 use Rattle.pat_preservation_laws.proofs.Balance.{balance_front}
 use Rattle.pat_model_laws.proofs.Threads.{lookup_all, lookup_any}
 use Rattle.pat_preservation_laws.proofs.ThreadHoldings.{split_thread}
-use Rattle.pat_preservation_laws.proofs.Nodes.{NodeFacts, node_facts}
+use Rattle.pat_typing_laws.proofs.Nodes.{NodeFacts, node_facts}
 use Rattle.pat_preservation_laws.proofs.Refers.{AllNone, none-append, frames_none, messages_none, value_refers}
 use Rattle.pat_preservation_laws.proofs.Envs.{held_cases, HeldCases, by_variable, by_none}
 use Rattle.pat_preservation_laws.proofs.Narrow.{usage_back}
@@ -28,7 +28,7 @@ use Rattle.pat_preservation_laws.proofs.Received.{found_clause}
 use Rattle.pat_safety_laws.proofs.FaultParts.{part_interface, message_declared}
 use Rattle.pat_safety_laws.proofs.FaultGuard.{AllHaveWords, HoldingHasWord, some_choice, all_words, none_chosen, split_alone, pending_message, nothing_pending, found_by_tag}
 use Rattle.pat_model_laws.proofs.Lists.{clash, not_true, all_front, is_in_all, only_first}
-use Rattle.pat_preservation_laws.proofs.Named.{env_fits}
+use Rattle.pat_preservation_laws.proofs.Envs.{env_fits}
 use Rattle.pat_model_laws.proofs.Inversion.{after_free}
 use Rattle.std.specs.Map.{keys_of}
 use Rattle.pat_model_laws.proofs.Ascending.{ascends_distinct}

@@ -1,8 +1,10 @@
-pub mod Accounts
-pub mod FaultParts
-pub mod FaultGuard
-pub mod GuardFaults
-pub mod Progress
+-- for others: that typable programs are safe
 pub mod Safe
-pub mod Endings
-pub mod Waiting
+-- the crate's own
+mod Accounts
+mod FaultParts
+mod FaultGuard
+mod GuardFaults
+mod Progress
+mod Endings
+mod Waiting

@@ -15,8 +15,9 @@ use Rattle.pat_model_laws.proofs.FreeVars.{free_unfolds}
 use Rattle.pat_typing.specs.Typings.{Typing}
 use Rattle.pat_typing.specs.Typed.{IsTyped, ThreadFits, ControlFits, PartFits}
 use Rattle.pat_model_laws.proofs.Threads.{lookup_all}
-use Rattle.pat_preservation_laws.proofs.Nodes.{NodeFacts, node_facts}
-use Rattle.pat_preservation_laws.proofs.Named.{op_parts, env_fits}
+use Rattle.pat_typing_laws.proofs.Nodes.{NodeFacts, node_facts}
+use Rattle.pat_typing_laws.proofs.Named.{op_parts}
+use Rattle.pat_preservation_laws.proofs.Envs.{env_fits}
 use Rattle.pat_preservation_laws.proofs.Args.{eval_fits}
 use Rattle.pat_safety_laws.proofs.Accounts.{not_left}
 use Rattle.pat_safety_laws.proofs.FaultParts.{part_has, frame_has, returned_has}

@@ -13,11 +13,11 @@ use Rattle.pat_model.specs.WellFormed.{WellFormed}
 use Rattle.pat_model_laws.proofs.FreeVars.{free_unfolds, part_after}
 use Rattle.pat_typing.specs.Types.{Returnable, Second, MailboxType, mailbox_type, TypeOf, BaseTerm, MailboxTerm, TypeEnv, PassesTo, DropsAs, Fits, SplitsTo, EnvSplits, PatternJoins, without, returnable}
 use Rattle.pat_typing.specs.Typings.{Typing, IsTyping, CoreTyped, ValueTyped, GuardTyped, clause_env, with_payloads, with_option, args_need, without_name, payload_type, param_type}
-use Rattle.pat_preservation_laws.proofs.Nodes.{NodeFacts, node_facts, part_core}
-use Rattle.pat_preservation_laws.proofs.Payloads.{payloads_off}
+use Rattle.pat_typing_laws.proofs.Nodes.{NodeFacts, node_facts, part_core}
+use Rattle.pat_typing_laws.proofs.Environments.{payloads_off}
 use Rattle.pat_typing.specs.Holdings.{Holding}
 use Rattle.pat_model_laws.proofs.Lists.{clash, ne_turn, any_first, any_last}
-use Rattle.pat_preservation_laws.proofs.Passing.{passes_drop}
+use Rattle.pat_typing_laws.proofs.Passing.{passes_drop}
 
 -- ---- each kind of condition
 

@@ -5,17 +5,16 @@ use Rattle.std.specs.List.{AllByRecursion, list_any}
 use Rattle.std.proofs.lemmas.Bool.{eqb-true, eq-eqb, cond-true, cond-false, or_cases, and_parts, or_left, or_right, eqb-false, false_from_ne_true, ne_eqb}
 use Rattle.std.proofs.lemmas.Option.{slice_get_past}
 use Rattle.pat_words.specs.Patterns.{Pat, residual, Tag}
-use Rattle.pat_model.specs.Values.{Base, BaseBool, BaseInt, BaseText, Kind, Plain, MailboxOf, Op, Add, Sub, Mul, Equal, Less, Expr, VarExpr, Literal, OpExpr, occurs, Value, Env, value_at, ValueFits}
+use Rattle.pat_model.specs.Values.{Base, BaseBool, BaseInt, BaseText, Kind, Plain, MailboxOf, Op, Add, Sub, Mul, Equal, Less, Expr, VarExpr, Literal, OpExpr, occurs}
 use Rattle.pat_model.specs.Programs.{Program, Sending, Receiving, Sort, BaseSort, MailboxSort, Function, TagDecl, Clause, Core, Val, Let, Call, If, Print, New, Send, Spawn, Guard, Node, node_at, core_at, function_at, parts, option_list, clause_bodies, clause_binders, is_among, is_free, clause_uses, core_uses, kind_of, tag_at, Interface, KindAt}
 use Rattle.pat_model.specs.WellFormed.{WellFormed, InterfaceFits, IsPayload, CoreKinds, op_kind, expr_kind, HaveKinds, IsPrintable}
 use Rattle.pat_model_laws.proofs.FreeVars.{free_unfolds, part_after}
 use Rattle.pat_typing.specs.Types.{MailboxType, TypeOf, BaseTerm, MailboxTerm, kind_of_type, TypeEnv, PassesTo, SplitsTo, with_type, without, no_types, returnable, mailbox_type, Second, Returnable}
 use Rattle.pat_typing.specs.Typings.{Typing, IsTyping, CoreTyped, GuardTyped, ClauseTyped, ValueTyped, with_option, with_payloads, args_need, clause_env, without_name, param_type, payload_type, payload_sort, sort_type}
-use Rattle.pat_preservation_laws.proofs.Nodes.{NodeFacts, node_facts, part_core}
-use Rattle.pat_preservation_laws.proofs.Payloads.{payloads_off}
+use Rattle.pat_typing_laws.proofs.Nodes.{NodeFacts, node_facts, part_core}
+use Rattle.pat_typing_laws.proofs.Environments.{payloads_off}
 use Rattle.pat_typing.specs.Holdings.{Holding}
 use Rattle.pat_model_laws.proofs.Lists.{clash, not_true, any_first, any_last, all_at}
-use Rattle.pat_typing.specs.Typed.{PartFits}
 
 -- ---- expressions
 
@@ -302,13 +301,3 @@ named_from p y z i w t (suc d) n long core at kind o =
 
 pub free_named : (p : Program) (y : Typing) → WellFormed p → IsTyping p y → (z i n : ℕ) (core : Core) → core_at p n ≡ Some core → KindAt p n z (MailboxOf i) → is_free p z n ≡ true → is_some (y.envs n z) ≡ true
 free_named p y w t z i n core at kind o = named_from p y z i w t (length p.nodes) n (omega arith) core at kind o
-
--- ---- the value of a variable
-
--- a variable's value is of the variable's kind
-pub env_fits : (p : Program) (y : Typing) (interfaces : ℕ → ℕ) (n : ℕ) (core : Core) (env : Env) (facts : NodeFacts p y n core) → PartFits p interfaces n [] env → (x : ℕ) (v : Value) (k : Kind) → value_at env x ≡ Some v → slice_get facts.fits.function.vars x ≡ Some k → ValueFits interfaces v k
-env_fits p y f n core env facts part x v k at is =
-    let h = part.kinds x v at in
-    let e : Some h.0 ≡ Some k = sym (kind_same p y n x h.0 core facts h.1) ∙ is in
-    let same : h.0 ≡ k = cc in
-    subst (λ w. ValueFits f v w) same h.2

@@ -1,14 +1,12 @@
 -- What a typing says of the node at which a thread stands.
-use Rattle.std.proofs.Common.{◌≡◌, ℕ, true, false, if◌then◌else◌, [], ◌∷◌, Option, Some, None, refl, sym, ap, subst}
+use Rattle.std.proofs.Common.{◌≡◌, ℕ, true, false, Option, Some, None, refl, sym, ap, subst}
 use Rattle.std.specs.Prelude.{option_map}
-use Rattle.pat_model.specs.Values.{Env, Plain, MailboxOf}
+use Rattle.pat_model.specs.Values.{Plain, MailboxOf}
 use Rattle.pat_model.specs.Programs.{Program, Core, Node, node_at, core_at, parts, binders, is_among}
 use Rattle.pat_model.specs.WellFormed.{WellFormed, NodeFits, CoreKinds}
-use Rattle.pat_model.specs.Configs.{is_mailbox}
-use Rattle.pat_typing.specs.Types.{MailboxType, TypeOf, BaseTerm, MailboxTerm, kind_of_type, TypeFits, TypeEnv}
+use Rattle.pat_typing.specs.Types.{MailboxType, TypeOf, BaseTerm, MailboxTerm, kind_of_type, TypeFits}
 use Rattle.pat_typing.specs.Typings.{Typing, IsTyping, NodeTyped, CoreTyped}
-use Rattle.pat_typing.specs.Holdings.{Holding, held}
-use Rattle.pat_preservation_laws.proofs.Unbound.{named_unbound}
+use Rattle.pat_typing_laws.proofs.Unbound.{named_unbound}
 
 -- a node with this term, as well-formedness and the typing have it
 pub record NodeFacts (p : Program) (y : Typing) (n : ℕ) (core : Core) : Type 0 where
@@ -45,15 +43,6 @@ fits_kind (BaseTerm b) (BaseTerm c) h = ap (λ x. Plain x) h
 fits_kind (MailboxTerm i q e) (MailboxTerm j r f) h = ap (λ x. MailboxOf x) h.interface
 fits_kind (BaseTerm b) (MailboxTerm j r f) h = absurd h
 fits_kind (MailboxTerm i q e) (BaseTerm c) h = absurd h
-
--- what holds of no holding and of each variable's type holds of what an environment holds
-pub held_all : (g : TypeEnv) (b : ℕ) (P : Holding → Type 0) → P None → ((x : ℕ) → P (g x)) → (env : Env) → P (held g b env)
-held_all g b P none each [] = none
-held_all g b P none each (e ∷ env) =
-    elim (is_mailbox b e.1) as (λ v. P (if v then g e.0 else held g b env)) [
-      | true ↦ each e.0
-      | false ↦ held_all g b P none each env
-    ]
 
 -- a part of a node is a node
 part_of : (p : Program) (n : ℕ) (core : Core) (o : Option Node) → WellFormed p → node_at p n ≡ o → option_map (λ (d : Node). d.core) o ≡ Some core → (k : ℕ) → is_among k (parts core) ≡ true → (c : Core) × (core_at p k ≡ Some c)

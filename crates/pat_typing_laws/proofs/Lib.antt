@@ -1,0 +1,8 @@
+-- for others: lemmas on typings
+pub mod Passing
+pub mod Environments
+pub mod Nodes
+pub mod Named
+pub mod Unused
+-- the crate's own
+mod Unbound
