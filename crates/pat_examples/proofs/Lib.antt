@@ -6,3 +6,5 @@ mod TypeTests
 mod SafePrograms
 mod Histories
 mod UnsafePrograms
+mod FormPrograms
+mod Starved

@@ -1,3 +1,4 @@
 pub mod Build
 pub mod Safe
+pub mod Forms
 pub mod Unsafe

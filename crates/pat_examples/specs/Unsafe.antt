@@ -7,7 +7,7 @@ use Rattle.pat_model.specs.Programs.{Sending, Receiving, TagDecl, Clause, Progra
 use Rattle.pat_model.specs.Configs.{Config}
 use Rattle.pat_model.specs.Steps.{Step}
 use Rattle.pat_model.specs.Runs.{run}
-use Rattle.pat_model.specs.Faults.{Fault}
+use Rattle.pat_model.specs.Faults.{Fault, FailingGuard}
 use Rattle.pat_typing.specs.Types.{Second, Returnable, MailboxType, TypeOf, kind_of_type, mailbox_type, Fits, TypeEnv, EnvPasses, with_type}
 use Rattle.pat_typing.specs.Typings.{Typing, payload_type, args_need, clause_env, is_received, HasWord, TypeHasWord, NodeTyped, FunctionTyped}
 use Rattle.pat_examples.specs.Build.{unit_node, mailbox_node, nothing, clause, tag, function, sending_as}
@@ -81,9 +81,30 @@ beside = record {
       ∷ [];
 }
 
+-- it waits for a message that nobody can send:
+-- interface I { m() }
+-- def main(): Unit { let a = new[I] in guard a : m { receive m() from b -> free(b) } }
+abbrev pub waiting : Program
+waiting = record {
+  interfaces = record { name = codes "I"; tags = tag (codes "m") [] ∷ [] } ∷ [];
+  functions = function (codes "main") [] (MailboxOf 0 ∷ MailboxOf 0 ∷ []) 0 ∷ [];
+  main = 0;
+  nodes =
+      unit_node 0 (Let (Some 0) 1 2)
+      ∷ mailbox_node 0 0 (New 0)
+      ∷ unit_node 0 (Guard 0 (Tag 0) None (clause 0 [] 1 3 ∷ []))
+      ∷ unit_node 0 (Guard 1 One (Some 4) [])
+      ∷ unit_node 0 nothing
+      ∷ [];
+}
+
 -- some steps from the program's start lead to a fault, so the program isn't safe
 abbrev pub ReachesFault : Program → Type 0
 ReachesFault p = (ks : List Step) × (c : Config) × (run p ks ≡ Some c) × Fault p c
+
+-- some steps from the program's start lead to a failing guard
+abbrev pub ReachesFailingGuard : Program → Type 0
+ReachesFailingGuard p = (ks : List Step) × (c : Config) × (run p ks ≡ Some c) × FailingGuard p c
 
 -- y meets all conditions of a typing but those of the term of node k, where it meets `rest`
 pub record TypedBut (p : Program) (y : Typing) (k : ℕ) (rest : Type 0) : Type 0 where

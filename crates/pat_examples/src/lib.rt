@@ -7,7 +7,8 @@ ghost use Rattle.pat_model.specs.WellFormed.{WellFormed};
 ghost use Rattle.pat_model.specs.Runs.{EndDone, EndWaiting, EndFull};
 ghost use Rattle.pat_model.specs.Faults.{IsSafe};
 ghost use Rattle.pat_examples.specs.Safe.{one_message, future, future_history, pump, delegation, swap, swap_history, crossed, crossed_history, turned, turned_history, turned_start, EndsAs};
-ghost use Rattle.pat_examples.specs.Unsafe.{leak, alias, beside, ReachesFault, OnlyAlias, OnlyBeside};
+ghost use Rattle.pat_examples.specs.Forms.{branches, given, renamed, impossible};
+ghost use Rattle.pat_examples.specs.Unsafe.{leak, alias, beside, waiting, ReachesFault, ReachesFailingGuard, OnlyAlias, OnlyBeside};
 
 /// Programs with messages, spawning, calls, recursion, payloads and delegation are safe.
 pub fn safe_programs()
@@ -20,7 +21,16 @@ pub fn safe_programs()
     ensures turned { IsSafe turned }
 {}
 
-/// Histories of four of them, to the end: what they print, which mailboxes are left, and which threads wait; and one that a limit on
+/// Programs with a choice, with a function that gives back a mailbox, with a mailbox variable as a value, and with a guard without
+/// clauses are safe.
+pub fn safe_forms()
+    ensures branches { IsSafe branches }
+    ensures given { IsSafe given }
+    ensures renamed { IsSafe renamed }
+    ensures impossible { IsSafe impossible }
+{}
+
+/// Histories of four of those programs, to the end: what they print, which mailboxes are left, and which threads wait; and one that a limit on
 /// messages holds back.
 pub fn runs()
     ensures future { EndsAs future future_history None 34 EndDone (signed_decimal (pos 5) ∷ []) [] [] }
@@ -39,4 +49,10 @@ pub fn unsafe_programs()
     ensures only_alias { OnlyAlias }
     ensures beside { ReachesFault beside }
     ensures only_beside { OnlyBeside }
+{}
+
+/// A well-formed program that waits for a message that nobody can send reaches a failing guard.
+pub fn failing_guards()
+    ensures formed { WellFormed waiting }
+    ensures fails { ReachesFailingGuard waiting }
 {}
