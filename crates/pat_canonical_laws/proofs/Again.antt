@@ -58,8 +58,12 @@ spelled here = tt
 spelled (over o b e r) = spelled r
 spelled (token {own = own} {after = after} b e r) = ((own, after, b.fits), spelled r)
 
-pub read_again : (lim : Limits) (text : List ℕ) (ts : List Spanned) (m : Tree) → Divides text ts → SpellsTree lim ts m → ReadsAs lim (canonical_text m) m
-read_again lim text ts m d t =
-    let n = divides_into m (writable lim ts m (spelled d.1) t) in
+-- the text of the tree of spelled tokens
+pub read_spelled : (lim : Limits) (ts : List Spanned) (m : Tree) → AreSpelled ts → SpellsTree lim ts m → ReadsAs lim (canonical_text m) m
+read_spelled lim ts m s t =
+    let n = divides_into m (writable lim ts m s t) in
     let a = spelled_again lim ts n.0 m t n.2 in
     record { tokens = n.0; tree = a.0; divides = n.1; spelled = a.1; same = a.2 }
+
+pub read_again : (lim : Limits) (text : List ℕ) (ts : List Spanned) (m : Tree) → Divides text ts → SpellsTree lim ts m → ReadsAs lim (canonical_text m) m
+read_again lim text ts m d t = read_spelled lim ts m (spelled d.1) t

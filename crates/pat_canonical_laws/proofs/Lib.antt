@@ -9,3 +9,4 @@ pub mod Apart
 pub mod Beginning
 pub mod Writable
 pub mod Again
+pub mod BareText

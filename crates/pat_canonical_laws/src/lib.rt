@@ -6,6 +6,7 @@ ghost use Rattle.pat_lexical.specs.Tokens.{Spanned};
 ghost use Rattle.pat_grammar.specs.Trees.{Tree};
 ghost use Rattle.pat_grammar.specs.Items.{Limits};
 ghost use Rattle.pat_grammar.specs.Claims.{SpellsTree};
+ghost use Rattle.pat_canonical.specs.Bare.{bare};
 ghost use Rattle.pat_canonical.specs.Canonical.{canonical, tokens_of};
 ghost use Rattle.pat_canonical_laws.specs.RoundTrip.{kinds, SpelledAgain};
 ghost use Rattle.pat_canonical.specs.Text.{canonical_text};
@@ -41,4 +42,10 @@ pub fn writable_law()
 /// is too deep.
 pub fn text_round_trip_law()
     ensures { (lim : Limits) (text : List ℕ) (ts : List Spanned) (m : Tree) → Divides text ts → SpellsTree lim ts m → ReadsAs lim (canonical_text m) m }
+{}
+
+/// The canonical text of any tree that is, places aside, the tree of tokens that bytes spell, is read as that tree, places
+/// aside: so also that of a tree which was made, and stands at no places.
+pub fn bare_round_trip_law()
+    ensures { (lim : Limits) (ts : List Spanned) (m n : Tree) → AreSpelled ts → SpellsTree lim ts n → bare m ≡ bare n → ReadsAs lim (canonical_text m) m }
 {}
