@@ -1,4 +1,3 @@
-pub mod Keeping
+mod Keeping
 pub mod Lines
-pub mod Guards
-pub mod Numbered
+mod Guards

@@ -5,7 +5,6 @@ mod atoms;
 mod declaration;
 mod expression;
 mod list;
-mod numbered_pattern;
 mod pattern;
 mod term;
 
@@ -19,7 +18,6 @@ ghost use Rattle.pat_canonical_laws.specs.ReadAgain.{ReadsAs};
 ghost use Rattle.pat_tree.specs.Views.{tree_view};
 
 use declaration::put_declaration;
-pub use numbered_pattern::{pattern_text, pattern_text_law};
 use pat_tree::Tree;
 use std::alloc::{AllocError, Global};
 

@@ -5,7 +5,7 @@ ghost use Rattle.pat_patterns.specs.Views.{pattern_view};
 
 use pat_core::Interface;
 use pat_patterns::Pattern;
-use pat_print::pattern_text;
+use pat_print_patterns::pattern_text;
 use pat_sequences::{Sequence, Text};
 use std::alloc::{AllocError, Global};
 use std::io;

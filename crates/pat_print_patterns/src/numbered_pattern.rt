@@ -10,10 +10,10 @@ ghost use Rattle.pat_patterns.specs.Views.{pattern_view};
 ghost use Rattle.pat_core.specs.Views.{interface_view};
 ghost use Rattle.pat_canonical.specs.Canonical.{pattern_onto};
 ghost use Rattle.pat_print.specs.Parts.{bytes_of};
-ghost use Rattle.pat_print.specs.PatternText.{tag_names, opening, closing, enclosed, is_sum, is_sum_or_product, pat_text, written_with};
+ghost use Rattle.pat_print_patterns.specs.PatternText.{tag_names, opening, closing, enclosed, is_sum, is_sum_or_product, pat_text, written_with};
 
-use crate::atoms::put_integer;
 use pat_core::Interface;
+use pat_decimal::push_number;
 use pat_patterns::Pattern;
 use std::alloc::{AllocError, Global};
 
@@ -119,5 +119,5 @@ fn put_variable(alloc: Global, out: &mut Vec<u8>, number: u32) -> Result<(), All
     ensures { OnOk result (out.new.items ≡ out.old.items ++ 36 ∷ decimal number) }
 {
     put(out, b"$")?;
-    put_integer(alloc, out, i64::from(number))
+    push_number(alloc, out, u64::from(number))
 }

@@ -1,7 +1,7 @@
 use Rattle.std.proofs.Common.{arith}
 use Rattle.std.proofs.lemmas.Grind.{common_steps}
-use Rattle.pat_print.proofs.Numbered.{tag_name}
-use Rattle.pat_print.proofs.numbered_pattern.put_tag.Goals as goal
+use Rattle.pat_print_patterns.proofs.Numbered.{tag_name}
+use Rattle.pat_print_patterns.proofs.numbered_pattern.put_tag.Goals as goal
 
 pub returns-in-Some : goal.returns-in-Some
 returns-in-Some c =

@@ -1,0 +1,6 @@
+//! Patterns as core programs have them, as text.
+#![tactic(auto)]
+
+mod numbered_pattern;
+
+pub use numbered_pattern::{pattern_text, pattern_text_law};
