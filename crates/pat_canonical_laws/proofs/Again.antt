@@ -53,7 +53,7 @@ pub divides_into : (m : Tree) → IsWritable m → DividesInto (canonical_text m
 divides_into m s = let n = divided (canonical m) 0 s (tree_apart m) in (n.tokens, (n.to, n.reaches), n.kinds_are)
 
 -- bytes spell each token of a text that divides
-spelled : {at to : ℕ} {text rest : List ℕ} {ts : List Spanned} → Reaches at text ts to rest → AreSpelled ts
+pub spelled : {at to : ℕ} {text rest : List ℕ} {ts : List Spanned} → Reaches at text ts to rest → AreSpelled ts
 spelled here = tt
 spelled (over o b e r) = spelled r
 spelled (token {own = own} {after = after} b e r) = ((own, after, b.fits), spelled r)

@@ -1,5 +1,5 @@
 -- The canonical text of a tree is that of the tree without its places.
-use Rattle.std.proofs.Common.{◌≡◌, Bool, true, false, List, [], ◌∷◌, map, Option, Some, None, refl, sym, ap, ◌∙◌, subst}
+use Rattle.std.proofs.Common.{◌≡◌, ℕ, Bool, true, false, List, [], ◌∷◌, map, Option, Some, None, refl, sym, ap, ◌∙◌, subst}
 use Rattle.std.specs.Prelude.{option_map}
 use Rattle.pat_lexical.specs.Words as word
 use Rattle.pat_lexical.specs.Marks as mark
@@ -9,12 +9,11 @@ use Rattle.pat_model.specs.Values.{Op, Add, Sub, Mul, Equal, Less}
 use Rattle.pat_grammar.specs.Trees.{Name, Pattern, ZeroPattern, OnePattern, TagPattern, SumPattern, ProdPattern, StarPattern, WrittenType, BaseType, MailboxType, Message, Param, Expr, VarExpr, UnitExpr, BoolExpr, IntExpr, StrExpr, OpExpr, Term, LetTerm, IfTerm, PrintTerm, NewTerm, SpawnTerm, FreeTerm, GuardTerm, SendTerm, CallTerm, ValueTerm, Clause, FailClause, FreeClause, ReceiveClause, Clauses, no_clauses, with_clause, Decl, InterfaceDecl, DefDecl, Tree}
 use Rattle.pat_grammar.specs.Items.{Limits}
 use Rattle.pat_grammar.specs.Claims.{SpellsTree}
-use Rattle.pat_grammar_laws.specs.Names.{AreSpelled}
 use Rattle.pat_canonical.specs.Bare.{bare_name, bare_pattern, bare_type, bare_expr, bare_term, bare_clause, bare_clauses, bare_message, bare_param, bare_decl, bare}
 use Rattle.pat_canonical.specs.Canonical.{Tok, Blank, Line, Pieces, Onto, marked, worded, name_onto, bracketed, braced, more_onto, list_onto, op_token, opens_atom, opens_product, opens_sum, opens_left, opens_right, expr_onto, opens_factor, opens_sum_pattern, pattern_onto, polarity_mark, type_onto, opens_simple, args_onto, term_onto, clause_onto, clauses_onto, message_onto, param_onto, decl_onto, tree_onto, canonical}
 use Rattle.pat_canonical.specs.Text.{text_of, canonical_text}
-use Rattle.pat_canonical_laws.specs.ReadAgain.{ReadsAs}
-use Rattle.pat_canonical_laws.proofs.Again.{read_spelled}
+use Rattle.pat_canonical_laws.specs.ReadAgain.{CanBeSpelled, ReadsAs}
+use Rattle.pat_canonical_laws.proofs.Again.{spelled, read_spelled}
 
 -- the same pieces in front of any
 abbrev Same : Onto → Onto → Type 0
@@ -229,7 +228,11 @@ pub same_text : (m n : Tree) → bare m ≡ bare n → canonical_text m ≡ cano
 same_text m n h = ap text_of (sym (tree_same m []) ∙ ap (λ (t : Tree). canonical t) h ∙ tree_same n [])
 
 -- the text of any tree that is, places aside, one that spelled tokens spell
-pub bare_again : (lim : Limits) (ts : List Spanned) (m n : Tree) → AreSpelled ts → SpellsTree lim ts n → bare m ≡ bare n → ReadsAs lim (canonical_text m) m
-bare_again lim ts m n s t h =
-    let a = read_spelled lim ts n s t in
-    record { tokens = a.tokens; tree = a.tree; divides = subst (λ l. Divides l a.tokens) (sym (same_text m n h)) a.divides; spelled = a.spelled; same = h ∙ a.same }
+pub bare_again : (lim : Limits) (m : Tree) → CanBeSpelled lim m → ReadsAs lim (canonical_text m) m
+bare_again lim m c =
+    let a = read_spelled lim c.tokens c.tree c.spelled c.spells in
+    record { tokens = a.tokens; tree = a.tree; divides = subst (λ l. Divides l a.tokens) (sym (same_text m c.tree c.same)) a.divides; spelled = a.spelled; same = c.same ∙ a.same }
+
+-- the tree of a text is one
+pub of_text : (lim : Limits) (text : List ℕ) (ts : List Spanned) (m : Tree) → Divides text ts → SpellsTree lim ts m → CanBeSpelled lim m
+of_text lim text ts m d t = record { tokens = ts; tree = m; spelled = spelled d.1; spells = t; same = refl }

@@ -1,12 +1,14 @@
-pub mod Fits
-pub mod FitsTerm
-pub mod Canon
-pub mod Same
-pub mod Twice
-pub mod RoundTrip
-pub mod Examples
-pub mod Apart
-pub mod Beginning
-pub mod Writable
-pub mod Again
+-- for others: that the text printed is read again
 pub mod BareText
+-- the crate's own
+mod Fits
+mod FitsTerm
+mod Canon
+mod Same
+mod Twice
+mod RoundTrip
+mod Examples
+mod Apart
+mod Beginning
+mod Writable
+mod Again

@@ -5,7 +5,7 @@ use Rattle.pat_lexical.specs.Divisions.{Divides}
 use Rattle.pat_grammar.specs.Trees.{Tree}
 use Rattle.pat_grammar.specs.Items.{Limits}
 use Rattle.pat_grammar.specs.Claims.{SpellsTree}
-use Rattle.pat_grammar_laws.specs.Names.{IsSpelled, EachOf}
+use Rattle.pat_grammar_laws.specs.Names.{IsSpelled, EachOf, AreSpelled}
 use Rattle.pat_canonical.specs.Bare.{bare}
 use Rattle.pat_canonical.specs.Canonical.{canonical, tokens_of}
 use Rattle.pat_canonical_laws.specs.RoundTrip.{kinds}
@@ -18,6 +18,14 @@ IsWritable m = EachOf IsSpelled (tokens_of (canonical m))
 -- the text divides into these tokens, at some places
 abbrev pub DividesInto : List ℕ → List Token → Type 0
 DividesInto text tokens = (us : List Spanned) × Divides text us × (kinds us ≡ tokens)
+
+-- the tree is, places aside, one that tokens spell within the limits, each of which some bytes spell
+pub record CanBeSpelled (lim : Limits) (m : Tree) : Type 0 where
+  pub tokens : List Spanned
+  pub tree : Tree
+  pub spelled : AreSpelled tokens
+  pub spells : SpellsTree lim tokens tree
+  pub same : bare m ≡ bare tree
 
 -- the text divides into tokens that spell the tree within the limits, places aside
 pub record ReadsAs (lim : Limits) (text : List ℕ) (m : Tree) : Type 0 where

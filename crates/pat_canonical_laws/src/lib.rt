@@ -6,14 +6,13 @@ ghost use Rattle.pat_lexical.specs.Tokens.{Spanned};
 ghost use Rattle.pat_grammar.specs.Trees.{Tree};
 ghost use Rattle.pat_grammar.specs.Items.{Limits};
 ghost use Rattle.pat_grammar.specs.Claims.{SpellsTree};
-ghost use Rattle.pat_canonical.specs.Bare.{bare};
 ghost use Rattle.pat_canonical.specs.Canonical.{canonical, tokens_of};
 ghost use Rattle.pat_canonical_laws.specs.RoundTrip.{kinds, SpelledAgain};
 ghost use Rattle.pat_canonical.specs.Text.{canonical_text};
 ghost use Rattle.pat_canonical_laws.specs.Examples.{brackets_tree, brackets_text, messages_tree, messages_text};
 ghost use Rattle.pat_lexical.specs.Divisions.{Divides};
 ghost use Rattle.pat_grammar_laws.specs.Names.{AreSpelled};
-ghost use Rattle.pat_canonical_laws.specs.ReadAgain.{IsWritable, DividesInto, ReadsAs};
+ghost use Rattle.pat_canonical_laws.specs.ReadAgain.{IsWritable, DividesInto, CanBeSpelled, ReadsAs};
 
 /// The tokens of the canonical text of a tree that was read are read as the same tree, places aside, within the same
 /// limits: none of them is too deep.
@@ -47,5 +46,6 @@ pub fn text_round_trip_law()
 /// The canonical text of any tree that is, places aside, the tree of tokens that bytes spell, is read as that tree, places
 /// aside: so also that of a tree which was made, and stands at no places.
 pub fn bare_round_trip_law()
-    ensures { (lim : Limits) (ts : List Spanned) (m n : Tree) → AreSpelled ts → SpellsTree lim ts n → bare m ≡ bare n → ReadsAs lim (canonical_text m) m }
+    ensures again { (lim : Limits) (m : Tree) → CanBeSpelled lim m → ReadsAs lim (canonical_text m) m }
+    ensures texts { (lim : Limits) (text : List ℕ) (ts : List Spanned) (m : Tree) → Divides text ts → SpellsTree lim ts m → CanBeSpelled lim m }
 {}

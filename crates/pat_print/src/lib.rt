@@ -8,24 +8,21 @@ mod list;
 mod pattern;
 mod term;
 
-ghost use Rattle.std.specs.Prelude.{◌≡◌, ℕ, List, IfOk};
-ghost use Rattle.pat_lexical.specs.Tokens.{Spanned};
-ghost use Rattle.pat_lexical.specs.Divisions.{Divides};
+ghost use Rattle.std.specs.Prelude.{◌≡◌, IfOk};
 ghost use Rattle.pat_grammar.specs.Items.{Limits};
-ghost use Rattle.pat_grammar.specs.Claims.{SpellsTree};
 ghost use Rattle.pat_canonical.specs.Text.{canonical_text};
-ghost use Rattle.pat_canonical_laws.specs.ReadAgain.{ReadsAs};
+ghost use Rattle.pat_canonical_laws.specs.ReadAgain.{CanBeSpelled, ReadsAs};
 ghost use Rattle.pat_tree.specs.Views.{tree_view};
 
 use declaration::put_declaration;
 use pat_tree::Tree;
 use std::alloc::{AllocError, Global};
 
-/// The canonical text of a tree: a declaration a line. Where the tree is that of a text, the text printed is read as the
-/// same tree, places aside, within the same limits.
+/// The canonical text of a tree: a declaration a line. Where the tree is, places aside, one that tokens spell within some
+/// limits, the text printed is read as that tree, places aside, within the same limits.
 pub fn print(alloc: Global, tree: &Tree) -> Result<Vec<u8>, AllocError>
     ensures canonical { IfOk result (λ text. text.items ≡ canonical_text (tree_view tree.now)) }
-    ensures read_again { (lim : Limits) (source : List ℕ) (ts : List Spanned) → Divides source ts → SpellsTree lim ts (tree_view tree.now) → IfOk result (λ text. ReadsAs lim text.items (tree_view tree.now)) }
+    ensures read_again { (lim : Limits) → CanBeSpelled lim (tree_view tree.now) → IfOk result (λ text. ReadsAs lim text.items (tree_view tree.now)) }
 {
     tree_lines(alloc, tree)
 }
