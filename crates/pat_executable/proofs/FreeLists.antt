@@ -1,5 +1,5 @@
--- Lists of free variables, from the last node to the first.
-use Rattle.std.proofs.Common.{◌≡◌, ℕ, zero, suc, ◌+◌, ◌<◌, ◌≤◌, Bool, true, false, ◌||◌, ◌&&◌, List, length, drop, get_or, Some, None, refl, sym, ap, ◌∙◌, arith, ⊎_elim, slice_get, slice_set}
+-- Sets of free variables, from the last node to the first.
+use Rattle.std.proofs.Common.{◌≡◌, ℕ, zero, suc, ◌+◌, ◌<◌, ◌≤◌, Bool, true, false, ◌||◌, ◌&&◌, List, length, drop, get_or, Option, Some, None, refl, sym, ap, ◌∙◌, arith, ⊎_elim, slice_get, slice_set}
 use Rattle.std.specs.Prelude.{option_map}
 use Rattle.std.proofs.lemmas.Bool.{cases_lt}
 use Rattle.std.proofs.lemmas.List.{drop_all, length-map, length-set, get_or-set_same, get_or-set_other}
@@ -10,14 +10,15 @@ use Rattle.pat_model_laws.proofs.FreeVars.{free_unfolds, core_agrees, part_after
 use Rattle.pat_core.specs.declared.program.Node.{Node as CodeNode}
 use Rattle.pat_core.specs.declared.program.Program.{Program as CodeProgram}
 use Rattle.pat_core.specs.Views.{core_view, node_view, program_view}
+use Rattle.pat_executable.specs.declared.variables.Variables.{Variables}
 use Rattle.pat_executable.specs.FreeVariables.{is_in, is_listed}
 
-set_here : (xs : List (List ℕ)) (n : ℕ) (v : List ℕ) → n < length xs → slice_get (slice_set xs n v) n ≡ Some v
+set_here : (xs : List Variables) (n : ℕ) (v : Variables) → n < length xs → slice_get (slice_set xs n v) n ≡ Some v
 set_here xs n v within =
     let same = length-set xs n v in
     slice_get-get_or (slice_set xs n v) n v (omega arith) ∙ ap Some (get_or-set_same xs n v v within)
 
-set_before : (xs : List (List ℕ)) (n k : ℕ) (v : List ℕ) → n < k → slice_get (slice_set xs n v) k ≡ slice_get xs k
+set_before : (xs : List Variables) (n k : ℕ) (v : Variables) → n < k → slice_get (slice_set xs n v) k ≡ slice_get xs k
 set_before xs n k v less =
     let same = length-set xs n v in
     ⊎_elim
@@ -46,17 +47,17 @@ unfolding is_free
 free_past p x k past = nothing_past (length p.nodes) p x k (ap (option_map (λ d. d.core)) (slice_get_past p.nodes k past))
 
 -- from the number of nodes on, no list has a variable and none is free
-pub listed_past : (q : CodeProgram) (free : List (List ℕ)) → length free ≡ length q.nodes → (x k : ℕ) → length q.nodes ≤ k → is_listed free k x ≡ is_free (program_view q) x k
+pub listed_past : (q : CodeProgram) (free : List Variables) → length free ≡ length q.nodes → (x k : ℕ) → length q.nodes ≤ k → is_listed free k x ≡ is_free (program_view q) x k
 listed_past q free same x k past =
     ap (λ o. is_in o x) (slice_get_past free k (omega arith))
     ∙ sym (free_past (program_view q) x k (let l = length-map q.nodes node_view in omega arith))
 
-module _ (p : Program) (w : WellFormed p) (free : List (List ℕ)) (n : ℕ) (own : List ℕ) (core : Core)
+module _ (p : Program) (w : WellFormed p) (free : List Variables) (n : ℕ) (own : Variables) (core : Core)
     (there : core_at p n ≡ Some core) (within : n < length free)
     (after : (x k : ℕ) → n + 1 ≤ k → is_listed free k x ≡ is_free p x k)
-    (listed : (x : ℕ) → is_among x own ≡ core_uses (λ k. is_listed free k x) x core) where
+    (listed : (x : ℕ) → is_among x own.listed ≡ core_uses (λ k. is_listed free k x) x core) where
   -- the list of this node is right
-  here : (x : ℕ) → is_among x own ≡ is_free p x n
+  here : (x : ℕ) → is_among x own.listed ≡ is_free p x n
   here x =
       listed x
       ∙ core_agrees (λ k. is_listed free k x) (λ k. is_free p x k) x core (λ k a. after x k (let l = part_after p n core (node_at p n) w refl there k a in omega arith))
@@ -79,3 +80,11 @@ pub core_there : (q : CodeProgram) (nodes : List CodeNode) (n : ℕ) (d : CodeNo
 core_there q nodes n d same within is =
     ap (option_map (λ e. e.core)) (slice_get-map node_view q.nodes n)
     ∙ ap (λ o. option_map (λ e. e.core) (option_map node_view o)) (ap (λ l. slice_get l n) (sym same) ∙ slice_get-get_or nodes n d within ∙ ap Some (sym is))
+
+small_in : (o : Option Variables) (x : ℕ) → is_in o x ≡ true → x < 4294967296
+small_in None x h = absurd cc
+small_in (Some own) x h = own.small x h
+
+-- a variable that is free somewhere is a 32-bit number
+pub small_free : (p : Program) (free : List Variables) → ((x n : ℕ) → is_listed free n x ≡ is_free p x n) → (x n : ℕ) → is_free p x n ≡ true → x < 4294967296
+small_free p free listed x n h = small_in (slice_get free n) x (listed x n ∙ h)

@@ -1,1 +1,2 @@
-pub mod FreeLists
+mod VariableSets
+mod FreeLists

@@ -1,21 +1,23 @@
 // Programs with the free variables of their nodes.
-ghost use Rattle.std.specs.Prelude.{◌≡◌, ℕ, IfOk};
+ghost use Rattle.std.specs.Prelude.{◌≡◌, ◌<◌, ℕ, IsTrue, IfOk};
 ghost use Rattle.pat_model.specs.Programs.{is_free};
 ghost use Rattle.pat_model.specs.WellFormed.{WellFormed};
 ghost use Rattle.pat_core.specs.Views.{program_view};
 ghost use Rattle.pat_executable.specs.FreeVariables.{is_listed};
 
+use crate::Variables;
 use crate::free_variables::list_free;
 use pat_core::Program;
 use pat_sequences::Sequence;
 use std::alloc::{AllocError, Global};
 
-/// A program with the free variables of its nodes, which each step looks up.
+/// A program with the free variables of its nodes, each once, which each step looks up.
 #[derive(Drop)]
 pub struct Executable {
     pub program: Program,
-    free: Sequence<Sequence<u32>>,
+    free: Sequence<Variables>,
     ghost listed: { (x n : ℕ) → is_listed free n x ≡ is_free (program_view program) x n },
+    ghost small: { (x n : ℕ) → IsTrue (is_free (program_view program) x n) → x < 4294967296 },
 }
 
 impl Executable {
@@ -33,7 +35,7 @@ impl Executable {
         ensures { result ≡ is_free (program_view self.now.program) variable node }
     {
         match self.free.as_slice().get(node as usize) {
-            Some(variables) => variables.as_slice().contains(&variable),
+            Some(variables) => variables.contains(variable),
             None => false,
         }
     }

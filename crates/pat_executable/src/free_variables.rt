@@ -1,5 +1,5 @@
 // The free variables of each node of a program, from the last node to the first.
-ghost use Rattle.std.specs.Prelude.{◌≡◌, ℕ, ◌||◌, ◌&&◌, ◌++◌, not, nat_eq, map, IfOk, OnOk};
+ghost use Rattle.std.specs.Prelude.{◌≡◌, ℕ, ◌||◌, ◌&&◌, ◌++◌, not, map, IfOk, OnOk};
 ghost use Rattle.std.specs.List.{list_any};
 ghost use Rattle.pat_model.specs.Values.{occurs};
 ghost use Rattle.pat_model.specs.Programs.{is_among, option_list, clause_uses, core_uses, is_free};
@@ -7,19 +7,20 @@ ghost use Rattle.pat_model.specs.WellFormed.{WellFormed};
 ghost use Rattle.pat_core.specs.Views.{expr_view, clause_view, core_view, program_view};
 ghost use Rattle.pat_executable.specs.FreeVariables.{is_listed};
 
+use crate::Variables;
 use pat_core::{Clause, Core, Expr, Program};
 use pat_sequences::Sequence;
 use std::alloc::{AllocError, Global};
 
-/// The free variables of each node, by its number. A node's list has each of them once, in no order.
-pub fn list_free(alloc: Global, program: &Program) -> Result<Sequence<Sequence<u32>>, AllocError>
+/// The free variables of each node, by its number.
+pub fn list_free(alloc: Global, program: &Program) -> Result<Sequence<Variables>, AllocError>
     requires { WellFormed (program_view program.now) }
     ensures { IfOk result (λ free. (x n : ℕ) → is_listed free n x ≡ is_free (program_view program.now) x n) }
 {
     let nodes = program.nodes.as_slice();
     let mut free = Sequence::new(alloc);
     for _ in nodes {
-        free.push(Sequence::new(alloc))?;
+        free.push(Variables::new(alloc))?;
     }
     for n in (0..nodes.len()).rev() {
         let variables = free_of(alloc, &nodes[n].core, &free)?;
@@ -32,22 +33,22 @@ pub fn list_free(alloc: Global, program: &Program) -> Result<Sequence<Sequence<u
 fn free_of(
     alloc: Global,
     core: &Core,
-    free: &Sequence<Sequence<u32>>,
-) -> Result<Sequence<u32>, AllocError>
-    ensures { IfOk result (λ own. (x : ℕ) → is_among x own ≡ core_uses (λ k. is_listed free.now k x) x (core_view core.now)) }
+    free: &Sequence<Variables>,
+) -> Result<Variables, AllocError>
+    ensures { IfOk result (λ own. (x : ℕ) → is_among x own.listed ≡ core_uses (λ k. is_listed free.now k x) x (core_view core.now)) }
 {
-    let mut own = Sequence::new(alloc);
+    let mut own = Variables::new(alloc);
     add_term(&mut own, free, core)?;
     Ok(own)
 }
 
 // Adds the free variables of a term.
 fn add_term(
-    own: &mut Sequence<u32>,
-    free: &Sequence<Sequence<u32>>,
+    own: &mut Variables,
+    free: &Sequence<Variables>,
     core: &Core,
 ) -> Result<(), AllocError>
-    ensures { OnOk result ((x : ℕ) → is_among x own.new ≡ (is_among x own.old || core_uses (λ k. is_listed free.now k x) x (core_view core.now))) }
+    ensures { OnOk result ((x : ℕ) → is_among x own.new.listed ≡ (is_among x own.old.listed || core_uses (λ k. is_listed free.now k x) x (core_view core.now))) }
 {
     match core {
         Core::Value(e) => add_variables(own, e),
@@ -64,7 +65,7 @@ fn add_term(
         }
         Core::New(_) => Ok(()),
         Core::Send { target, args, .. } => {
-            add(own, *target)?;
+            own.add(*target)?;
             add_arguments(own, args.as_slice())
         }
         Core::Spawn(body) => add_all(own, free, *body, &[], None),
@@ -74,7 +75,7 @@ fn add_term(
             receives,
             ..
         } => {
-            add(own, *var)?;
+            own.add(*var)?;
             add_optional(own, free, *empty)?;
             add_clauses(own, free, receives.as_slice())
         }
@@ -83,11 +84,11 @@ fn add_term(
 
 // Adds the free variables of a node, if there is one.
 fn add_optional(
-    own: &mut Sequence<u32>,
-    free: &Sequence<Sequence<u32>>,
+    own: &mut Variables,
+    free: &Sequence<Variables>,
     node: Option<u32>,
 ) -> Result<(), AllocError>
-    ensures { OnOk result ((x : ℕ) → is_among x own.new ≡ (is_among x own.old || list_any (λ k. is_listed free.now k x) (option_list node))) }
+    ensures { OnOk result ((x : ℕ) → is_among x own.new.listed ≡ (is_among x own.old.listed || list_any (λ k. is_listed free.now k x) (option_list node))) }
 {
     match node {
         Some(node) => add_all(own, free, node, &[], None),
@@ -97,11 +98,11 @@ fn add_optional(
 
 // Adds the free variables of receive clauses.
 fn add_clauses(
-    own: &mut Sequence<u32>,
-    free: &Sequence<Sequence<u32>>,
+    own: &mut Variables,
+    free: &Sequence<Variables>,
     clauses: &[Clause],
 ) -> Result<(), AllocError>
-    ensures { OnOk result ((x : ℕ) → is_among x own.new ≡ (is_among x own.old || list_any (clause_uses (λ k. is_listed free.now k x) x) (map clause_view clauses.now))) }
+    ensures { OnOk result ((x : ℕ) → is_among x own.new.listed ≡ (is_among x own.old.listed || list_any (clause_uses (λ k. is_listed free.now k x) x) (map clause_view clauses.now))) }
 {
     for clause in clauses {
         add_all(
@@ -117,20 +118,20 @@ fn add_clauses(
 
 // Adds the free variables of a node but those that are bound there.
 fn add_all(
-    own: &mut Sequence<u32>,
-    free: &Sequence<Sequence<u32>>,
+    own: &mut Variables,
+    free: &Sequence<Variables>,
     node: u32,
     bound: &[u32],
     last: Option<u32>,
 ) -> Result<(), AllocError>
-    ensures { OnOk result ((x : ℕ) → is_among x own.new ≡ (is_among x own.old || (is_listed free.now node x && not (is_among x (bound.now ++ option_list last))))) }
+    ensures { OnOk result ((x : ℕ) → is_among x own.new.listed ≡ (is_among x own.old.listed || (is_listed free.now node x && not (is_among x (bound.now ++ option_list last))))) }
 {
     let Some(variables) = free.as_slice().get(node as usize) else {
         return Ok(());
     };
     for variable in variables.as_slice() {
         if !is_bound(*variable, bound, last) {
-            add(own, *variable)?;
+            own.add(*variable)?;
         }
     }
     Ok(())
@@ -143,8 +144,8 @@ fn is_bound(variable: u32, bound: &[u32], last: Option<u32>) -> bool
 }
 
 // Adds the variables of expressions.
-fn add_arguments(own: &mut Sequence<u32>, args: &[Expr]) -> Result<(), AllocError>
-    ensures { OnOk result ((x : ℕ) → is_among x own.new ≡ (is_among x own.old || list_any (occurs x) (map expr_view args.now))) }
+fn add_arguments(own: &mut Variables, args: &[Expr]) -> Result<(), AllocError>
+    ensures { OnOk result ((x : ℕ) → is_among x own.new.listed ≡ (is_among x own.old.listed || list_any (occurs x) (map expr_view args.now))) }
 {
     for e in args {
         add_variables(own, e)?;
@@ -153,24 +154,15 @@ fn add_arguments(own: &mut Sequence<u32>, args: &[Expr]) -> Result<(), AllocErro
 }
 
 // Adds the variables of an expression.
-fn add_variables(own: &mut Sequence<u32>, e: &Expr) -> Result<(), AllocError>
-    ensures { OnOk result ((x : ℕ) → is_among x own.new ≡ (is_among x own.old || occurs x (expr_view e.now))) }
+fn add_variables(own: &mut Variables, e: &Expr) -> Result<(), AllocError>
+    ensures { OnOk result ((x : ℕ) → is_among x own.new.listed ≡ (is_among x own.old.listed || occurs x (expr_view e.now))) }
 {
     match e {
-        Expr::Var(variable) => add(own, *variable),
+        Expr::Var(variable) => own.add(*variable),
         Expr::Unit | Expr::Bool(_) | Expr::Int(_) | Expr::Str(_) => Ok(()),
         Expr::Op(_, left, right) => {
             add_variables(own, left)?;
             add_variables(own, right)
         }
     }
-}
-
-fn add(own: &mut Sequence<u32>, variable: u32) -> Result<(), AllocError>
-    ensures { OnOk result ((x : ℕ) → is_among x own.new ≡ (is_among x own.old || nat_eq x variable)) }
-{
-    if own.as_slice().contains(&variable) {
-        return Ok(());
-    }
-    own.push(variable)
 }

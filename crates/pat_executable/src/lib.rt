@@ -3,5 +3,7 @@
 
 mod executable;
 mod free_variables;
+mod variables;
 
 pub use executable::Executable;
+use variables::Variables;

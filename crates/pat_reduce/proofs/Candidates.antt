@@ -9,8 +9,9 @@ use Rattle.pat_model.specs.Programs.{Program, Function, Clause, Val, Let, Call, 
 use Rattle.pat_model.specs.Configs.{Frame, Thread, Message, Config, thread_at, with_thread}
 use Rattle.pat_model.specs.Steps.{Act, ActLocal, ActNew, ActSend, ActSpawn, ActPrint, ActEnd, ActFree, ActReceive, Redex, At, Done, Nowhere, redex, local_at, enter, choose, new_at, send_at, send_to, spawn_at, print_at, print_line, end_at, free_at, free_mailbox, receive_at, receive_from, receive_message, clause_for, message_at, resume, thread_step, step}
 use Rattle.pat_model.specs.Runs.{acts, can_take, can_step_thread}
-use Rattle.pat_reduce.specs.Acts.{Guarding, guarding, guard_at, may_free, message_in, clause_takes, takes_option, first_taken, act_if, is_truth, is_mailbox_value, candidate, plain_act, free_act, receive_or, act_at, EnabledAct, IsFirst}
-use Rattle.pat_reduce.proofs.Firsts.{found_passes, found_any, none_found, find_same, any_same, any_map}
+use Rattle.pat_reduce_threads.specs.ThreadActs.{Guarding, guarding, guard_at, message_in, clause_takes, takes_option, first_taken}
+use Rattle.pat_reduce.specs.Acts.{may_free, act_if, is_truth, is_mailbox_value, candidate, plain_act, free_act, receive_or, act_at, EnabledAct, IsFirst}
+use Rattle.pat_reduce_values.proofs.Finds.{found_passes, found_any, none_found, find_same, any_same, any_map}
 
 -- an act of a thread at this redex with these frames
 abbrev acted : Program → Config → ℕ → List Frame → Redex → Act → Option Config

@@ -1,7 +1,5 @@
-pub mod Bindings
-pub mod Callees
-pub mod Places
-pub mod Firsts
-pub mod Candidates
+mod Places
+mod Candidates
+mod Taken
+-- for the crates above
 pub mod Shared
-pub mod Taken

@@ -8,12 +8,13 @@ use Rattle.std.proofs.lemmas.Option.{same_Some, slice_get-get_or, slice_get_read
 use Rattle.pat_model.specs.Programs.{Program}
 use Rattle.pat_model.specs.Configs.{Thread, thread_at, with_thread}
 use Rattle.pat_model.specs.Steps.{ActLocal, step, local_step, thread_step}
-use Rattle.pat_reduce.specs.declared.config.ThreadState.{ThreadState}
+use Rattle.pat_reduce_threads.specs.declared.state.ThreadState.{ThreadState}
 use Rattle.pat_reduce.specs.declared.config.Config.{Config}
-use Rattle.pat_reduce.specs.declared.error.StepError.{StepError}
-use Rattle.pat_reduce.specs.declared.error.StepError.TheVariants.{Disabled, NoMemory}
-use Rattle.pat_reduce.specs.Views.{thread_view, threads_view, config_view}
-use Rattle.pat_reduce.specs.Results.{StepGives}
+use Rattle.pat_reduce_values.specs.declared.error.StepError.{StepError}
+use Rattle.pat_reduce_values.specs.declared.error.StepError.TheVariants.{Disabled, NoMemory}
+use Rattle.pat_reduce_threads.specs.ThreadViews.{thread_view}
+use Rattle.pat_reduce.specs.Views.{threads_view, config_view}
+use Rattle.pat_reduce_values.specs.Results.{StepGives}
 use Rattle.pat_reduce.specs.Places.{IsPlace}
 
 abbrev pub Threads : Type 0

@@ -6,11 +6,12 @@ use Rattle.pat_model.specs.Values.{Value, Const, Mailbox, UnitConst, Env, value_
 use Rattle.pat_model.specs.Programs.{Program, Clause, Print, New, Send, Spawn, Guard}
 use Rattle.pat_model.specs.Configs.{Control, Returned, Frame, Thread, Message, Config, thread_at, with_thread}
 use Rattle.pat_model.specs.Steps.{Act, ActNew, ActSend, ActSpawn, ActPrint, ActFree, ActReceive, Redex, At, Done, Nowhere, redex, thread_of, new_at, send_at, send_to, spawn_at, print_at, print_line, free_at, free_mailbox, receive_at, receive_from, receive_message, clause_for, without_message, received, at_node, thread_step, step}
-use Rattle.pat_reduce.specs.declared.error.StepError.{StepError}
-use Rattle.pat_reduce.specs.declared.error.StepError.TheVariants.{Disabled, NoMemory}
-use Rattle.pat_reduce.specs.Results.{Gives, StepGives}
-use Rattle.pat_reduce.specs.Acts.{Guarding, guarding, may_free, freed_by, redex_freed, clause_takes, received_by, received_of, redex_received, message_in, is_new, message_to, redex_message, redex_line, spawned}
-use Rattle.pat_reduce.proofs.Firsts.{found_passes}
+use Rattle.pat_reduce_values.specs.declared.error.StepError.{StepError}
+use Rattle.pat_reduce_values.specs.declared.error.StepError.TheVariants.{Disabled, NoMemory}
+use Rattle.pat_reduce_values.specs.Results.{Gives, StepGives}
+use Rattle.pat_reduce_threads.specs.ThreadActs.{Guarding, guarding, clause_takes, received_by, received_of, redex_received, message_in, is_new, message_to, redex_message, redex_line, spawned}
+use Rattle.pat_reduce.specs.Acts.{may_free, freed_by, redex_freed}
+use Rattle.pat_reduce_values.proofs.Finds.{found_passes}
 
 -- the configuration where the thread goes on with this control
 abbrev pub goes_on : Config → ℕ → List Frame → Control → Config

@@ -1,5 +1,5 @@
 -- The shared steps of the thread at a place, as the code takes them.
-use Rattle.std.proofs.Common.{◌≡◌, ℕ, zero, suc, ◌+◌, ◌<◌, Bool, true, false, not, nat_eq, List, [], ◌∷◌, ◌++◌, map, reverse, length, Some, None, slice_get, slice_set, get_or, Err, refl, sym, ap, ◌∙◌, arith}
+use Rattle.std.proofs.Common.{◌≡◌, ℕ, zero, suc, ◌+◌, ◌<◌, Bool, true, false, not, nat_eq, List, [], ◌∷◌, ◌++◌, map, length, Some, None, slice_get, slice_set, get_or, Err, refl, sym, ap, ◌∙◌, arith}
 use Rattle.std.specs.Prelude.{option_map, filter, ◌||◌}
 use Rattle.std.specs.List.{list_any}
 use Rattle.std.specs.Map.{set_value}
@@ -9,34 +9,28 @@ use Rattle.std.proofs.lemmas.Option.{slice_get_read}
 use Rattle.pat_model.specs.Programs.{Program}
 use Rattle.pat_model.specs.Configs.{thread_at, control_refers, env_refers}
 use Rattle.pat_model.specs.Steps.{ActNew, ActSend, ActSpawn, ActPrint, ActFree, ActReceive, redex, thread_of, step}
-use Rattle.pat_reduce.specs.declared.values.Value.TheVariants as value
-use Rattle.pat_reduce.specs.declared.config.Control.{Control as CodeControl}
-use Rattle.pat_reduce.specs.declared.config.Control.TheVariants as control
-use Rattle.pat_reduce.specs.declared.config.Frame.{Frame as CodeFrame}
-use Rattle.pat_reduce.specs.declared.config.ThreadState.{ThreadState}
-use Rattle.pat_reduce.specs.declared.config.Message.{Message as CodeMessage}
+use Rattle.pat_reduce_values.specs.declared.values.Value.TheVariants as value
+use Rattle.pat_reduce_threads.specs.declared.state.Control.{Control as CodeControl}
+use Rattle.pat_reduce_threads.specs.declared.state.Control.TheVariants as control
+use Rattle.pat_reduce_threads.specs.declared.state.Frame.{Frame as CodeFrame}
+use Rattle.pat_reduce_threads.specs.declared.state.ThreadState.{ThreadState}
+use Rattle.pat_reduce_threads.specs.declared.state.Message.{Message as CodeMessage}
 use Rattle.pat_reduce.specs.declared.config.Config.{Config as CodeConfig}
-use Rattle.pat_reduce.specs.declared.error.StepError.{StepError}
-use Rattle.pat_reduce.specs.Results.{Gives, StepGives}
-use Rattle.pat_reduce.specs.Views.{control_view, freed_view, frame_view, message_view, thread_view, threads_view, config_view}
+use Rattle.pat_reduce_values.specs.declared.error.StepError.{StepError}
+use Rattle.pat_reduce_values.specs.Results.{Gives, StepGives}
+use Rattle.pat_reduce_threads.specs.ThreadViews.{control_view, frame_view, message_view, thread_view}
+use Rattle.pat_reduce.specs.Views.{freed_view, threads_view, config_view}
 use Rattle.pat_reduce.specs.Places.{IsPlace}
-use Rattle.pat_reduce.specs.Acts.{is_new, redex_message, redex_line, spawned, redex_freed, redex_received}
+use Rattle.pat_reduce_threads.specs.ThreadActs.{is_new, redex_message, redex_line, spawned, redex_received}
+use Rattle.pat_reduce.specs.Acts.{redex_freed}
 use Rattle.pat_reduce.proofs.Shared.{made, sent, begun, said, freed, taken, new_step, send_step, spawn_step, print_step, free_step, receive_step, refused}
-use Rattle.pat_reduce.proofs.Firsts.{any_reversed}
+use Rattle.pat_reduce_values.proofs.Finds.{any_reversed}
 
 abbrev pub Threads : Type 0
 Threads = List (ℕ × ThreadState)
 
 abbrev pub with_control : ThreadState → CodeControl → ThreadState
 with_control st k = record { control = k; frames = st.frames }
-
--- whether a frame or the control refers to the mailbox, with the frames from the bottom up
-pub frames_too : (a : ℕ) (k : CodeControl) (slice frames : List CodeFrame) (b f : Bool) → b ≡ control_refers a (control_view k) → b ≡ false → reverse slice ≡ frames → f ≡ list_any (λ q. env_refers a q.env) (map frame_view slice)
-    → f ≡ (control_refers a (control_view k) || list_any (λ q. env_refers a q.env) (map frame_view frames))
-frames_too a k slice frames b f is not_own same all =
-    all ∙ sym (any_reversed (λ q. env_refers a q.env) frame_view slice)
-    ∙ ap (λ l. list_any (λ q. env_refers a q.env) (map frame_view l)) same
-    ∙ ap (λ x. x || list_any (λ q. env_refers a q.env) (map frame_view frames)) (sym not_own ∙ is)
 
 -- what is read at a place is the thread there
 pub stands : (threads : Threads) (t i : ℕ) (e : ℕ × ThreadState) → IsPlace threads t i → e ≡ get_or threads i e → slice_get threads i ≡ Some (t, (get_or threads i e).1)

@@ -1,8 +1,9 @@
 -- Where a thread stands in the list of threads.
 use Rattle.std.specs.Prelude.{◌≡◌, ℕ, ◌<◌, nat_eq, List, length, Some, slice_get, slice_set, remove}
 use Rattle.std.specs.Map.{lookup, set_value, remove_entry}
-use Rattle.pat_reduce.specs.declared.config.ThreadState.{ThreadState}
-use Rattle.pat_reduce.specs.Views.{thread_view, threads_view}
+use Rattle.pat_reduce_threads.specs.declared.state.ThreadState.{ThreadState}
+use Rattle.pat_reduce_threads.specs.ThreadViews.{thread_view}
+use Rattle.pat_reduce.specs.Views.{threads_view}
 
 -- the thread stands at this place, before any other of its number
 pub record IsPlace (threads : List (ℕ × ThreadState)) (t i : ℕ) : Type 0 where

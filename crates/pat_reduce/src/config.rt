@@ -1,40 +1,6 @@
 // Configurations: threads, pending messages, live mailboxes, and what was printed.
-use crate::Value;
-use pat_sequences::{Sequence, Stack, Text};
-
-/// What a thread does next: a node with values for just its free variables, in ascending order of variable, or a value.
-#[derive(Drop)]
-pub enum Control {
-    Node {
-        node: u32,
-        env: Sequence<(u32, Value)>,
-    },
-    Returned(Value),
-}
-
-/// A body that waits for a value under a name, with values for just its other free variables.
-#[derive(Drop)]
-pub struct Frame {
-    pub var: Option<u32>,
-    pub body: u32,
-    pub env: Sequence<(u32, Value)>,
-}
-
-/// A thread.
-#[derive(Drop)]
-pub struct ThreadState {
-    pub control: Control,
-    pub frames: Stack<Frame>,
-}
-
-/// A pending message.
-#[derive(Drop)]
-pub struct Message {
-    pub number: u32,
-    pub mailbox: u32,
-    pub tag: u8,
-    pub values: Sequence<Value>,
-}
+use pat_reduce_threads::{Message, ThreadState};
+use pat_sequences::{Sequence, Text};
 
 /// A configuration. Threads, messages and live mailboxes stand in ascending order of number.
 #[derive(Drop)]

@@ -4,15 +4,17 @@ ghost use Rattle.pat_model.specs.Values.{line_of};
 ghost use Rattle.pat_model.specs.Steps.{redex};
 ghost use Rattle.pat_model.specs.Runs.{can_step, can_step_thread};
 ghost use Rattle.pat_core.specs.Views.{core_view, program_view};
-ghost use Rattle.pat_reduce.specs.Views.{act_view, config_view, control_view, env_view, frame_view, reference_view};
-ghost use Rattle.pat_reduce.specs.GuardViews.{guard_view};
-ghost use Rattle.pat_reduce.specs.Acts.{act_if, is_truth, is_mailbox_value, term_act, plain_act, free_act, guard_act, act_at, guard_at, EnabledAct, IsFirst};
+ghost use Rattle.pat_reduce.specs.Views.{act_view, config_view};
+ghost use Rattle.pat_reduce_threads.specs.ThreadViews.{control_view, frame_view};
+ghost use Rattle.pat_reduce_values.specs.ValueViews.{env_view, reference_view};
+ghost use Rattle.pat_reduce_threads.specs.GuardViews.{guard_view};
+ghost use Rattle.pat_reduce.specs.Acts.{act_if, is_truth, is_mailbox_value, term_act, plain_act, free_act, guard_act, act_at, EnabledAct, IsFirst};
+ghost use Rattle.pat_reduce_threads.specs.ThreadActs.{guard_at};
 
-use crate::evaluation::{evaluate, have_values, value_of};
-use crate::guards::{GuardRef, first_message, guard_of};
 use crate::steps::place_of;
-use crate::threads::{core_of, function_of};
-use crate::{Act, Config, Control, ThreadState, Value, ValueRef};
+use crate::{Act, Config};
+use pat_reduce_threads::{Control, GuardRef, ThreadState, core_of, first_message, function_of, guard_of};
+use pat_reduce_values::{Value, ValueRef, evaluate, have_values, value_of};
 use pat_core::Core;
 use pat_executable::Executable;
 

@@ -3,18 +3,11 @@
 
 mod config;
 mod enabled;
-mod environments;
-mod error;
-mod evaluation;
-mod guards;
 mod history;
 mod references;
-mod sending;
 mod steps;
-mod threads;
-mod values;
 
-pub use config::{Config, Control, Frame, Message, ThreadState};
-pub use error::StepError;
+pub use config::Config;
 pub use history::{Act, Entry, Outcome, Step};
-pub use values::{Value, ValueRef};
+pub use pat_reduce_threads::{Control, Frame, Message, ThreadState};
+pub use pat_reduce_values::{StepError, Value};

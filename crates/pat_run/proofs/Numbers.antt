@@ -9,7 +9,8 @@ use Rattle.std.specs.Prelude.{replicate}
 use Rattle.std.proofs.lemmas.List.{length-replicate}
 use Rattle.pat_model.specs.Runs.{Entry, entry_steps, run_from}
 use Rattle.pat_reduce.proofs.Shared.{made, sent, begun, said, freed, taken, new_is, send_is, spawn_is, print_is, free_is, receive_is}
-use Rattle.pat_reduce.specs.Acts.{is_new, redex_message, redex_line, redex_freed, redex_received, spawned}
+use Rattle.pat_reduce_threads.specs.ThreadActs.{is_new, redex_message, redex_line, redex_received, spawned}
+use Rattle.pat_reduce.specs.Acts.{redex_freed}
 use Rattle.pat_run.specs.Jobs.{AllLocal, IsJob, local_of}
 use Rattle.pat_run.proofs.Cuts.{job_runs, job_within}
 use Rattle.pat_run.specs.Numbers.{Within, HasRoom}

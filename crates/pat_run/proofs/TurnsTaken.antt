@@ -7,7 +7,7 @@ use Rattle.pat_model.specs.Configs.{Thread, Config}
 use Rattle.pat_model.specs.Steps.{Act, Step}
 use Rattle.pat_model.specs.Runs.{Entry, run_from, entry_steps, can_step, can_step_thread}
 use Rattle.pat_reduce.specs.Acts.{EnabledAct}
-use Rattle.pat_reduce.proofs.Firsts.{found_passes, none_found}
+use Rattle.pat_reduce_values.proofs.Finds.{found_passes, none_found}
 use Rattle.pat_run.specs.Jobs.{Jobs}
 use Rattle.pat_run.specs.Turns.{is_above, ready_above, turn, last_taken, InTurn}
 use Rattle.pat_run.proofs.Cuts.{job_runs}

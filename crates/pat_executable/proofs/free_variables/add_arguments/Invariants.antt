@@ -8,4 +8,4 @@ use Rattle.pat_executable.proofs.free_variables.add_arguments.Given as goal
 -- what is in the list, and what is still to be added, is all of it
 abbrev pub invariant-loop-e : goal.invariant-loop-e
 invariant-loop-e l =
-    (x : ℕ) → (is_among x l.own || list_any (occurs x) (map expr_view (drop l.e-index l.args))) ≡ (is_among x l.fn.own || list_any (occurs x) (map expr_view l.args))
+    (x : ℕ) → (is_among x l.own.listed || list_any (occurs x) (map expr_view (drop l.e-index l.args))) ≡ (is_among x l.fn.own.listed || list_any (occurs x) (map expr_view l.args))

@@ -8,4 +8,4 @@ use Rattle.pat_executable.proofs.free_variables.add_clauses.Given as goal
 -- what is in the list, and what is still to be added, is all of it
 abbrev pub invariant-loop-clause : goal.invariant-loop-clause
 invariant-loop-clause l =
-    (x : ℕ) → (is_among x l.own || list_any (clause_uses (λ k. is_listed l.free k x) x) (map clause_view (drop l.clause-index l.clauses))) ≡ (is_among x l.fn.own || list_any (clause_uses (λ k. is_listed l.free k x) x) (map clause_view l.clauses))
+    (x : ℕ) → (is_among x l.own.listed || list_any (clause_uses (λ k. is_listed l.free k x) x) (map clause_view (drop l.clause-index l.clauses))) ≡ (is_among x l.fn.own.listed || list_any (clause_uses (λ k. is_listed l.free k x) x) (map clause_view l.clauses))

@@ -2,9 +2,11 @@ use Rattle.std.proofs.Common.{ℕ, ap, sym, ◌∙◌, map, nat_eq, subst}
 use Rattle.std.specs.Map.{lookup}
 use Rattle.pat_model.specs.Steps.{redex}
 use Rattle.pat_core.specs.Views.{program_view}
-use Rattle.pat_reduce.specs.declared.config.ThreadState.{ThreadState}
-use Rattle.pat_reduce.specs.Views.{config_view, control_view, frame_view, thread_view, threads_view}
-use Rattle.pat_reduce.specs.Acts.{plain_act, guard_at, act_at, EnabledAct, IsFirst}
+use Rattle.pat_reduce_threads.specs.declared.state.ThreadState.{ThreadState}
+use Rattle.pat_reduce.specs.Views.{config_view, threads_view}
+use Rattle.pat_reduce_threads.specs.ThreadViews.{control_view, frame_view, thread_view}
+use Rattle.pat_reduce.specs.Acts.{plain_act, act_at, EnabledAct, IsFirst}
+use Rattle.pat_reduce_threads.specs.ThreadActs.{guard_at}
 use Rattle.pat_reduce.proofs.Places.{thread_there}
 use Rattle.pat_reduce.proofs.Candidates.{act_found, first_found, absent}
 use Rattle.pat_reduce.proofs.config.Config.enabled_act.Goals as goal

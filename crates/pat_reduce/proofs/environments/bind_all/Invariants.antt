@@ -1,8 +1,0 @@
-use Rattle.std.proofs.Common.{◌≡◌, drop, map}
-use Rattle.pat_model.specs.Values.{bind_all}
-use Rattle.pat_reduce.specs.Views.{env_view, value_view}
-use Rattle.pat_reduce.proofs.environments.bind_all.Given as goal
-
--- the variables from here on are bound
-abbrev pub invariant-loop-i : goal.invariant-loop-i
-invariant-loop-i l = env_view l.env ≡ bind_all (env_view l.fn.env) (drop l.i l.variables) (map value_view (drop l.i l.values))

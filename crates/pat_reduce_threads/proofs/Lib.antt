@@ -1,0 +1,3 @@
+mod Callees
+mod Firsts
+mod FramesReversed

@@ -1,0 +1,128 @@
+-- The parts that a thread's steps are made of, as the code tests them.
+use Rattle.std.specs.Prelude.{ℕ, Bool, true, false, ◌&&◌, nat_eq, if◌then◌else◌, List, [], ◌∷◌, length, Option, Some, None, option_map, option_and_then, find}
+use Rattle.pat_model.specs.Values.{Value, Const, Mailbox, BoolConst, Env, value_at, eval, eval_all, line_of}
+use Rattle.pat_model.specs.Programs.{Program, Function, Clause, Core, Val, Let, Call, If, Print, New, Send, Spawn, Guard, function_at}
+use Rattle.pat_model.specs.Configs.{Control, Thread, Frame, Message}
+use Rattle.pat_model.specs.Steps.{Redex, At, Done, Nowhere, at_node, thread_of, resume, frame_of, numbered, clause_for, received}
+
+-- the value, where it is one or an expression that has one
+abbrev pub redex_value : Redex → Option Value
+redex_value (At (Val e) env) = eval env e
+redex_value (Done v) = Some v
+redex_value _ = None
+
+-- the thread after a value goes to the frame on top
+abbrev pub resumed : Program → List Frame → Value → Option Thread
+resumed p [] v = None
+resumed p (f ∷ frames) v = Some (resume p f frames v)
+
+-- the frame that a let puts on top, and the control that it goes on with
+abbrev pub opened : Program → Redex → Option (Frame × Control)
+opened p (At (Let y m n) env) = Some (frame_of p y n env, at_node p m env)
+opened p _ = None
+
+-- the control that a call goes on with
+abbrev pub entered : Program → Option Function → Option Env → Option Control
+entered p (Some f) (Some env) = Some (at_node p f.body env)
+entered p _ _ = None
+
+-- the control that a choice goes on with
+abbrev pub chosen : Program → Option Value → ℕ → ℕ → Env → Option Control
+chosen p (Some (Const (BoolConst b))) m n env = Some (at_node p (if b then m else n) env)
+chosen p _ m n env = None
+
+-- the control that a call or a choice goes on with
+abbrev pub jumped : Program → Redex → Option Control
+jumped p (At (Call f args) env) = entered p (function_at p f) (option_map (numbered 0) (eval_all env args))
+jumped p (At (If e m n) env) = chosen p (eval env e) m n env
+jumped p _ = None
+
+-- with a further frame, or with the frames as they were
+abbrev pub gone_on : Option (Frame × Control) → Option Control → List Frame → Option Thread
+gone_on (Some (f, k)) j frames = Some (thread_of k (f ∷ frames))
+gone_on None j frames = option_map (λ k. thread_of k frames) j
+
+-- the thread after a local step that no value is needed for
+abbrev pub other_local : Program → Redex → List Frame → Option Thread
+other_local p r frames = gone_on (opened p r) (jumped p r) frames
+
+-- the line that is printed next
+abbrev pub redex_line : Redex → Option (List ℕ)
+redex_line (At (Print e) env) = option_and_then line_of (eval env e)
+redex_line _ = None
+
+-- whether it makes a mailbox
+abbrev pub is_new : Redex → Bool
+is_new (At (New i) env) = true
+is_new _ = false
+
+-- the message of this number, tag and target, if there are a mailbox and values for it
+abbrev pub message_to : ℕ → ℕ → Option Value → Option (List Value) → Option Message
+message_to n m (Some (Mailbox a)) (Some vs) = Some (record { number = n; mailbox = a; tag = m; values = vs })
+message_to n m _ _ = None
+
+-- the message that is sent next, under this number
+abbrev pub redex_message : ℕ → Redex → Option Message
+redex_message n (At (Send x m args) env) = message_to n m (value_at env x) (eval_all env args)
+redex_message n _ = None
+
+-- the control of the thread that is spawned next
+abbrev pub spawned : Program → Redex → Option Control
+spawned p (At (Spawn m) env) = Some (at_node p m env)
+spawned p _ = None
+
+-- whether it is a value or an expression, and no frame waits
+abbrev pub is_over_at : Redex → List Frame → Bool
+is_over_at (At (Val e) env) [] = true
+is_over_at (Done v) [] = true
+is_over_at _ _ = false
+
+-- a guard with values, one of them the mailbox that it is on
+pub record Guarding : Type 0 where
+  pub mailbox : ℕ
+  pub free : Option ℕ
+  pub receives : List Clause
+  pub env : Env
+
+abbrev pub guarding : Option ℕ → List Clause → Env → Option Value → Option Guarding
+guarding free cs env (Some (Mailbox a)) = Some (record { mailbox = a; free = free; receives = cs; env = env })
+guarding free cs env _ = None
+
+-- the guard that stands there
+abbrev pub guard_at : Redex → Option Guarding
+guard_at (At (Guard x e free cs) env) = guarding free cs env (value_at env x)
+guard_at _ = None
+
+-- the message of this number
+abbrev pub message_in : List Message → ℕ → Option Message
+message_in ms k = find (λ m. nat_eq k m.number) ms
+
+-- whether the clause takes the message from the mailbox
+abbrev pub clause_takes : ℕ → Message → Option Clause → Bool
+clause_takes a m None = false
+clause_takes a m (Some r) = nat_eq m.mailbox a && nat_eq (length r.vars) (length m.values)
+
+-- whether the guard takes the message
+abbrev pub takes : Guarding → Message → Bool
+takes g m = clause_takes g.mailbox m (clause_for m.tag g.receives)
+
+-- the control that goes on with the message
+abbrev pub received_by : Program → Guarding → Message → Option Clause → Option Control
+received_by p g m None = None
+received_by p g m (Some r) = if clause_takes g.mailbox m (Some r) then Some (at_node p r.body (received r m g.env)) else None
+
+abbrev pub received_of : Program → Guarding → Option Message → Option Control
+received_of p g None = None
+received_of p g (Some m) = received_by p g m (clause_for m.tag g.receives)
+
+abbrev pub redex_received : Program → List Message → ℕ → Redex → Option Control
+redex_received p ms k r = option_and_then (λ g. received_of p g (message_in ms k)) (guard_at r)
+
+-- whether the guard takes the message, if it is there
+abbrev pub takes_option : Guarding → Option Message → Bool
+takes_option g None = false
+takes_option g (Some m) = takes g m
+
+-- the first of the messages that the guard takes by its number
+abbrev pub first_taken : Guarding → List Message → Option Message
+first_taken g ms = find (λ m. takes_option g (message_in ms m.number)) ms

@@ -1,0 +1,40 @@
+// The nodes and functions of a program.
+ghost use Rattle.std.specs.Prelude.{◌≡◌, option_copied, option_map, IfOk};
+ghost use Rattle.pat_model.specs.Programs.{core_at, function_at};
+ghost use Rattle.pat_model.specs.Steps.{at_node};
+ghost use Rattle.pat_core.specs.Views.{core_view, function_view, program_view};
+ghost use Rattle.pat_reduce_values.specs.ValueViews.{env_view};
+ghost use Rattle.pat_reduce_threads.specs.ThreadViews.{control_view};
+
+use crate::Control;
+use pat_core::{Core, Function};
+use pat_executable::Executable;
+use pat_reduce_values::{Value, kept};
+use std::alloc::{AllocError, Global};
+
+/// The term of a node.
+pub fn core_of<'a>(code: &'a Executable, node: u32) -> Option<&'a Core>
+    ensures { option_map core_view (option_copied result) ≡ core_at (program_view code.now.program) node }
+{
+    Some(&code.program.nodes.as_slice().get(node as usize)?.core)
+}
+
+/// The function of a number.
+pub fn function_of<'a>(code: &'a Executable, number: u32) -> Option<&'a Function>
+    ensures { option_map function_view (option_copied result) ≡ function_at (program_view code.now.program) number }
+{
+    code.program.functions.as_slice().get(number as usize)
+}
+
+/// The node with its part of the values.
+pub fn node_with(
+    alloc: Global,
+    code: &Executable,
+    node: u32,
+    env: &[(u32, Value)],
+) -> Result<Control, AllocError>
+    ensures { IfOk result (λ k. control_view k ≡ at_node (program_view code.now.program) node (env_view env.now)) }
+{
+    let env = kept(alloc, code, node, env)?;
+    Ok(Control::Node { node, env })
+}

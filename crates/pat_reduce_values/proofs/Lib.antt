@@ -1,0 +1,3 @@
+mod Bindings
+-- for the crates above
+pub mod Finds

@@ -1,0 +1,8 @@
+use Rattle.std.proofs.Common.{◌≡◌, ◌++◌, drop}
+use Rattle.pat_core.specs.Views.{program_view}
+use Rattle.pat_reduce_values.specs.Environments.{keep_but}
+use Rattle.pat_reduce_values.specs.ValueViews.{env_view}
+use Rattle.pat_reduce_values.proofs.environments.kept_but.Given as goal
+
+abbrev pub invariant-loop-entry : goal.invariant-loop-entry
+invariant-loop-entry l = env_view l.own ++ keep_but (program_view l.code.program) l.node l.var (env_view (drop l.entry-index l.env)) ≡ keep_but (program_view l.code.program) l.node l.var (env_view l.env)

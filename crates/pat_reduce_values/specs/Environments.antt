@@ -1,0 +1,21 @@
+-- The environment of a frame, and where a variable stands in an environment.
+use Rattle.std.specs.Prelude.{◌≡◌, ℕ, ◌≤◌, Bool, false, not, nat_eq, List, ◌++◌, length, take, drop, Option, Some, None, slice_get, filter}
+use Rattle.pat_model.specs.Values.{Value, Env, bind}
+use Rattle.pat_model.specs.Programs.{Program, is_among, option_list, keep}
+use Rattle.pat_reduce_values.specs.declared.values.Value.{Value as CodeValue}
+use Rattle.pat_reduce_values.specs.ValueViews.{env_view}
+
+-- the values of just the node's free variables but the one that a let binds
+abbrev pub keep_but : Program → ℕ → Option ℕ → Env → Env
+keep_but p n y env = filter (λ b. not (is_among b.0 (option_list y))) (keep p n env)
+
+-- the variables before the place are less than this one, and the one at the place, if there is one, is not
+pub record IsPlaceFor (env : List (ℕ × CodeValue)) (x i : ℕ) : Type 0 where
+  pub within : i ≤ length env
+  pub before : (v : Value) → bind (env_view env) x v ≡ env_view (take i env) ++ bind (env_view (drop i env)) x v
+  pub here : (e : ℕ × CodeValue) → slice_get env i ≡ Some e → x ≤ e.0
+
+-- whether it is this variable's entry
+abbrev pub stands_at : ℕ → Option (ℕ × CodeValue) → Bool
+stands_at x None = false
+stands_at x (Some e) = nat_eq e.0 x

@@ -1,0 +1,3 @@
+pub mod ValueViews
+pub mod Environments
+pub mod Results

@@ -1,0 +1,132 @@
+// Environments: values of variables, in ascending order of variable.
+ghost use Rattle.std.specs.Prelude.{◌≡◌, length, map, slice_get, IfOk, OnOk};
+ghost use Rattle.pat_model.specs.Values.{bind, bind_all};
+ghost use Rattle.pat_model.specs.Programs.{keep};
+ghost use Rattle.pat_model.specs.Steps.{bind_name};
+ghost use Rattle.pat_core.specs.Views.{program_view};
+ghost use Rattle.pat_reduce_values.specs.ValueViews.{value_view, env_view};
+ghost use Rattle.pat_reduce_values.specs.Environments.{keep_but, IsPlaceFor, stands_at};
+
+use crate::Value;
+use pat_executable::Executable;
+use pat_sequences::Sequence;
+use std::alloc::{AllocError, Global};
+
+/// The values of just the node's free variables.
+pub fn kept(
+    alloc: Global,
+    code: &Executable,
+    node: u32,
+    env: &[(u32, Value)],
+) -> Result<Sequence<(u32, Value)>, AllocError>
+    ensures { IfOk result (λ r. env_view r ≡ keep (program_view code.now.program) node (env_view env.now)) }
+{
+    let mut own = Sequence::new(alloc);
+    for entry in env {
+        if code.is_free(entry.0, node) {
+            own.push((entry.0, entry.1.copy(alloc)?))?;
+        }
+    }
+    Ok(own)
+}
+
+/// The values of just the node's free variables but one.
+pub fn kept_but(
+    alloc: Global,
+    code: &Executable,
+    node: u32,
+    var: Option<u32>,
+    env: &[(u32, Value)],
+) -> Result<Sequence<(u32, Value)>, AllocError>
+    ensures { IfOk result (λ r. env_view r ≡ keep_but (program_view code.now.program) node var (env_view env.now)) }
+{
+    let mut own = Sequence::new(alloc);
+    for entry in env {
+        if code.is_free(entry.0, node) && var != Some(entry.0) {
+            own.push((entry.0, entry.1.copy(alloc)?))?;
+        }
+    }
+    Ok(own)
+}
+
+/// A second environment, the same.
+pub fn copied(alloc: Global, env: &[(u32, Value)]) -> Result<Sequence<(u32, Value)>, AllocError>
+    ensures { IfOk result (λ r. env_view r ≡ env_view env.now) }
+{
+    let mut own = Sequence::new(alloc);
+    for entry in env {
+        own.push((entry.0, entry.1.copy(alloc)?))?;
+    }
+    Ok(own)
+}
+
+/// The environment where the variable, if there is one, has this value.
+pub fn bound(
+    alloc: Global,
+    env: &[(u32, Value)],
+    var: Option<u32>,
+    value: Value,
+) -> Result<Sequence<(u32, Value)>, AllocError>
+    ensures { IfOk result (λ r. env_view r ≡ bind_name (env_view env.now) var (value_view value)) }
+{
+    let mut own = copied(alloc, env)?;
+    match var {
+        Some(variable) => {
+            bind(&mut own, variable, value)?;
+            Ok(own)
+        }
+        None => Ok(own),
+    }
+}
+
+/// Gives the variable the value. An error may have lost the value.
+pub fn bind(env: &mut Sequence<(u32, Value)>, variable: u32, value: Value) -> Result<(), AllocError>
+    ensures { OnOk result (env_view env.new ≡ bind (env_view env.old) variable (value_view value)) }
+{
+    let place = place_for(env.as_slice(), variable);
+    if is_at(env.as_slice(), place, variable) {
+        let _ = env.replace(place, (variable, value));
+        return Ok(());
+    }
+    env.items.insert(place, (variable, value))?;
+    Ok(())
+}
+
+/// Gives each variable the copy of the value at its place. An error may have bound some of them.
+pub fn bind_all(
+    alloc: Global,
+    env: &mut Sequence<(u32, Value)>,
+    variables: &[u32],
+    values: &[Value],
+) -> Result<(), AllocError>
+    requires { length variables.now ≡ length values.now }
+    ensures { OnOk result (env_view env.new ≡ bind_all (env_view env.old) variables.now (map value_view values.now)) }
+{
+    for i in (0..variables.len()).rev() {
+        let value = values[i].copy(alloc)?;
+        bind(env, variables[i], value)?;
+    }
+    Ok(())
+}
+
+// The place of the first variable that isn't less than this one.
+fn place_for(env: &[(u32, Value)], variable: u32) -> usize
+    ensures { IsPlaceFor env.now variable result }
+{
+    for (i, entry) in env.iter().enumerate() {
+        if variable <= entry.0 {
+            return i;
+        }
+    }
+    env.len()
+}
+
+// Whether the variable at the place is this one.
+fn is_at(env: &[(u32, Value)], place: usize, variable: u32) -> bool
+    ensures { result ≡ stands_at variable (slice_get env.now place) }
+{
+    match env.get(place) {
+        Some(entry) => entry.0 == variable,
+        None => false,
+    }
+}

@@ -1,0 +1,130 @@
+// The values of expressions.
+ghost use Rattle.std.specs.Prelude.{◌≡◌, Some, map, option_map, is_some};
+ghost use Rattle.pat_model.specs.Values.{Const, eval, eval_all, value_at, apply, apply_values, IntConst, TextConst};
+ghost use Rattle.pat_model.specs.Steps.{numbered};
+ghost use Rattle.pat_primitives.specs.Views.{op_view};
+ghost use Rattle.pat_core.specs.Views.{expr_view};
+ghost use Rattle.pat_reduce_values.specs.ValueViews.{value_view, reference_view, env_view};
+ghost use Rattle.pat_reduce_values.specs.Results.{Gives};
+
+use crate::{StepError, Value, ValueRef};
+use pat_core::Expr;
+use pat_primitives::Op;
+use pat_sequences::{Sequence, Text};
+use std::alloc::{AllocError, Global};
+
+/// The value of an expression, where its variables have values and its operators take them.
+pub fn evaluate<'a>(e: &'a Expr, env: &'a [(u32, Value)]) -> Option<ValueRef<'a>>
+    ensures { option_map reference_view result ≡ eval (env_view env.now) (expr_view e.now) }
+{
+    match e {
+        Expr::Var(variable) => value_of(env, *variable),
+        Expr::Unit => Some(ValueRef::Unit),
+        Expr::Bool(b) => Some(ValueRef::Bool(*b)),
+        Expr::Int(n) => Some(ValueRef::Int(*n)),
+        Expr::Str(text) => Some(ValueRef::Str(text)),
+        Expr::Op(op, left, right) => operate(*op, evaluate(left, env), evaluate(right, env)),
+    }
+}
+
+/// The value of a variable, if it has one.
+pub fn value_of<'a>(env: &'a [(u32, Value)], variable: u32) -> Option<ValueRef<'a>>
+    ensures { option_map reference_view result ≡ value_at (env_view env.now) variable }
+{
+    for (own, value) in env {
+        if variable == *own {
+            return Some(value.borrow());
+        }
+    }
+    None
+}
+
+fn operate<'a>(
+    op: Op,
+    left: Option<ValueRef<'a>>,
+    right: Option<ValueRef<'a>>,
+) -> Option<ValueRef<'a>>
+    ensures { option_map reference_view result ≡ apply_values (op_view op) (option_map reference_view left.entry) (option_map reference_view right.entry) }
+{
+    match (left, right) {
+        (Some(ValueRef::Int(m)), Some(ValueRef::Int(n))) => Some(operate_on_integers(op, m, n)),
+        (Some(ValueRef::Bool(b)), Some(ValueRef::Bool(c))) => match op {
+            Op::Equal => Some(ValueRef::Bool(b == c)),
+            _ => None,
+        },
+        (Some(ValueRef::Str(s)), Some(ValueRef::Str(t))) => match op {
+            Op::Equal => Some(ValueRef::Bool(s.as_bytes() == t.as_bytes())),
+            _ => None,
+        },
+        _ => None,
+    }
+}
+
+// Sums, differences and products wrap at 64 bits.
+fn operate_on_integers<'a>(op: Op, m: i64, n: i64) -> ValueRef<'a>
+    ensures { Some (reference_view result) ≡ option_map Const (apply (op_view op) (IntConst m) (IntConst n)) }
+{
+    match op {
+        Op::Add => ValueRef::Int(m.wrapping_add(n)),
+        Op::Sub => ValueRef::Int(m.wrapping_sub(n)),
+        Op::Mul => ValueRef::Int(m.wrapping_mul(n)),
+        Op::Equal => ValueRef::Bool(m == n),
+        Op::Less => ValueRef::Bool(m < n),
+    }
+}
+
+/// Whether each of the expressions has a value.
+pub fn have_values(args: &[Expr], env: &[(u32, Value)]) -> bool
+    ensures { result ≡ is_some (eval_all (env_view env.now) (map expr_view args.now)) }
+{
+    for e in args {
+        if evaluate(e, env).is_none() {
+            return false;
+        }
+    }
+    true
+}
+
+/// The values of the expressions, where each has one.
+pub fn values_of(
+    alloc: Global,
+    args: &[Expr],
+    env: &[(u32, Value)],
+) -> Result<Sequence<Value>, StepError>
+    ensures { Gives (map value_view) (eval_all (env_view env.now) (map expr_view args.now)) result }
+{
+    let mut values = Sequence::new(alloc);
+    for e in args {
+        values.push(value_for(alloc, e, env)?)?;
+    }
+    Ok(values)
+}
+
+/// The values of the expressions under the numbers from 0 on, where each has one.
+pub fn parameters(
+    alloc: Global,
+    args: &[Expr],
+    env: &[(u32, Value)],
+) -> Result<Sequence<(u32, Value)>, StepError>
+    ensures { Gives env_view (option_map (numbered 0) (eval_all (env_view env.now) (map expr_view args.now))) result }
+{
+    let mut values = Sequence::new(alloc);
+    for (number, e) in args.iter().enumerate() {
+        // More values than numbers is want of memory.
+        let Ok(variable) = u32::try_from(number) else {
+            return Err(StepError::NoMemory);
+        };
+        values.push((variable, value_for(alloc, e, env)?))?;
+    }
+    Ok(values)
+}
+
+/// The value of an expression, where it has one.
+pub fn value_for(alloc: Global, e: &Expr, env: &[(u32, Value)]) -> Result<Value, StepError>
+    ensures { Gives value_view (eval (env_view env.now) (expr_view e.now)) result }
+{
+    match evaluate(e, env) {
+        Some(value) => Ok(value.to_value(alloc)?),
+        None => Err(StepError::Disabled),
+    }
+}
