@@ -1,3 +1,4 @@
 mod Callees
 mod Firsts
 mod FramesReversed
+mod ParametersKept

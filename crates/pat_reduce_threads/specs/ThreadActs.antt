@@ -23,8 +23,8 @@ opened p _ = None
 
 -- the control that a call goes on with
 abbrev pub entered : Program → Option Function → Option Env → Option Control
-entered p (Some f) (Some env) = Some (at_node p f.body env)
-entered p _ _ = None
+entered p None own = None
+entered p (Some f) own = option_map (at_node p f.body) own
 
 -- the control that a choice goes on with
 abbrev pub chosen : Program → Option Value → ℕ → ℕ → Env → Option Control

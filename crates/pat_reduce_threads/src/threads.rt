@@ -2,7 +2,7 @@
 ghost use Rattle.std.specs.Prelude.{◌≡◌, map, option_copied, option_map, IfOk};
 ghost use Rattle.pat_model.specs.Values.{eval, eval_all, line_of};
 ghost use Rattle.pat_model.specs.Programs.{core_at, function_at};
-ghost use Rattle.pat_model.specs.Steps.{local_step, numbered, redex, frame_of};
+ghost use Rattle.pat_model.specs.Steps.{local_step, numbered, redex, frame_of, at_node};
 ghost use Rattle.pat_core.specs.Views.{core_view, expr_view, function_view, program_view};
 ghost use Rattle.pat_reduce_values.specs.ValueViews.{value_view, reference_view, env_view};
 ghost use Rattle.pat_reduce_threads.specs.ThreadViews.{control_view, frame_view, thread_view, opened_view};
@@ -145,11 +145,24 @@ fn enter(
     ensures { Gives control_view (entered (program_view code.now.program) (function_at (program_view code.now.program) function) (option_map (numbered 0) (eval_all (env_view env.now) (map expr_view args.now)))) result }
 {
     match function_of(code, function) {
-        Some(entry) => {
-            let env = parameters(alloc, args, env)?;
-            Ok(node_with(alloc, code, entry.body, env.as_slice())?)
-        }
+        Some(entry) => node_with_parameters(alloc, code, entry.body, args, env),
         None => Err(StepError::Disabled),
+    }
+}
+
+// The node with its part of the values of the arguments.
+fn node_with_parameters(
+    alloc: Global,
+    code: &Executable,
+    node: u32,
+    args: &[Expr],
+    env: &[(u32, Value)],
+) -> Result<Control, StepError>
+    ensures { Gives control_view (option_map (at_node (program_view code.now.program) node) (option_map (numbered 0) (eval_all (env_view env.now) (map expr_view args.now)))) result }
+{
+    match parameters(alloc, args, env) {
+        Ok(own) => Ok(node_with(alloc, code, node, own.as_slice())?),
+        Err(error) => Err(error),
     }
 }
 

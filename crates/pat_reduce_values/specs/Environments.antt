@@ -1,5 +1,5 @@
--- The environment of a frame, and where a variable stands in an environment.
-use Rattle.std.specs.Prelude.{◌≡◌, ℕ, ◌≤◌, Bool, false, not, nat_eq, List, ◌++◌, length, take, drop, Option, Some, None, slice_get, filter}
+-- The environments of a frame and of a call, and where a variable stands in an environment.
+use Rattle.std.specs.Prelude.{◌≡◌, ℕ, suc, ◌≤◌, Bool, false, not, nat_eq, nat_lt, if◌then◌else◌, List, [], ◌∷◌, ◌++◌, length, take, drop, Option, Some, None, slice_get, filter}
 use Rattle.pat_model.specs.Values.{Value, Env, bind}
 use Rattle.pat_model.specs.Programs.{Program, is_among, option_list, keep}
 use Rattle.pat_reduce_values.specs.declared.values.Value.{Value as CodeValue}
@@ -8,6 +8,15 @@ use Rattle.pat_reduce_values.specs.ValueViews.{env_view}
 -- the values of just the node's free variables but the one that a let binds
 abbrev pub keep_but : Program → ℕ → Option ℕ → Env → Env
 keep_but p n y env = filter (λ b. not (is_among b.0 (option_list y))) (keep p n env)
+
+-- the value under its number, where that is one of 32 bits
+abbrev pub parameter : ℕ → Value → Env
+parameter k v = if nat_lt k 4294967296 then (k, v) ∷ [] else []
+
+-- the values under the 32-bit numbers from k on
+abbrev pub parameters_from : ℕ → List Value → Env
+parameters_from k [] = []
+parameters_from k (v ∷ vs) = parameter k v ++ parameters_from (suc k) vs
 
 -- the variables before the place are less than this one, and the one at the place, if there is one, is not
 pub record IsPlaceFor (env : List (ℕ × CodeValue)) (x i : ℕ) : Type 0 where

@@ -1,10 +1,10 @@
 // The values of expressions.
-ghost use Rattle.std.specs.Prelude.{◌≡◌, Some, map, option_map, is_some};
+ghost use Rattle.std.specs.Prelude.{◌≡◌, ◌++◌, Some, map, option_map, is_some, OnOk};
 ghost use Rattle.pat_model.specs.Values.{Const, eval, eval_all, value_at, apply, apply_values, IntConst, TextConst};
-ghost use Rattle.pat_model.specs.Steps.{numbered};
 ghost use Rattle.pat_primitives.specs.Views.{op_view};
 ghost use Rattle.pat_core.specs.Views.{expr_view};
 ghost use Rattle.pat_reduce_values.specs.ValueViews.{value_view, reference_view, env_view};
+ghost use Rattle.pat_reduce_values.specs.Environments.{parameter, parameters_from};
 ghost use Rattle.pat_reduce_values.specs.Results.{Gives};
 
 use crate::{StepError, Value, ValueRef};
@@ -100,23 +100,33 @@ pub fn values_of(
     Ok(values)
 }
 
-/// The values of the expressions under the numbers from 0 on, where each has one.
+/// The values of the expressions under the numbers from 0 on, where each has one. A value past the last 32-bit number
+/// is left out, since no variable has its number.
 pub fn parameters(
     alloc: Global,
     args: &[Expr],
     env: &[(u32, Value)],
 ) -> Result<Sequence<(u32, Value)>, StepError>
-    ensures { Gives env_view (option_map (numbered 0) (eval_all (env_view env.now) (map expr_view args.now))) result }
+    ensures { Gives env_view (option_map (parameters_from 0) (eval_all (env_view env.now) (map expr_view args.now))) result }
 {
     let mut values = Sequence::new(alloc);
     for (number, e) in args.iter().enumerate() {
-        // More values than numbers is want of memory.
-        let Ok(variable) = u32::try_from(number) else {
-            return Err(StepError::NoMemory);
-        };
-        values.push((variable, value_for(alloc, e, env)?))?;
+        push_parameter(&mut values, number, value_for(alloc, e, env)?)?;
     }
     Ok(values)
+}
+
+fn push_parameter(
+    values: &mut Sequence<(u32, Value)>,
+    number: usize,
+    value: Value,
+) -> Result<(), AllocError>
+    ensures { OnOk result (env_view values.new ≡ env_view values.old ++ parameter number (value_view value)) }
+{
+    match u32::try_from(number) {
+        Ok(variable) => values.push((variable, value)),
+        Err(_) => Ok(()),
+    }
 }
 
 /// The value of an expression, where it has one.
