@@ -30,11 +30,7 @@ pub fn list_free(alloc: Global, program: &Program) -> Result<Sequence<Variables>
 }
 
 // The free variables of a term, by those of its parts.
-fn free_of(
-    alloc: Global,
-    core: &Core,
-    free: &Sequence<Variables>,
-) -> Result<Variables, AllocError>
+fn free_of(alloc: Global, core: &Core, free: &Sequence<Variables>) -> Result<Variables, AllocError>
     ensures { IfOk result (λ own. (x : ℕ) → is_among x own.listed ≡ core_uses (λ k. is_listed free.now k x) x (core_view core.now)) }
 {
     let mut own = Variables::new(alloc);
@@ -43,11 +39,7 @@ fn free_of(
 }
 
 // Adds the free variables of a term.
-fn add_term(
-    own: &mut Variables,
-    free: &Sequence<Variables>,
-    core: &Core,
-) -> Result<(), AllocError>
+fn add_term(own: &mut Variables, free: &Sequence<Variables>, core: &Core) -> Result<(), AllocError>
     ensures { OnOk result ((x : ℕ) → is_among x own.new.listed ≡ (is_among x own.old.listed || core_uses (λ k. is_listed free.now k x) x (core_view core.now))) }
 {
     match core {

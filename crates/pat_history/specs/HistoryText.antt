@@ -13,7 +13,7 @@ line text = text ++ 10 ∷ []
 abbrev pub spaced : List ℕ → List ℕ → List ℕ
 spaced first rest = first ++ 32 ∷ rest
 
--- the word of an entry's shared act; a receive names its message
+-- the word of an entry's shared act; a receive names its message. No entry of a history has a local step there
 abbrev pub act_word : Option Act → List ℕ
 act_word None = codes "-"
 act_word (Some ActLocal) = codes "local"

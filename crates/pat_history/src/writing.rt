@@ -1,6 +1,7 @@
 // Entries as lines.
 ghost use Rattle.std.specs.Prelude.{◌≡◌, ◌++◌, ◌∷◌, [], Some, map, option_map, IfOk, OnOk};
 ghost use Rattle.std.specs.Fmt.{decimal};
+ghost use Rattle.pat_model.specs.Runs.{IsShared, IsSharedOrNone, IsHistory};
 ghost use Rattle.pat_reduce.specs.Views.{act_view, entry_view};
 ghost use Rattle.pat_history.specs.HistoryText.{act_word, entry_line, history_text, NamesNoMessage};
 
@@ -8,8 +9,9 @@ use pat_decimal::push_number;
 use pat_reduce::{Act, Entry};
 use std::alloc::{AllocError, Global};
 
-/// The text of a history.
+/// The text of a history. No entry has a local step as its shared act: no text of a history has one.
 pub fn write(alloc: Global, entries: &[Entry]) -> Result<Vec<u8>, AllocError>
+    requires { IsHistory (map entry_view entries.now) }
     ensures { IfOk result (λ t. t.items ≡ history_text (map entry_view entries.now)) }
 {
     let mut text = b"%%history\n".to_vec(alloc)?;
@@ -20,6 +22,7 @@ pub fn write(alloc: Global, entries: &[Entry]) -> Result<Vec<u8>, AllocError>
 }
 
 fn push_entry(alloc: Global, text: &mut Vec<u8>, entry: &Entry) -> Result<(), AllocError>
+    requires { IsSharedOrNone (option_map act_view entry.now.shared) }
     ensures { OnOk result (text.new.items ≡ text.old.items ++ entry_line (entry_view entry.now)) }
 {
     push_field(alloc, text, entry.worker)?;
@@ -40,6 +43,7 @@ fn push_field(alloc: Global, text: &mut Vec<u8>, n: u32) -> Result<(), AllocErro
 }
 
 fn push_act(alloc: Global, text: &mut Vec<u8>, shared: Option<Act>) -> Result<(), AllocError>
+    requires { IsSharedOrNone (option_map act_view shared) }
     ensures { OnOk result (text.new.items ≡ text.old.items ++ act_word (option_map act_view shared)) }
 {
     match shared {
@@ -58,19 +62,19 @@ fn push_act(alloc: Global, text: &mut Vec<u8>, shared: Option<Act>) -> Result<()
     }
 }
 
-// No entry has a local step as its shared one; for one that had, there is no word of its own.
 fn word_of(act: Act) -> &'static [u8]
-    requires { NamesNoMessage (act_view act) }
+    requires shared { IsShared (act_view act) }
+    requires whole { NamesNoMessage (act_view act) }
     ensures { result.now ≡ act_word (Some (act_view act)) }
 {
     match act {
-        Act::Local => b"local",
         Act::New => b"new",
         Act::Send => b"send",
         Act::Spawn => b"spawn",
         Act::Print => b"print",
         Act::End => b"end",
         Act::Free => b"free",
+        Act::Local => unreachable!(),
         Act::Receive(_) => unreachable!(),
     }
 }

@@ -1,5 +1,6 @@
 // The text of a run.
 ghost use Rattle.std.specs.Prelude.{◌≡◌, ◌++◌, map, IfOk, OnOk};
+ghost use Rattle.pat_model.specs.Runs.{IsHistory};
 ghost use Rattle.pat_reduce.specs.Views.{config_view, entry_view, outcome_view, threads_view};
 ghost use Rattle.pat_lines.specs.RunText.{output_line, output_text, outcome_line, numbers_text, run_text};
 
@@ -11,6 +12,7 @@ use std::alloc::{AllocError, Global};
 
 /// The history, the lines printed, and the outcome.
 pub fn text_of(alloc: Global, run: &Finished) -> Result<Vec<u8>, AllocError>
+    requires { IsHistory (map entry_view run.now.entries) }
     ensures { IfOk result (λ t. t.items ≡ run_text (map entry_view run.now.entries) (config_view run.now.config) (outcome_view run.now.outcome) run.now.steps) }
 {
     let mut text = pat_history::write(alloc, run.entries.as_slice())?;

@@ -1,5 +1,7 @@
 mod Places
 mod Candidates
 mod Taken
+mod Shared
 -- for the crates above
-pub mod Shared
+pub mod LeastActs
+pub mod StepNumbers

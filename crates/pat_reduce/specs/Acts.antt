@@ -1,10 +1,11 @@
 -- What a free and the enabling of a thread's acts are made of, as the code tests them.
-use Rattle.std.specs.Prelude.{◌≡◌, ℕ, Bool, true, false, not, ◌&&◌, if◌then◌else◌, List, [], ◌∷◌, Option, Some, None, option_map, option_and_then, is_some, find, IsTrue, IsFalse}
+use Rattle.std.specs.Prelude.{◌≡◌, ◌≤◌, ℕ, Bool, true, false, not, ◌&&◌, if◌then◌else◌, List, [], ◌∷◌, Option, Some, None, option_map, option_and_then, is_some, find, IsTrue, IsFalse}
 use Rattle.pat_model.specs.Values.{Value, Const, Mailbox, BoolConst, Env, value_at, eval, eval_all, line_of}
 use Rattle.pat_model.specs.Programs.{Program, Core, Val, Let, Call, If, Print, New, Send, Spawn, Guard, function_at, is_among}
 use Rattle.pat_model.specs.Configs.{Control, Frame, Message, Config, has_pending, is_reached_by_none_but}
 use Rattle.pat_model.specs.Steps.{Act, ActLocal, ActNew, ActSend, ActSpawn, ActPrint, ActEnd, ActFree, ActReceive, Redex, At, Done, Nowhere, at_node, step}
 use Rattle.pat_model.specs.Runs.{can_step_thread}
+use Rattle.pat_model_laws.specs.Laws.{IsEnabled}
 use Rattle.pat_reduce_threads.specs.ThreadActs.{Guarding, guard_at, first_taken}
 
 -- whether a mailbox may be freed by a thread: it is live, nothing is pending in it, and nothing else reaches it
@@ -87,3 +88,12 @@ EnabledAct p c t (Some a) = IsTrue (is_some (step p c (record { thread = t; act 
 abbrev pub IsFirst : Program → Config → ℕ → Option Act → Type 0
 IsFirst p c t (Some (ActReceive k)) = option_map (λ m. m.number) (find (λ m. is_some (step p c (record { thread = t; act = ActReceive m.number }))) c.messages) ≡ Some k
 IsFirst p c t _ = Unit {0}
+
+-- the message that is received is the least that the thread may receive
+abbrev pub IsLeast : Program → Config → ℕ → Option Act → Type 0
+IsLeast p c t (Some (ActReceive k)) = (m : ℕ) → IsEnabled p c (record { thread = t; act = ActReceive m }) → k ≤ m
+IsLeast p c t _ = Unit {0}
+
+-- no thread below this one can step
+abbrev pub IsLeastReady : Program → Config → ℕ → Type 0
+IsLeastReady p c t = (u : ℕ) → IsTrue (can_step_thread p c u) → t ≤ u

@@ -1,3 +1,4 @@
 pub mod Views
 pub mod Places
 pub mod Acts
+pub mod StepsTaken

@@ -2,27 +2,32 @@
 ghost use Rattle.std.specs.Prelude.{◌≡◌, map, option_map, option_and_then, is_some, IfSome, IfNone, IsTrue, IsFalse};
 ghost use Rattle.pat_model.specs.Values.{line_of};
 ghost use Rattle.pat_model.specs.Steps.{redex};
+ghost use Rattle.pat_model.specs.Orders.{IsOrdered};
 ghost use Rattle.pat_model.specs.Runs.{can_step, can_step_thread};
 ghost use Rattle.pat_core.specs.Views.{core_view, program_view};
 ghost use Rattle.pat_reduce.specs.Views.{act_view, config_view};
 ghost use Rattle.pat_reduce_threads.specs.ThreadViews.{control_view, frame_view};
 ghost use Rattle.pat_reduce_values.specs.ValueViews.{env_view, reference_view};
 ghost use Rattle.pat_reduce_threads.specs.GuardViews.{guard_view};
-ghost use Rattle.pat_reduce.specs.Acts.{act_if, is_truth, is_mailbox_value, term_act, plain_act, free_act, guard_act, act_at, EnabledAct, IsFirst};
+ghost use Rattle.pat_reduce.specs.Acts.{act_if, is_truth, is_mailbox_value, term_act, plain_act, free_act, guard_act, act_at, EnabledAct, IsFirst, IsLeast, IsLeastReady};
 ghost use Rattle.pat_reduce_threads.specs.ThreadActs.{guard_at};
 
 use crate::steps::place_of;
 use crate::{Act, Config};
-use pat_reduce_threads::{Control, GuardRef, ThreadState, core_of, first_message, function_of, guard_of};
-use pat_reduce_values::{Value, ValueRef, evaluate, have_values, value_of};
 use pat_core::Core;
 use pat_executable::Executable;
+use pat_reduce_threads::{
+    Control, GuardRef, ThreadState, core_of, first_message, function_of, guard_of,
+};
+use pat_reduce_values::{Value, ValueRef, evaluate, have_values, value_of};
 
 impl Config {
-    /// The act of the thread that is enabled, if one is. A guard receives the first message that it takes.
+    /// The act of the thread that is enabled, if one is. A guard receives the first message that it takes, which has the
+    /// least number of those that it takes where the configuration is in order.
     pub fn enabled_act(&self, code: &Executable, thread: u32) -> Option<Act>
         ensures enabled { EnabledAct (program_view code.now.program) (config_view self.now) thread (option_map act_view result) }
         ensures first { IsFirst (program_view code.now.program) (config_view self.now) thread (option_map act_view result) }
+        ensures least { IsOrdered (config_view self.now) → IsLeast (program_view code.now.program) (config_view self.now) thread (option_map act_view result) }
     {
         let threads = self.threads.as_slice();
         match place_of(threads, thread) {
@@ -31,9 +36,10 @@ impl Config {
         }
     }
 
-    /// A thread that has an enabled step, if one has.
+    /// The first thread that has an enabled step, if one has: the one of the least number where the configuration is in order.
     pub fn ready_thread(&self, code: &Executable) -> Option<u32>
         ensures some { IfSome result (λ t. IsTrue (can_step_thread (program_view code.now.program) (config_view self.now) t)) }
+        ensures least { IfSome result (λ t. IsOrdered (config_view self.now) → IsLeastReady (program_view code.now.program) (config_view self.now) t) }
         ensures step { IfSome result (λ t. IsTrue (can_step (program_view code.now.program) (config_view self.now))) }
         ensures none { IfNone result (IsFalse (can_step (program_view code.now.program) (config_view self.now))) }
     {

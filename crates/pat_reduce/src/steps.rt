@@ -13,9 +13,12 @@ ghost use Rattle.pat_reduce_values.specs.Results.{Gives, StepGives};
 ghost use Rattle.pat_reduce.specs.Places.{IsPlace};
 
 use crate::{Act, Config, Step};
-use pat_reduce_threads::{Control, Message, ThreadState, after_receive, guard_of, is_over, makes_mailbox, next_line, next_message, next_thread, node_with};
-use pat_reduce_values::{StepError, Value};
 use pat_executable::Executable;
+use pat_reduce_threads::{
+    Control, Message, ThreadState, after_receive, guard_of, is_over, makes_mailbox, next_line,
+    next_message, next_thread, node_with,
+};
+use pat_reduce_values::{StepError, Value};
 use pat_sequences::{Sequence, Stack};
 use std::alloc::{AllocError, Global};
 

@@ -1,3 +1,4 @@
-pub mod Cuts
-pub mod Numbers
-pub mod TurnsTaken
+mod Cuts
+mod Numbers
+mod TurnsTaken
+mod Histories

@@ -3,8 +3,8 @@ use Rattle.std.specs.Prelude.{◌≡◌, ℕ, ◌-◌, ◌<◌, ◌≤◌, min, 
 use Rattle.pat_model.specs.Programs.{Program}
 use Rattle.pat_model.specs.Configs.{Config}
 use Rattle.pat_model.specs.Steps.{Act, ActLocal, Step, step}
-use Rattle.pat_model.specs.Runs.{Entry, Outcome, outcome, run_from, shared_step, entry_steps, can_step_thread}
-use Rattle.pat_reduce.specs.Acts.{IsFirst}
+use Rattle.pat_model.specs.Runs.{Entry, Outcome, outcome, run_from, shared_step, entry_steps, can_step_thread, IsSharedOrNone}
+use Rattle.pat_reduce.specs.Acts.{IsLeast}
 
 abbrev pub local_of : ℕ → Step
 local_of t = record { thread = t; act = ActLocal }
@@ -15,11 +15,12 @@ pub record AllLocal (p : Program) (n : ℕ) (c : Config) (t k : ℕ) (d : Config
   pub within : k ≤ n
   pub whole : k < n → step p d (local_of t) ≡ None
 
--- the thread's shared act, if there is one, leads from c to d, and a receive is of the first message that it may be of;
+-- the thread's act, if there is one, leads from c to d, is a shared one, and a receive is of the least message that it may be of;
 -- there is none only where no step of the thread is enabled
 pub record Shared (p : Program) (c : Config) (t : ℕ) (a : Option Act) (d : Config) : Type 0 where
   pub taken : run_from p c (shared_step t a) ≡ Some d
-  pub first : IsFirst p c t a
+  pub shared : IsSharedOrNone a
+  pub least : IsLeast p c t a
   pub none : a ≡ None → IsFalse (can_step_thread p c t)
 
 -- the entry is a job of worker 0 with an allowance of n steps, from c to d: all local steps of its thread that are enabled come first, and then, where a step is left, the shared one

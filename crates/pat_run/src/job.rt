@@ -1,10 +1,12 @@
 // A job: the steps of one thread that make one entry.
-ghost use Rattle.std.specs.Prelude.{◌≡◌, ◌<◌, ℕ, IfOk, IsTrue, option_map};
+ghost use Rattle.std.specs.Prelude.{◌≡◌, ◌<◌, ℕ, None, IfOk, IsTrue, option_map};
+ghost use Rattle.pat_model.specs.Orders.{IsOrdered};
+ghost use Rattle.pat_model.specs.Steps.{step};
 ghost use Rattle.pat_model.specs.Runs.{can_step_thread};
 ghost use Rattle.pat_core.specs.Views.{program_view};
 ghost use Rattle.pat_reduce.specs.Views.{act_view, config_view, entry_view};
 ghost use Rattle.pat_run.specs.Numbers.{HasRoom};
-ghost use Rattle.pat_run.specs.Jobs.{AllLocal, Shared, IsJob};
+ghost use Rattle.pat_run.specs.Jobs.{local_of, AllLocal, Shared, IsJob};
 
 use pat_executable::Executable;
 use pat_reduce::{Act, Config, Entry, Step, StepError};
@@ -21,6 +23,7 @@ pub fn run_job(
 ) -> Result<Entry, AllocError>
     requires some { 0 < allowance }
     requires room { HasRoom (config_view config.old) allowance }
+    requires ordered { IsOrdered (config_view config.old) }
     requires ready { IsTrue (can_step_thread (program_view code.now.program) (config_view config.old) thread) }
     ensures thread { IfOk result (λ e. e.thread ≡ thread) }
     ensures job { IfOk result (λ e. IsJob (program_view code.now.program) allowance (config_view config.old) (entry_view e) (config_view config.new)) }
@@ -70,7 +73,9 @@ fn take_shared(
     config: &mut Config,
     thread: u32,
 ) -> Result<Option<Act>, AllocError>
-    requires { HasRoom (config_view config.old) 1 }
+    requires room { HasRoom (config_view config.old) 1 }
+    requires ordered { IsOrdered (config_view config.old) }
+    requires no_local { step (program_view code.now.program) (config_view config.old) (local_of thread) ≡ None }
     ensures { IfOk result (λ a. Shared (program_view code.now.program) (config_view config.old) thread (option_map act_view a) (config_view config.new)) }
 {
     let Some(act) = config.enabled_act(code, thread) else {
