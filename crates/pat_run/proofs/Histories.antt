@@ -1,26 +1,14 @@
 -- The histories of jobs, and the order of the configurations that they lead to.
-use Rattle.std.proofs.Common.{◌≡◌, ℕ, ◌-◌, ◌<◌, ◌≤◌, ⊎_elim, List, [], ◌∷◌, length, Option, Some, None, sym, ap, ◌∙◌, subst, min, arith}
+use Rattle.std.proofs.Common.{◌≡◌, ℕ, ◌-◌, ◌<◌, ◌≤◌, ⊎_elim, List, [], ◌∷◌, length, sym, subst, min, arith}
 use Rattle.std.specs.Prelude.{replicate}
 use Rattle.std.proofs.lemmas.Bool.{cases_lt}
 use Rattle.pat_model.specs.Programs.{Program}
 use Rattle.pat_model.specs.Configs.{Config, start}
 use Rattle.pat_model.specs.Orders.{IsOrdered}
-use Rattle.pat_model.specs.Steps.{Act, ActLocal, ActNew, ActSend, ActSpawn, ActPrint, ActEnd, ActFree, ActReceive, step}
 use Rattle.pat_model.specs.Runs.{Entry, entry_steps, IsSharedOrNone, IsHistory}
 use Rattle.pat_model_laws.proofs.Ordered.{start_is_ordered, run_keeps_order, replay_keeps_order}
 use Rattle.pat_run.specs.Jobs.{IsJob, Jobs, AllLocal, local_of}
 use Rattle.pat_run.proofs.Cuts.{jobs_replay}
-
--- an act that is enabled where no local step is, is a shared one
-pub is_shared : (p : Program) (c d : Config) (t : ℕ) (a : Act) → step p c (local_of t) ≡ None → step p c (record { thread = t; act = a }) ≡ Some d → IsSharedOrNone (Some a)
-is_shared p c d t ActLocal none taken = let clash : None ≡ Some d = sym none ∙ taken in absurd cc
-is_shared p c d t ActNew none taken = tt
-is_shared p c d t ActSend none taken = tt
-is_shared p c d t ActSpawn none taken = tt
-is_shared p c d t ActPrint none taken = tt
-is_shared p c d t ActEnd none taken = tt
-is_shared p c d t ActFree none taken = tt
-is_shared p c d t (ActReceive k) none taken = tt
 
 job_shares : (p : Program) (n : ℕ) (c : Config) (e : Entry) (d : Config) → IsJob p n c e d → IsSharedOrNone e.shared
 job_shares p n c e d job =
