@@ -22,7 +22,7 @@ brackets_text = codes "def main(): Unit { print((a + b) * c); print(d - b - (c -
 
 abbrev pub messages_tree : Tree
 messages_tree =
-    InterfaceDecl (name (codes "I")) (record { name = name (codes "m"); payloads = [] } ∷ record { name = name (codes "n"); payloads = BaseType BaseInt nowhere ∷ MailboxType (name (codes "J")) Sending (Some (TagPattern (name (codes "e")))) nowhere ∷ [] } ∷ [])
+    InterfaceDecl (name (codes "I")) (record { name = name (codes "m"); payloads = [] } ∷ record { name = name (codes "n"); payloads = BaseType BaseInt nowhere ∷ MailboxType (name (codes "J")) Sending (Some (TagPattern (name (codes "e")))) nowhere ∷ MailboxType (name (codes "J")) Receiving (Some (TagPattern (name (codes "e")))) nowhere ∷ [] } ∷ [])
     ∷ DefDecl (name (codes "f")) (record { name = name (codes "a"); type = MailboxType (name (codes "I")) Receiving None nowhere } ∷ record { name = name (codes "b"); type = BaseType BaseText nowhere } ∷ []) (BaseType BaseUnit nowhere)
     (GuardTerm (name (codes "a")) (SumPattern (ProdPattern (TagPattern (name (codes "m"))) (StarPattern (SumPattern (TagPattern (name (codes "n"))) (TagPattern (name (codes "k")))))) (TagPattern (name (codes "k"))))
     (with_clause (FailClause nowhere)
@@ -30,4 +30,4 @@ messages_tree =
     (with_clause (ReceiveClause nowhere (name (codes "n")) (name (codes "x") ∷ name (codes "y") ∷ []) (name (codes "z")) (SendTerm (name (codes "y")) (name (codes "e")) (StrExpr (codes "a\"b\\") nowhere ∷ UnitExpr nowhere ∷ []) nowhere)) no_clauses))) nowhere) ∷ []
 
 abbrev pub messages_text : List ℕ
-messages_text = codes "interface I { m(), n(Int, J!e) }\ndef f(a: I?, b: String): Unit { guard a : m.*(n + k) + k { fail free -> { let x = new[I] in free(x) }; () receive n(x, y) from z -> y ! e(\"a\\\"b\\\\\", ()) } }\n"
+messages_text = codes "interface I { m(), n(Int, J!e, J?e) }\ndef f(a: I?, b: String): Unit { guard a : m.*(n + k) + k { fail free -> { let x = new[I] in free(x) }; () receive n(x, y) from z -> y ! e(\"a\\\"b\\\\\", ()) } }\n"

@@ -20,7 +20,7 @@ pub fn round_trip_law()
     ensures { (lim : Limits) (ts us : List Spanned) (m : Tree) → SpellsTree lim ts m → kinds us ≡ tokens_of (canonical m) → SpelledAgain lim m us }
 {}
 
-/// The canonical text of two trees, by computation: brackets, braces, spaces and escapes.
+/// The canonical text of two trees, by computation: brackets, braces, spaces, escapes and types of payloads.
 pub fn example_law()
     ensures brackets { canonical_text brackets_tree ≡ brackets_text }
     ensures messages { canonical_text messages_tree ≡ messages_text }

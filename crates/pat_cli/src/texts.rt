@@ -100,7 +100,11 @@ pub const TEXTS: &[(&[u8], &[u8])] = &[
     ),
     (
         b"interface I { m(I?0.z) } def main(): Unit { () }",
-        b"wrong kind at 16-21\n",
+        b"foreign tag at 20-21\n",
+    ),
+    (
+        b"interface I { m(I?m,I?0) } def main(): Unit { () }",
+        b"interface I { m(I?m, I?0) }\ndef main(): Unit { () }\n",
     ),
     (
         b"interface I { m(I!0.z) } def main(): Unit { () }",

@@ -61,20 +61,15 @@ abbrev pub written_pattern_findings : List (List ℕ) → Polarity → Option tr
 written_pattern_findings tags q None at = []
 written_pattern_findings tags q (Some e) at = pattern_findings tags e ++ empty_sending q (pattern_of tags e) at
 
--- a payload is not of a receiving type
-abbrev pub receiving_payload : Bool → Polarity → tree.Span → List Finding
-receiving_payload true Receiving at = found WrongKind at
-receiving_payload _ _ at = []
-
 -- a mailbox type of the interface that was found
-abbrev pub mailbox_findings : Bool → tree.Name → Polarity → Option tree.Pattern → tree.Span → Option (ℕ × InterfaceNames) → List Finding
-mailbox_findings payload x q e at None = found UnknownName x.span
-mailbox_findings payload x q e at (Some i) = receiving_payload payload q at ++ written_pattern_findings i.1.tags q e at
+abbrev pub mailbox_findings : tree.Name → Polarity → Option tree.Pattern → tree.Span → Option (ℕ × InterfaceNames) → List Finding
+mailbox_findings x q e at None = found UnknownName x.span
+mailbox_findings x q e at (Some i) = written_pattern_findings i.1.tags q e at
 
 -- a written type, of a payload or in a signature
-abbrev pub type_findings : List InterfaceNames → Bool → tree.WrittenType → List Finding
-type_findings names payload (tree.BaseType b at) = []
-type_findings names payload (tree.MailboxType x q e at) = mailbox_findings payload x q e at (interface_named names x.text)
+abbrev pub type_findings : List InterfaceNames → tree.WrittenType → List Finding
+type_findings names (tree.BaseType b at) = []
+type_findings names (tree.MailboxType x q e at) = mailbox_findings x q e at (interface_named names x.text)
 
 -- the messages of an interface, behind those of the earlier names
 abbrev pub messages_findings : List InterfaceNames → List (List ℕ) → List tree.Message → List Finding
@@ -82,14 +77,14 @@ messages_findings names earlier [] = []
 messages_findings names earlier (m ∷ ms) =
     repeated earlier m.name
     ++ unless (not (nat_eq (length earlier) 32)) TooManyTags m.name.span
-    ++ flat_map (type_findings names true) m.payloads
+    ++ flat_map (type_findings names) m.payloads
     ++ messages_findings names (m.name.text ∷ earlier) ms
 
 -- the parameters of a function, behind those of the earlier names
 abbrev pub params_findings : List InterfaceNames → List (List ℕ) → List tree.Param → List Finding
 params_findings names earlier [] = []
 params_findings names earlier (p ∷ ps) =
-    repeated earlier p.name ++ type_findings names false p.type ++ params_findings names (p.name.text ∷ earlier) ps
+    repeated earlier p.name ++ type_findings names p.type ++ params_findings names (p.name.text ∷ earlier) ps
 
 -- the heads of declarations, behind interfaces and functions of the earlier names
 abbrev pub heads_findings : List InterfaceNames → List (List ℕ) → List (List ℕ) → tree.Tree → List Finding
@@ -99,7 +94,7 @@ heads_findings names interfaces functions (tree.InterfaceDecl x ms ∷ ds) =
 heads_findings names interfaces functions (tree.DefDecl x ps r m ∷ ds) =
     repeated functions x
     ++ params_findings names [] ps
-    ++ type_findings names false r
+    ++ type_findings names r
     ++ heads_findings names interfaces (x.text ∷ functions) ds
 
 -- ---- main

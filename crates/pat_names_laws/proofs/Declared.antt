@@ -14,7 +14,7 @@ use Rattle.pat_model.specs.WellFormed.{IsPatternOf, IsPayload, IsSignature, Inte
 use Rattle.pat_grammar.specs.Trees as tree
 use Rattle.pat_names.specs.Scopes.{is_one_of}
 use Rattle.pat_names.specs.Heads.{InterfaceNames, interface_names, interface_named, pattern_of, mailbox_sort, sort_of, tag_of, interfaces_of, Definition, definitions_of}
-use Rattle.pat_names.specs.Findings.{Finding, Twice, EmptySending, TooManyTags, unless, repeated, pattern_findings, empty_sending, receiving_payload, mailbox_findings, type_findings, messages_findings, params_findings, heads_findings}
+use Rattle.pat_names.specs.Findings.{Finding, Twice, EmptySending, TooManyTags, unless, repeated, pattern_findings, empty_sending, mailbox_findings, type_findings, messages_findings, params_findings, heads_findings}
 use Rattle.pat_names.specs.Claims.{HasPattern, IsMessage, IsDecl, IsName, InterfaceIsNamed}
 use Rattle.pat_names_laws.proofs.Counting.{none_first, none_second, passes, not_true}
 use Rattle.pat_names_laws.proofs.Expressions.{found_there, pattern_closed, pattern_below}
@@ -47,7 +47,7 @@ module _ (p : Program) (names : List InterfaceNames) (fit : NamesFit p names) wh
   has_word : (e : Pat) (at : tree.Span) → empty_sending Sending e at ≡ [] → (w : Word) × In e w
   has_word e at none = inhabited_to e (passes (is_inhabited e) EmptySending at none)
 
-  signature_found : (x : tree.Name) (q : Polarity) (e : Option tree.Pattern) (at : tree.Span) (o : Option (ℕ × InterfaceNames)) → ((i : ℕ × InterfaceNames) → o ≡ Some i → slice_get names i.0 ≡ Some i.1) → mailbox_findings false x q e at o ≡ [] → IsSignature p (mailbox_sort q e o)
+  signature_found : (x : tree.Name) (q : Polarity) (e : Option tree.Pattern) (at : tree.Span) (o : Option (ℕ × InterfaceNames)) → ((i : ℕ × InterfaceNames) → o ≡ Some i → slice_get names i.0 ≡ Some i.1) → mailbox_findings x q e at o ≡ [] → IsSignature p (mailbox_sort q e o)
   signature_found x q e at None there none = cc
   signature_found x q None at (Some i) there none = let j = fit i.0 i.1 (there i refl) in slice_get_within p.interfaces i.0 j.0 j.1
   signature_found x Sending (Some e) at (Some i) there none = (
@@ -56,24 +56,24 @@ module _ (p : Program) (names : List InterfaceNames) (fit : NamesFit p names) wh
   )
   signature_found x Receiving (Some e) at (Some i) there none = pattern_fits i.0 i.1 e (there i refl) (none_first (pattern_findings i.1.tags e) [] none)
 
-  payload_found : (x : tree.Name) (q : Polarity) (e : Option tree.Pattern) (at : tree.Span) (o : Option (ℕ × InterfaceNames)) → ((i : ℕ × InterfaceNames) → o ≡ Some i → slice_get names i.0 ≡ Some i.1) → HasPattern (tree.MailboxType x q e at) → mailbox_findings true x q e at o ≡ [] → IsPayload p (mailbox_sort q e o)
+  payload_found : (x : tree.Name) (q : Polarity) (e : Option tree.Pattern) (at : tree.Span) (o : Option (ℕ × InterfaceNames)) → ((i : ℕ × InterfaceNames) → o ≡ Some i → slice_get names i.0 ≡ Some i.1) → HasPattern (tree.MailboxType x q e at) → mailbox_findings x q e at o ≡ [] → IsPayload p (mailbox_sort q e o)
   payload_found x q e at None there written none = cc
   payload_found x q None at (Some i) there written none = absurd written
   payload_found x Sending (Some e) at (Some i) there written none = (
     pattern_fits i.0 i.1 e (there i refl) (none_first (pattern_findings i.1.tags e) (empty_sending Sending (pattern_of i.1.tags e) at) none),
     has_word (pattern_of i.1.tags e) at (none_second (pattern_findings i.1.tags e) (empty_sending Sending (pattern_of i.1.tags e) at) none),
   )
-  payload_found x Receiving (Some e) at (Some i) there written none = pattern_fits i.0 i.1 e (there i refl) (none_first (pattern_findings i.1.tags e) [] (none_second (receiving_payload true Receiving at) (pattern_findings i.1.tags e ++ []) none))
+  payload_found x Receiving (Some e) at (Some i) there written none = pattern_fits i.0 i.1 e (there i refl) (none_first (pattern_findings i.1.tags e) [] none)
 
-  pub signature_fits : (w : tree.WrittenType) → type_findings names false w ≡ [] → IsSignature p (sort_of names w)
+  pub signature_fits : (w : tree.WrittenType) → type_findings names w ≡ [] → IsSignature p (sort_of names w)
   signature_fits (tree.BaseType b at) none = tt
   signature_fits (tree.MailboxType x q e at) none = signature_found x q e at (interface_named names x.text) (λ i h. found_there (λ (e : InterfaceNames). e.name) x.text names i.0 i.1 h) none
 
-  pub payload_fits : (w : tree.WrittenType) → HasPattern w → type_findings names true w ≡ [] → IsPayload p (sort_of names w)
+  pub payload_fits : (w : tree.WrittenType) → HasPattern w → type_findings names w ≡ [] → IsPayload p (sort_of names w)
   payload_fits (tree.BaseType b at) written none = tt
   payload_fits (tree.MailboxType x q e at) written none = payload_found x q e at (interface_named names x.text) (λ i h. found_there (λ (e : InterfaceNames). e.name) x.text names i.0 i.1 h) written none
 
-  payloads_fit : (ws : List tree.WrittenType) → AllByRecursion HasPattern ws → AllByRecursion (λ w. type_findings names true w ≡ []) ws → AllByRecursion (IsPayload p) (map (sort_of names) ws)
+  payloads_fit : (ws : List tree.WrittenType) → AllByRecursion HasPattern ws → AllByRecursion (λ w. type_findings names w ≡ []) ws → AllByRecursion (IsPayload p) (map (sort_of names) ws)
   payloads_fit [] written none = tt
   payloads_fit (w ∷ ws) written none = (payload_fits w written.0 none.0, payloads_fit ws written.1 none.1)
 
@@ -90,7 +90,7 @@ module _ (p : Program) (names : List InterfaceNames) (fit : NamesFit p names) wh
   tags_fit earlier (m ∷ ms) few written none =
       let f1 = repeated earlier m.name in
       let f2 = unless (not (nat_eq (length earlier) 32)) TooManyTags m.name.span in
-      let f3 = flat_map (type_findings names true) m.payloads in
+      let f3 = flat_map (type_findings names) m.payloads in
       let f4 = messages_findings names (m.name.text ∷ earlier) ms in
       let n1 = none_first (f1 ++ f2 ++ f3) f4 none in
       let n2 = none_first (f1 ++ f2) f3 n1 in
@@ -103,7 +103,7 @@ module _ (p : Program) (names : List InterfaceNames) (fit : NamesFit p names) wh
         few = omega (arith, all);
         distinct = IsDistinct-cons bytes_eq m.name.text (map (λ t. t.name) (map (tag_of names) ms)) (rest.apart m.name.text (λ x e. or_false_first (bytes_eq m.name.text x) (is_one_of x earlier) e)) rest.distinct;
         apart = λ s a. (a m.name.text new, rest.apart s (λ x e. a x (or_false_second (bytes_eq m.name.text x) (is_one_of x earlier) e)));
-        payloads = (payloads_fit m.payloads written.0.payloads (none_each (type_findings names true) m.payloads (none_second (f1 ++ f2) f3 n1)), rest.payloads);
+        payloads = (payloads_fit m.payloads written.0.payloads (none_each (type_findings names) m.payloads (none_second (f1 ++ f2) f3 n1)), rest.payloads);
       }
 
   some_messages : (ms : List tree.Message) → ms ≢ [] → 1 ≤ length (map (tag_of names) ms)
@@ -128,7 +128,7 @@ module _ (p : Program) (names : List InterfaceNames) (fit : NamesFit p names) wh
   params_fit earlier [] none = tt
   params_fit earlier (c ∷ ps) none =
       let f1 = repeated earlier c.name in
-      let f2 = type_findings names false c.type in
+      let f2 = type_findings names c.type in
       let f3 = params_findings names (c.name.text ∷ earlier) ps in
       (signature_fits c.type (none_second f1 f2 (none_first (f1 ++ f2) f3 none)), params_fit (c.name.text ∷ earlier) ps (none_second (f1 ++ f2) f3 none))
 
@@ -158,7 +158,7 @@ module _ (p : Program) (names : List InterfaceNames) (fit : NamesFit p names) wh
   heads_right interfaces functions (tree.DefDecl x ps r m ∷ ds) written none =
       let f1 = repeated functions x in
       let f2 = params_findings names [] ps in
-      let f3 = type_findings names false r in
+      let f3 = type_findings names r in
       let f4 = heads_findings names interfaces (x.text ∷ functions) ds in
       let n1 = none_first (f1 ++ f2 ++ f3) f4 none in
       let n2 = none_first (f1 ++ f2) f3 n1 in

@@ -1,8 +1,8 @@
 -- Trees of short texts, and the programs of two of them.
 use Rattle.std.specs.Prelude.{ℕ, zero, suc, ◌+◌, pos, List, [], ◌∷◌, ◌++◌, Some, None, codes, true}
-use Rattle.pat_words.specs.Patterns.{One, Tag, Sum}
+use Rattle.pat_words.specs.Patterns.{Zero, One, Tag, Sum}
 use Rattle.pat_model.specs.Values.{BaseUnit, BaseInt, Plain, MailboxOf, UnitConst, IntConst, VarExpr, Literal, Equal}
-use Rattle.pat_model.specs.Programs.{Sending, Receiving, BaseSort, Val, Let, Call, Print, New, Guard, Program}
+use Rattle.pat_model.specs.Programs.{Sending, Receiving, BaseSort, MailboxSort, Val, Let, Call, Print, New, Guard, Program}
 use Rattle.pat_grammar.specs.Trees as tree
 use Rattle.pat_grammar.specs.Trees.{span, Name, Message, Term, Decl, Tree}
 use Rattle.pat_names.specs.Numbering.{node}
@@ -198,13 +198,26 @@ payload_too_many =
     (span 39 65))
     ∷ []
 
--- interface I { m(I?m) } and then main
+-- interface I { m(I?m, I?0) } and then main
 abbrev pub received_payload : Tree
 received_payload =
     tree.InterfaceDecl (letter (codes "I") 10)
-    (message (letter (codes "m") 14) (tree.MailboxType (letter (codes "I") 16) Receiving (Some (tree.TagPattern (letter (codes "m") 18))) (span 16 19) ∷ []) ∷ [])
-    ∷ main_at 23 (unit_at 42)
+    (message (letter (codes "m") 14)
+    (tree.MailboxType (letter (codes "I") 16) Receiving (Some (tree.TagPattern (letter (codes "m") 18))) (span 16 19)
+    ∷ tree.MailboxType (letter (codes "I") 21) Receiving (Some (tree.ZeroPattern (span 23 24))) (span 21 24)
+    ∷ [])
+    ∷ [])
+    ∷ main_at 28 (unit_at 47)
     ∷ []
+
+-- its program
+abbrev pub received_payload_program : Program
+received_payload_program = record {
+  interfaces = record { name = codes "I"; tags = record { name = codes "m"; payloads = MailboxSort 0 Receiving (Some (Tag 0)) ∷ MailboxSort 0 Receiving (Some Zero) ∷ [] } ∷ [] } ∷ [];
+  functions = record { name = codes "main"; params = []; result = BaseSort BaseUnit; vars = []; body = 0 } ∷ [];
+  main = 0;
+  nodes = node 0 (Plain BaseUnit) (Val (Literal UnitConst)) ∷ [];
+}
 
 -- def main(): Unit { let x = 2 in x ! m() }
 abbrev pub base_target : Tree

@@ -46,14 +46,14 @@ pub fn refusals()
     ensures too_many { findings 260 example.many_tags ≡ found TooManyTags (span 229 232) }
     ensures same_parameter { findings 59 example.same_parameter ≡ found Twice (span 14 15) }
     ensures payloads { findings 68 example.payload_too_many ≡ found WrongArity (span 61 62) }
-    ensures received_payload { findings 47 example.received_payload ≡ found WrongKind (span 16 19) }
     ensures base_target { findings 42 example.base_target ≡ found WrongKind (span 32 39) }
     ensures bare_guard { findings 87 example.bare_guard ≡ found WrongKind (span 40 60) }
     ensures heads_first { findings 69 example.body_and_head ≡ found UnknownName (span 29 30) ++ found WrongKind (span 15 17) }
 {}
 
-/// Trees without a finding, and their programs: a call of a function that is declared behind its caller, a guard, and a name
-/// that is bound within what another name is bound to.
+/// Trees without a finding, and their programs: a call of a function that is declared behind its caller, a guard, a name that
+/// is bound within what another name is bound to, and payloads that hand over the right to receive, one with a pattern that
+/// has no word.
 pub fn numberings()
     ensures forward { findings 65 example.forward ≡ [] }
     ensures forward_program { numbered example.forward ≡ example.forward_program }
@@ -61,4 +61,6 @@ pub fn numberings()
     ensures guarding_program { numbered example.guarding ≡ example.guarding_program }
     ensures inner_binder { findings 60 example.inner_binder ≡ [] }
     ensures inner_binder_program { numbered example.inner_binder ≡ example.inner_binder_program }
+    ensures received_payload { findings 52 example.received_payload ≡ [] }
+    ensures received_payload_program { numbered example.received_payload ≡ example.received_payload_program }
 {}

@@ -32,7 +32,7 @@ few_messages : (names : List InterfaceNames) (earlier : List (List ℕ)) (ms : L
 few_messages names earlier [] e h = omega (arith, h)
 few_messages names earlier (m ∷ ms) e h =
     let room = unless (not (nat_eq (length earlier) 32)) TooManyTags m.name.span in
-    let types = flat_map (type_findings names true) m.payloads in
+    let types = flat_map (type_findings names) m.payloads in
     let rest = messages_findings names (m.name.text ∷ earlier) ms in
     let front : repeated earlier m.name ++ room ≡ [] = front_none (repeated earlier m.name ++ room) types (front_none (repeated earlier m.name ++ room ++ types) rest e) in
     let fits : length earlier ≢ 32 = has_room (length earlier) m.name.span (rest_none (repeated earlier m.name) room front) in
@@ -47,7 +47,7 @@ few_all names interfaces functions (tree.InterfaceDecl x ms ∷ t) e =
     let own = few_messages names [] ms (rest_none (repeated interfaces x) (messages_findings names [] ms) (front_none front rest e)) (omega arith) in
     (omega (arith, own, length-map ms (λ (m : tree.Message). m.name.text)), few_all names (x.text ∷ interfaces) functions t (rest_none front rest e))
 few_all names interfaces functions (tree.DefDecl x ps r m ∷ t) e =
-    few_all names interfaces (x.text ∷ functions) t (rest_none (repeated functions x ++ params_findings names [] ps ++ type_findings names false r) (heads_findings names interfaces (x.text ∷ functions) t) e)
+    few_all names interfaces (x.text ∷ functions) t (rest_none (repeated functions x ++ params_findings names [] ps ++ type_findings names r) (heads_findings names interfaces (x.text ∷ functions) t) e)
 
 few_seen : (ts : List InterfaceTable) → AllByRecursion (λ i. length i.tags ≤ 32) (map table_view ts) → All (λ t. length t.tags ≤ 32) ts
 few_seen [] few k d h = absurd (omega (arith, h))

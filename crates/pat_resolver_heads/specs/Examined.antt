@@ -7,16 +7,16 @@ use Rattle.pat_names.specs.Findings.{Finding, TooManyTags, unless, repeated, typ
 
 -- a message behind those of the earlier names
 abbrev pub message_findings : List InterfaceNames → List (List ℕ) → tree.Message → List Finding
-message_findings names earlier m = repeated earlier m.name ++ unless (not (nat_eq (length earlier) 32)) TooManyTags m.name.span ++ flat_map (type_findings names true) m.payloads
+message_findings names earlier m = repeated earlier m.name ++ unless (not (nat_eq (length earlier) 32)) TooManyTags m.name.span ++ flat_map (type_findings names) m.payloads
 
 -- a parameter behind those of the earlier names
 abbrev pub param_findings : List InterfaceNames → List (List ℕ) → tree.Param → List Finding
-param_findings names earlier p = repeated earlier p.name ++ type_findings names false p.type
+param_findings names earlier p = repeated earlier p.name ++ type_findings names p.type
 
 -- the head of a declaration, behind interfaces and functions of the earlier names
 abbrev pub decl_findings : List InterfaceNames → List (List ℕ) → List (List ℕ) → tree.Decl → List Finding
 decl_findings names interfaces functions (tree.InterfaceDecl x ms) = repeated interfaces x ++ messages_findings names [] ms
-decl_findings names interfaces functions (tree.DefDecl x ps r m) = repeated functions x ++ params_findings names [] ps ++ type_findings names false r
+decl_findings names interfaces functions (tree.DefDecl x ps r m) = repeated functions x ++ params_findings names [] ps ++ type_findings names r
 
 -- the names of interfaces, with that of the declaration if it declares one
 abbrev pub interfaces_with : tree.Decl → List (List ℕ) → List (List ℕ)

@@ -3,7 +3,7 @@ ghost use Rattle.std.specs.Prelude.{◌≡◌, ◌∷◌, ◌++◌, [], map, rev
 ghost use Rattle.std.specs.List.{flat_map};
 ghost use Rattle.pat_words.specs.Patterns.{is_inhabited};
 ghost use Rattle.pat_names.specs.Heads.{pattern_of};
-ghost use Rattle.pat_names.specs.Findings.{repeated, empty_sending, receiving_payload, written_pattern_findings, type_findings, messages_findings, params_findings, heads_findings};
+ghost use Rattle.pat_names.specs.Findings.{repeated, empty_sending, written_pattern_findings, type_findings, messages_findings, params_findings, heads_findings};
 ghost use Rattle.pat_primitives.specs.Views.{polarity_view};
 ghost use Rattle.pat_tree.specs.Views.{span_view, name_view, pattern_view, type_view, message_view, param_view, decl_view};
 ghost use Rattle.pat_resolver_answers.specs.Results.{Meets};
@@ -56,7 +56,7 @@ fn check_decl(
         } => {
             check_new(alloc, functions, name)?;
             check_params(alloc, names, params.as_slice())?;
-            check_type(names, false, result)
+            check_type(names, result)
         }
     }
 }
@@ -116,10 +116,10 @@ fn check_message(
 
 /// Examines the types of a message's payloads in order.
 fn check_payloads(names: &Names, types: &[TreeType]) -> Result<(), ResolveError>
-    ensures { Meets result (flat_map (type_findings (names_view names.now) true) (map type_view types.now)) }
+    ensures { Meets result (flat_map (type_findings (names_view names.now)) (map type_view types.now)) }
 {
     for of in types {
-        check_type(names, true, of)?;
+        check_type(names, of)?;
     }
     Ok(())
 }
@@ -146,12 +146,12 @@ fn check_param(
     ensures grown { OnOk result (reverse earlier.new ≡ param.now.name.text ∷ reverse earlier.old) }
 {
     check_new(alloc, earlier, &param.name)?;
-    check_type(names, false, &param.of)
+    check_type(names, &param.of)
 }
 
 /// Examines a written type, of a payload or in a function's head.
-fn check_type(names: &Names, payload: bool, of: &TreeType) -> Result<(), ResolveError>
-    ensures { Meets result (type_findings (names_view names.now) payload (type_view of.now)) }
+fn check_type(names: &Names, of: &TreeType) -> Result<(), ResolveError>
+    ensures { Meets result (type_findings (names_view names.now) (type_view of.now)) }
 {
     match of {
         TreeType::Base(_, _) => Ok(()),
@@ -165,24 +165,8 @@ fn check_type(names: &Names, payload: bool, of: &TreeType) -> Result<(), Resolve
                 kind: ResolveKind::UnknownName,
                 span: name.span,
             }),
-            Some((_, table)) => {
-                check_polarity(payload, *polarity, *span)?;
-                check_written(&table.tags, *polarity, pattern, *span)
-            }
+            Some((_, table)) => check_written(&table.tags, *polarity, pattern, *span),
         },
-    }
-}
-
-/// Refuses a payload of a receiving type.
-fn check_polarity(payload: bool, polarity: Polarity, span: Span) -> Result<(), ResolveError>
-    ensures { Meets result (receiving_payload payload (polarity_view polarity) (span_view span)) }
-{
-    match (payload, polarity) {
-        (true, Polarity::Receiving) => Err(ResolveError::Broken {
-            kind: ResolveKind::WrongKind,
-            span,
-        }),
-        _ => Ok(()),
     }
 }
 

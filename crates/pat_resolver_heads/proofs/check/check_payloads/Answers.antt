@@ -11,7 +11,7 @@ use Rattle.pat_resolver_heads.proofs.check.check_payloads.Goals as goal
 pub returns-in_err-check_type : goal.returns-in_err-check_type
 returns-in_err-check_type c =
     let p = err_from_is_err_and c.from_residual.result c.from_residual.ensures.1 in
-    let f = type_findings (names_view c.args.names.now) true in
+    let f = type_findings (names_view c.args.names.now) in
     let types = c.args.types.now in
     let i = c.loop-of.of-index in
     let whole = flat_map f (map type_view types) in

@@ -8,4 +8,4 @@ use Rattle.pat_resolver_heads.specs.Names.{names_view}
 use Rattle.pat_resolver_heads.proofs.check.check_payloads.Given as goal
 
 abbrev pub invariant-loop-of : goal.invariant-loop-of
-invariant-loop-of l = first_of (flat_map (type_findings (names_view l.names) true) (map type_view (drop l.of-index l.types))) ≡ first_of (flat_map (type_findings (names_view l.names) true) (map type_view l.types))
+invariant-loop-of l = first_of (flat_map (type_findings (names_view l.names)) (map type_view (drop l.of-index l.types))) ≡ first_of (flat_map (type_findings (names_view l.names)) (map type_view l.types))
