@@ -7,7 +7,8 @@ use Rattle.pat_lexical_laws.proofs.Beginnings.{blank_begins}
 use Rattle.pat_grammar.specs.Trees.{Tree}
 use Rattle.pat_grammar.specs.Items.{Limits}
 use Rattle.pat_grammar.specs.Claims.{SpellsTree}
-use Rattle.pat_grammar_laws.specs.Names.{IsSpelled, EachOf, AreSpelled}
+use Rattle.pat_lexical.specs.Spelled.{IsSpelled}
+use Rattle.pat_grammar_laws.specs.Names.{EachOf, AreSpelled}
 use Rattle.pat_canonical.specs.Canonical.{Tok, Blank, Line, Pieces, canonical, tokens_of}
 use Rattle.pat_canonical.specs.Text.{token_bytes, text_of, canonical_text}
 use Rattle.pat_canonical_laws.specs.RoundTrip.{kinds}

@@ -18,7 +18,7 @@ use Rattle.pat_lexical_laws.proofs.Texts.{encode_some}
 use Rattle.pat_lexical_laws.proofs.Beginnings.{integer_begins, string_begins}
 use Rattle.pat_lexical_laws.proofs.NameBeginnings.{is_name_byte, NoMoreName, name_begins, word_begins}
 use Rattle.pat_lexical_laws.proofs.MarkBeginnings.{mark_begins}
-use Rattle.pat_grammar_laws.specs.Names.{IsSpelled}
+use Rattle.pat_lexical.specs.Spelled.{IsSpelled}
 use Rattle.pat_canonical.specs.Canonical.{Tok, Blank, Line, Pieces}
 use Rattle.pat_canonical.specs.Text.{quoted, token_bytes, text_of}
 use Rattle.pat_canonical_laws.proofs.Apart.{quiet, spaced, ends}

@@ -16,7 +16,8 @@ use Rattle.pat_grammar.specs.Items.{Item, Limits, literal, constant, bound_item,
 use Rattle.pat_grammar.specs.Grammar as grammar
 use Rattle.pat_grammar.specs.Grammar.{Level, Operand, Expr, Pattern, Separated, one, more, Optional, none, some, Arg, Binder, binder, Part, Term, value, print, new, spawn, free, send, call, branch, guard, block, simple, then, bind, Clauses, no_clause, fail_clause, free_clause, receive_clause, WrittenType, base, mailbox, short, Message, message, Param, param, Decls, no_decl, interface, function}
 use Rattle.pat_grammar.specs.Claims.{SpellsTree}
-use Rattle.pat_grammar_laws.specs.Names.{IsSpelled, EachOf, AreSpelled}
+use Rattle.pat_lexical.specs.Spelled.{IsSpelled}
+use Rattle.pat_grammar_laws.specs.Names.{EachOf, AreSpelled}
 use Rattle.pat_canonical.specs.Canonical.{Tok, Blank, Line, Pieces, Onto, marked, worded, name_onto, bracketed, braced, more_onto, list_onto, opens_left, opens_right, op_token, expr_onto, opens_factor, opens_sum_pattern, pattern_onto, base_word, polarity_mark, type_onto, opens_simple, args_onto, term_onto, clause_onto, clauses_onto, message_onto, param_onto, decl_onto, tree_onto, tokens_of}
 use Rattle.pat_canonical_laws.specs.ReadAgain.{IsWritable}
 

@@ -5,7 +5,8 @@ use Rattle.pat_lexical.specs.Divisions.{Divides}
 use Rattle.pat_grammar.specs.Trees.{Tree}
 use Rattle.pat_grammar.specs.Items.{Limits}
 use Rattle.pat_grammar.specs.Claims.{SpellsTree}
-use Rattle.pat_grammar_laws.specs.Names.{IsSpelled, EachOf, AreSpelled}
+use Rattle.pat_lexical.specs.Spelled.{IsSpelled}
+use Rattle.pat_grammar_laws.specs.Names.{EachOf, AreSpelled}
 use Rattle.pat_canonical.specs.Bare.{bare}
 use Rattle.pat_canonical.specs.Canonical.{canonical, tokens_of}
 use Rattle.pat_canonical_laws.specs.RoundTrip.{kinds}

@@ -1,12 +1,13 @@
 -- What a resolver's answer says of a text.
 use Rattle.std.proofs.Common.{◌≡◌, ℕ, List, [], length, None, sym, subst}
 use Rattle.pat_model.specs.Programs.{Program}
-use Rattle.pat_model.specs.WellFormed.{WellFormed}
 use Rattle.pat_grammar.specs.Trees.{Tree}
 use Rattle.pat_names.specs.Findings.{findings}
 use Rattle.pat_names.specs.Numbering.{numbered}
-use Rattle.pat_names_laws.proofs.Whole.{well_formed}
-use Rattle.pat_names_laws.proofs.Written.{tokens_sound, tree_written}
+use Rattle.pat_names.specs.Places.{Places, places}
+use Rattle.pat_names.specs.Resolved.{IsResolved}
+use Rattle.pat_names_laws.proofs.Resolved.{resolved, text_written}
+use Rattle.pat_parser_states.specs.Views.{limits}
 use Rattle.pat_resolver_answers.specs.Results.{first_of}
 use Rattle.pat_resolver_answers.proofs.Firsts.{first_none}
 use Rattle.pat_front.specs.Texts.{IsTreeText, IsProgramText}
@@ -15,8 +16,7 @@ pub program_text : (bytes : List ℕ) (t : Tree) (p : Program) (end : ℕ) → I
 program_text bytes t p end text same none is =
     record { tree = text; resolved = record { sound = subst (λ n. findings n t ≡ []) same (first_none (findings end t) none); program = sym is } }
 
--- the program of a text is well formed
-pub formed : (bytes : List ℕ) (t : Tree) (p : Program) → IsProgramText bytes t p → WellFormed p
-formed bytes t p text =
-    let written = tree_written text.tree.spelled (tokens_sound bytes text.tree.tokens text.tree.divided) in
-    subst WellFormed text.resolved.program (well_formed (length bytes) t written.0 text.resolved.sound)
+-- what a text resolves to is all that later calls ask of a program
+pub is_resolved : (bytes : List ℕ) (t : Tree) (p : Program) (q : Places) → IsProgramText bytes t p → q ≡ places t → IsResolved p q
+is_resolved bytes t p q text at =
+    subst (IsResolved p) (sym at) (resolved (length bytes) t p (text_written limits bytes text.tree.tokens t text.tree.divided text.tree.spelled) text.resolved)

@@ -37,7 +37,7 @@ IsRefusal bytes verdict.TooLong = limit < length bytes
 IsRefusal bytes (verdict.Syntax o) = (length bytes ≤ limit) × (IsRefused bytes (BadTokenAt o) ⊎ IsUnexpectedAt bytes o)
 IsRefusal bytes (verdict.NumberTooWide o) = (length bytes ≤ limit) × IsRefused bytes (TooWideAt o)
 IsRefusal bytes (verdict.TooDeep o) = (length bytes ≤ limit) × ((tokens : List Spanned) × Divides bytes tokens × IsTooDeep limits tokens o)
-IsRefusal bytes (verdict.Resolve k s) = (t : Tree) × IsTreeText bytes t × names.IsRefused (length bytes) t (finding_view k s)
+IsRefusal bytes (verdict.Resolve k s) = (t : Tree) × IsTreeText bytes t × names.BreaksFirst (length bytes) t (finding_view k s)
 IsRefusal bytes verdict.NotYet = ⊥
 
 -- the bytes are the text of a program that isn't straight-line

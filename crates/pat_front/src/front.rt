@@ -7,6 +7,7 @@ ghost use Rattle.pat_grammar_laws.specs.Counts.{tree_size};
 ghost use Rattle.pat_tree.specs.Views.{tree_view};
 ghost use Rattle.pat_core.specs.Views.{program_view};
 ghost use Rattle.pat_names.specs.Places.{places};
+ghost use Rattle.pat_names.specs.Resolved.{IsResolved};
 ghost use Rattle.pat_resolver_answers.specs.Views.{places_view};
 ghost use Rattle.pat_lexical.specs.Tokens.{Spanned};
 ghost use Rattle.pat_lexical.specs.Divisions.{Divides};
@@ -54,6 +55,8 @@ pub fn program_of(alloc: Global, tree: &Tree, end: u32) -> Result<Program, Front
     requires small { tree_size (tree_view tree.now) < 4294967295 }
     ensures program { (bytes : List ℕ) → IsTreeText bytes (tree_view tree.now) → end ≡ length bytes → IfOk result (λ p. IsProgramText bytes (tree_view tree.now) (program_view p)) }
     ensures places { IfOk result (λ p. places_view p ≡ places (tree_view tree.now)) }
+    // All that later calls ask of a program; that it is well formed is a part of it.
+    ensures is_resolved { (bytes : List ℕ) → IsTreeText bytes (tree_view tree.now) → end ≡ length bytes → IfOk result (λ p. IsResolved (program_view p) (places_view p)) }
     ensures well_formed { (bytes : List ℕ) → IsTreeText bytes (tree_view tree.now) → end ≡ length bytes → IfOk result (λ p. WellFormed (program_view p)) }
     ensures refused { (bytes : List ℕ) → IsTreeText bytes (tree_view tree.now) → end ≡ length bytes → IfErr result (Explains bytes) }
 {

@@ -1,11 +1,12 @@
-pub mod Runs
-pub mod CompleteExpr
-pub mod CompletePattern
-pub mod CompleteTerm
-pub mod CompleteDecl
-pub mod Built
-pub mod Sound
-pub mod Owed
+mod Runs
+mod CompleteExpr
+mod CompletePattern
+mod CompleteTerm
+mod CompleteDecl
+mod Built
+mod Sound
+mod Owed
+-- for the crates above
 pub mod Exact
 pub mod Counts
 pub mod Names

@@ -10,7 +10,8 @@ use Rattle.pat_grammar.specs.Items.{Item, Limits, literal, constant, bound_item,
 use Rattle.pat_grammar.specs.Grammar as grammar
 use Rattle.pat_grammar.specs.Grammar.{Level, Operand, Expr, Pattern, Separated, one, more, Optional, none, some, Arg, Binder, binder, Part, Term, value, print, new, spawn, free, send, call, branch, guard, block, simple, then, bind, Clauses, no_clause, fail_clause, free_clause, receive_clause, WrittenType, base, mailbox, short, Message, message, Param, param, Decls, no_decl, interface, function}
 use Rattle.pat_grammar.specs.Claims.{SpellsTree}
-use Rattle.pat_grammar_laws.specs.Names.{IsSpelled, EachOf, AreSpelled, NameIs, PatternNamed, TypeNamed, ExprNamed, TermNamed, ClauseNamed, ClausesNamed, MessageNamed, ParamNamed, DeclNamed, TreeNamed}
+use Rattle.pat_lexical.specs.Spelled.{IsSpelled}
+use Rattle.pat_grammar_laws.specs.Names.{EachOf, AreSpelled, NameIs, PatternNamed, TypeNamed, ExprNamed, TermNamed, ClauseNamed, ClausesNamed, MessageNamed, ParamNamed, DeclNamed, TreeNamed}
 
 abbrev Good : List Item → Type 0
 Good ts = EachOf (λ t. IsSpelled t.0) ts

@@ -1,12 +1,8 @@
 -- Trees whose names are names and whose strings are those of strings.
-use Rattle.std.specs.Prelude.{ℕ, List, [], ◌∷◌, Option, Some, None}
-use Rattle.pat_lexical.specs.Tokens.{Token, Spanned, Name as NameToken, Str}
-use Rattle.pat_lexical.specs.Lexemes.{Spells}
+use Rattle.std.specs.Prelude.{List, [], ◌∷◌, Option, Some, None}
+use Rattle.pat_lexical.specs.Tokens.{Spanned}
+use Rattle.pat_lexical.specs.Spelled.{IsSpelled, IsName, IsString}
 use Rattle.pat_grammar.specs.Trees.{Name, Pattern, TagPattern, SumPattern, ProdPattern, StarPattern, WrittenType, BaseType, MailboxType, Message, Param, Expr, VarExpr, StrExpr, OpExpr, Term, LetTerm, IfTerm, PrintTerm, NewTerm, SpawnTerm, FreeTerm, GuardTerm, SendTerm, CallTerm, ValueTerm, Clause, FailClause, FreeClause, ReceiveClause, Clauses, no_clauses, with_clause, Decl, InterfaceDecl, DefDecl, Tree}
-
--- some bytes spell the token, where some bytes follow
-abbrev pub IsSpelled : Token → Type 0
-IsSpelled c = (own : List ℕ) × (rest : List ℕ) × Spells c own rest
 
 abbrev pub EachOf : {A : Type 0} → (A → Type 0) → List A → Type 0
 EachOf P [] = Unit {0}
@@ -15,14 +11,6 @@ EachOf P (x ∷ xs) = P x × EachOf P xs
 -- bytes spell each of the tokens
 abbrev pub AreSpelled : List Spanned → Type 0
 AreSpelled ts = EachOf (λ t. IsSpelled t.token) ts
-
--- the bytes are a name, and no reserved word
-abbrev pub IsName : List ℕ → Type 0
-IsName x = IsSpelled (NameToken x)
-
--- the bytes are those that a string stands for
-abbrev pub IsString : List ℕ → Type 0
-IsString s = IsSpelled (Str s)
 
 abbrev pub NameIs : Name → Type 0
 NameIs x = IsName x.text

@@ -3,4 +3,5 @@ pub mod Marks
 pub mod Tokens
 pub mod Characters
 pub mod Lexemes
+pub mod Spelled
 pub mod Divisions

@@ -1,10 +1,9 @@
 -- What a tree resolves to, and what of the text a program keeps.
-use Rattle.std.specs.Prelude.{◌≡◌, ◌≢◌, ℕ, List, [], ◌∷◌, ◌++◌, Some, None, IsUtf8}
+use Rattle.std.specs.Prelude.{◌≡◌, ◌≢◌, ℕ, List, [], ◌∷◌, ◌++◌, Some, None}
 use Rattle.std.specs.List.{AllByRecursion, flat_map}
-use Rattle.pat_lexical.specs.Words.{Reserved, word_bytes}
-use Rattle.pat_lexical.specs.Characters.{IsNameText, Quotes}
+use Rattle.pat_lexical.specs.Spelled.{IsName, IsString}
 use Rattle.pat_model.specs.Values.{Constant, TextConst, Expr, VarExpr, Literal, OpExpr}
-use Rattle.pat_model.specs.Programs.{Interface, Core, Val, Call, If, Print, Send, Program}
+use Rattle.pat_model.specs.Programs.{Core, Val, Call, If, Print, Send, Program}
 use Rattle.pat_grammar.specs.Trees as tree
 use Rattle.pat_names.specs.Heads.{definitions_of}
 use Rattle.pat_names.specs.Findings.{Finding, findings}
@@ -15,15 +14,10 @@ pub record Resolves (end : ℕ) (t : tree.Tree) (p : Program) : Type 0 where
   pub sound : findings end t ≡ []
   pub program : numbered t ≡ p
 
--- the tree is refused with the first that is found in it
-pub record IsRefused (end : ℕ) (t : tree.Tree) (x : Finding) : Type 0 where
+-- this is found first in the tree
+pub record BreaksFirst (end : ℕ) (t : tree.Tree) (x : Finding) : Type 0 where
   pub behind : List Finding
   pub first : findings end t ≡ x ∷ behind
-
--- the bytes are a name: no reserved word
-pub record IsName (bytes : List ℕ) : Type 0 where
-  pub text : IsNameText bytes
-  pub free : (w : Reserved) → bytes ≢ word_bytes w
 
 -- a payload's mailbox type has a pattern
 abbrev pub HasPattern : tree.WrittenType → Type 0
@@ -36,23 +30,10 @@ pub record IsMessage (m : tree.Message) : Type 0 where
   pub name : IsName m.name.text
   pub payloads : AllByRecursion HasPattern m.payloads
 
--- an interface as the grammar has it: there is a message
+-- a declaration as the grammar has it: it has a name, and an interface a message
 abbrev pub IsDecl : tree.Decl → Type 0
 IsDecl (tree.InterfaceDecl x ms) = IsName x.text × (ms ≢ []) × AllByRecursion IsMessage ms
-IsDecl (tree.DefDecl x ps r m) = Unit {0}
-
--- what the grammar says of each tree, and the rules do not
-abbrev pub IsWritten : tree.Tree → Type 0
-IsWritten t = AllByRecursion IsDecl t
-
--- the names of an interface and of its tags are names
-pub record InterfaceIsNamed (i : Interface) : Type 0 where
-  pub name : IsName i.name
-  pub tags : AllByRecursion (λ t. IsName t.name) i.tags
-
--- the names of the interfaces and of their tags are names, so texts that name them can be read
-abbrev pub IsNamed : Program → Type 0
-IsNamed p = AllByRecursion InterfaceIsNamed p.interfaces
+IsDecl (tree.DefDecl x ps r m) = IsName x.text
 
 -- ---- strings
 
@@ -109,6 +90,7 @@ abbrev mutual
 abbrev pub tree_strings : tree.Tree → List (List ℕ)
 tree_strings t = flat_map (λ d. term_strings d.body) (definitions_of t)
 
--- a string token spells the bytes
-abbrev pub IsSpelled : List ℕ → Type 0
-IsSpelled bytes = (raw : List ℕ) × IsUtf8 raw × Quotes raw bytes
+-- what the grammar says of each tree, and the rules do not
+pub record IsWritten (t : tree.Tree) : Type 0 where
+  pub decls : AllByRecursion IsDecl t
+  pub strings : AllByRecursion IsString (tree_strings t)

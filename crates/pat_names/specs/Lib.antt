@@ -4,3 +4,4 @@ pub mod Findings
 pub mod Numbering
 pub mod Places
 pub mod Claims
+pub mod Resolved

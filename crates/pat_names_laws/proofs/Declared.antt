@@ -1,5 +1,5 @@
 -- Declarations that break no rule: interfaces, types, and the heads of functions.
-use Rattle.std.proofs.Common.{◌≡◌, ◌≢◌, ◌+◌, ◌<◌, ◌≤◌, ℕ, zero, suc, true, false, not, nat_eq, List, [], ◌∷◌, ◌++◌, length, Option, Some, None, refl, ap, sym, ◌∙◌, subst, arith}
+use Rattle.std.proofs.Common.{◌≡◌, ◌≢◌, ◌+◌, ◌<◌, ◌≤◌, ℕ, zero, suc, false, not, nat_eq, List, [], ◌∷◌, ◌++◌, length, Option, Some, None, refl, ap, sym, ◌∙◌, subst, arith}
 use Rattle.std.specs.Prelude.{slice_get, map, bytes_eq}
 use Rattle.std.specs.List.{AllByRecursion, IsDistinct, flat_map}
 use Rattle.std.proofs.lemmas.Bool.{eqb-false}
@@ -13,9 +13,12 @@ use Rattle.pat_model.specs.Programs.{Polarity, Sending, Receiving, Sort, BaseSor
 use Rattle.pat_model.specs.WellFormed.{IsPatternOf, IsPayload, IsSignature, InterfaceFits}
 use Rattle.pat_grammar.specs.Trees as tree
 use Rattle.pat_names.specs.Scopes.{is_one_of}
-use Rattle.pat_names.specs.Heads.{InterfaceNames, interface_names, interface_named, pattern_of, mailbox_sort, sort_of, tag_of, interfaces_of, Definition, definitions_of}
+use Rattle.pat_names.specs.Heads.{InterfaceNames, interface_names, interface_named, pattern_of, mailbox_sort, sort_of, tag_of, interfaces_of, Definition, definitions_of, Heads}
 use Rattle.pat_names.specs.Findings.{Finding, Twice, EmptySending, TooManyTags, unless, repeated, pattern_findings, empty_sending, mailbox_findings, type_findings, messages_findings, params_findings, heads_findings}
-use Rattle.pat_names.specs.Claims.{HasPattern, IsMessage, IsDecl, IsName, InterfaceIsNamed}
+use Rattle.pat_lexical.specs.Spelled.{IsName}
+use Rattle.pat_names.specs.Numbering.{nodes_in, functions_from}
+use Rattle.pat_names.specs.Claims.{HasPattern, IsMessage, IsDecl}
+use Rattle.pat_names.specs.Resolved.{InterfaceIsNamed}
 use Rattle.pat_names_laws.proofs.Counting.{none_first, none_second, passes, not_true}
 use Rattle.pat_names_laws.proofs.Expressions.{found_there, pattern_closed, pattern_below}
 use Rattle.pat_names_laws.proofs.Binding.{KindIsThere}
@@ -214,3 +217,8 @@ pub interfaces_named : (all : List InterfaceNames) (ds : tree.Tree) → AllByRec
 interfaces_named all [] written = tt
 interfaces_named all (tree.InterfaceDecl x ms ∷ ds) written = (record { name = written.0.0; tags = tags_named all ms written.0.2 }, interfaces_named all ds written.1)
 interfaces_named all (tree.DefDecl x ps r m ∷ ds) written = interfaces_named all ds written.1
+
+pub functions_named : (names : List InterfaceNames) (h : Heads) (n : ℕ) (ds : tree.Tree) → AllByRecursion IsDecl ds → AllByRecursion (λ f. IsName f.name) (functions_from names h n (definitions_of ds))
+functions_named names h n [] written = tt
+functions_named names h n (tree.InterfaceDecl x ms ∷ ds) written = functions_named names h n ds written.1
+functions_named names h n (tree.DefDecl x ps r m ∷ ds) written = (written.0, functions_named names h (n + nodes_in m) ds written.1)

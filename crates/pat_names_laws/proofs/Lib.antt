@@ -1,10 +1,12 @@
+mod Blocks
+mod Expressions
+mod Terms
+mod Declared
+mod Whole
+mod Strings
+mod Written
+mod Given
+-- for the crates above
 pub mod Counting
-pub mod Blocks
-pub mod Expressions
 pub mod Binding
-pub mod Terms
-pub mod Declared
-pub mod Whole
-pub mod Strings
-pub mod Written
-pub mod Given
+pub mod Resolved

@@ -7,11 +7,11 @@ use Rattle.pat_model.specs.Values.{Kind}
 use Rattle.pat_model.specs.Programs.{Function, Node, kind_of}
 use Rattle.pat_grammar.specs.Trees as tree
 use Rattle.pat_names.specs.Scopes.{Scope, variable, unit_kind}
-use Rattle.pat_names.specs.Heads.{InterfaceNames, sort_of, Definition, signature_of, Heads, clause_scope}
+use Rattle.pat_names.specs.Heads.{InterfaceNames, sort_of, tag_of, interfaces_of, Definition, signature_of, Heads, clause_scope}
 use Rattle.pat_names.specs.Findings.{binders_in, clauses_binders_in, guarded, kind_of_term}
 use Rattle.pat_names.specs.Numbering.{expr_of, nodes_in, clauses_nodes_in, nodes_of, clauses_nodes_of, vars_of, body_scope, functions_from, nodes_from}
 use Rattle.pat_names.specs.Claims.{expr_strings, core_strings, written_expr_strings, term_strings, clauses_strings}
-use Rattle.pat_names.specs.Places.{type_place, FunctionPlaces, function_places, node_places, clauses_node_places, var_places, clauses_var_places}
+use Rattle.pat_names.specs.Places.{type_place, payload_places, FunctionPlaces, function_places, node_places, clauses_node_places, var_places, clauses_var_places}
 use Rattle.pat_names_laws.proofs.Binding.{nodes_length, vars_length}
 use Rattle.pat_names_laws.proofs.Terms.{right_nil}
 
@@ -170,3 +170,16 @@ parts_placed names h n (d ∷ ds) zero g q at there =
       ap (λ (q : FunctionPlaces). length q.params) (sym places) ∙ two ∙ ap (λ (g : Function). length g.params) same,
     )
 parts_placed names h n (d ∷ ds) (suc f) g q at there = parts_placed names h (n + nodes_in d.body) ds f g q at there
+
+messages_placed : (all : List InterfaceNames) (ms : List tree.Message) → map (λ t. length t) (map (λ m. map type_place m.payloads) ms) ≡ map (λ t. length t.payloads) (map (tag_of all) ms)
+messages_placed all [] = refl
+messages_placed all (m ∷ ms) =
+    ap (λ n. n ∷ map (λ t. length t) (map (λ m. map type_place m.payloads) ms)) (length-map m.payloads type_place ∙ sym (length-map m.payloads (sort_of all)))
+    ∙ ap (λ ns. length (map (sort_of all) m.payloads) ∷ ns) (messages_placed all ms)
+
+pub payloads_placed : (all : List InterfaceNames) (ds : tree.Tree) → map (λ i. map (λ t. length t) i) (payload_places ds) ≡ map (λ i. map (λ t. length t.payloads) i.tags) (interfaces_of all ds)
+payloads_placed all [] = refl
+payloads_placed all (tree.InterfaceDecl x ms ∷ ds) =
+    ap (λ ns. ns ∷ map (λ i. map (λ t. length t) i) (payload_places ds)) (messages_placed all ms)
+    ∙ ap (λ is. map (λ t. length t.payloads) (map (tag_of all) ms) ∷ is) (payloads_placed all ds)
+payloads_placed all (tree.DefDecl x ps r m ∷ ds) = payloads_placed all ds

@@ -12,13 +12,13 @@ use Rattle.pat_names.specs.Scopes.{number_found}
 use Rattle.pat_names.specs.Heads.{InterfaceNames, interface_names, sort_of, Definition, definitions_of, Signature, signature_of, Heads, heads_of, tags_of}
 use Rattle.pat_names.specs.Findings.{Finding, WrongArity, WrongKind, unless, has_none, is_unit_type, main_findings, main_of, binders_in, term_findings, heads_findings, bodies_findings, findings}
 use Rattle.pat_names.specs.Numbering.{numbers_from, nodes_in, node, nodes_of, kinds_for, vars_of, body_scope, functions_from, nodes_from, numbered}
-use Rattle.pat_names.specs.Claims.{IsWritten, IsNamed}
+use Rattle.pat_names.specs.Claims.{IsWritten}
 use Rattle.pat_names_laws.proofs.Counting.{none_first, none_second, passes, Counts, counts_none, counts_one, counts_both, counts_as, uses_append, bindings_append, among_counted, below_or}
 use Rattle.pat_names_laws.proofs.Blocks.{From, from_first, from_second, from_here, NodeIsRight, each_both, Placed, Block}
 use Rattle.pat_names_laws.proofs.Expressions.{found_there, numbers, ScopeFits}
 use Rattle.pat_names_laws.proofs.Binding.{HasAt, has_first, has_second, vars_length, nodes_length, numbers_count, bound_or_outer, bind_fits, KindIsThere, ScopeIsThere, bind_is_there}
 use Rattle.pat_names_laws.proofs.Terms.{HeadsFit, term_block}
-use Rattle.pat_names_laws.proofs.Declared.{all_at, NamesFit, HeadFits, HeadsAreRight, heads_right, names_are, signature_there, signatures_there, payloads_there, interfaces_named}
+use Rattle.pat_names_laws.proofs.Declared.{all_at, NamesFit, HeadFits, HeadsAreRight, heads_right, names_are, signature_there, signatures_there, payloads_there}
 
 map_at : {A B : Type 0} (g : A → B) (xs : List A) (i : ℕ) (y : B) → slice_get (map g xs) i ≡ Some y → (x : A) × (slice_get xs i ≡ Some x) × (g x ≡ y)
 map_at g [] i y e = cc
@@ -301,7 +301,7 @@ module _ (end : ℕ) (t : tree.Tree) (written : IsWritten t) (none : findings en
   fit i e at = names_are names t i e at
 
   heads_are : HeadsAreRight p names fit [] t
-  heads_are = heads_right p names fit [] [] t written (none_first in_heads in_main (none_first (in_heads ++ in_main) in_bodies none))
+  heads_are = heads_right p names fit [] [] t written.decls (none_first in_heads in_main (none_first (in_heads ++ in_main) in_bodies none))
 
   result_there : (g : ℕ) (s : Signature) → slice_get h.signatures g ≡ Some s → KindIsThere p (kind_of s.result)
   result_there g s at =
@@ -376,7 +376,3 @@ module _ (end : ℕ) (t : tree.Tree) (written : IsWritten t) (none : findings en
     functions = function_fits;
     nodes = node_fits;
   }
-
--- the names of interfaces and tags are those of the tree
-pub named : (t : tree.Tree) → IsWritten t → IsNamed (numbered t)
-named t written = interfaces_named (interface_names t) t written

@@ -4,26 +4,20 @@ use Rattle.std.specs.Prelude.{map}
 use Rattle.std.specs.List.{AllByRecursion, flat_map}
 use Rattle.pat_lexical.specs.Words as word
 use Rattle.pat_lexical.specs.Tokens.{Token, Spanned, Name, Integer, Str, Word, Mark}
-use Rattle.pat_lexical.specs.Lexemes.{Spells}
+use Rattle.pat_lexical.specs.Spelled.{IsSpelled, IsString}
 use Rattle.pat_lexical.specs.Divisions.{Reaches, here, over, token, Divides}
 use Rattle.pat_grammar.specs.Trees as tree
 use Rattle.pat_grammar.specs.Trees.{listed}
 use Rattle.pat_grammar.specs.Items.{Item, place_of, named, Limits, bound_item, literal}
 use Rattle.pat_grammar.specs.Grammar as grammar
 use Rattle.pat_grammar.specs.Grammar.{Level, Operand, Part, Separated, one, more, Optional, none, some, Arg, Binder, binder}
-use Rattle.pat_names.specs.Claims.{IsName, HasPattern, IsMessage, IsDecl, written_expr_strings, term_strings, clauses_strings, tree_strings, IsSpelled}
-
--- a name token is a name, and a string token is one that is spelled
-abbrev pub IsSound : Token → Type 0
-IsSound (Name x) = IsName x
-IsSound (Str s) = IsSpelled s
-IsSound _ = Unit {0}
+use Rattle.pat_names.specs.Claims.{HasPattern, IsMessage, IsDecl, written_expr_strings, term_strings, clauses_strings, tree_strings, IsWritten}
 
 abbrev pub AreSound : List Item → Type 0
-AreSound ts = AllByRecursion (λ t. IsSound t.0) ts
+AreSound ts = AllByRecursion (λ t. IsSpelled t.0) ts
 
 abbrev Spelled : List (List ℕ) → Type 0
-Spelled xs = AllByRecursion IsSpelled xs
+Spelled xs = AllByRecursion IsString xs
 
 all_both : {A : Type 0} (P : A → Type 0) (xs ys : List A) → AllByRecursion P xs → AllByRecursion P ys → AllByRecursion P (xs ++ ys)
 all_both P [] ys l r = r
@@ -31,19 +25,12 @@ all_both P (x ∷ xs) ys l r = (l.0, all_both P xs ys l.1 r)
 
 -- ---- the tokens of a text
 
-reached : {at to : ℕ} {text rest : List ℕ} {ts : List Spanned} → Reaches at text ts to rest → AllByRecursion (λ t. IsSound t.token) ts
+reached : {at to : ℕ} {text rest : List ℕ} {ts : List Spanned} → Reaches at text ts to rest → AllByRecursion (λ t. IsSpelled t.token) ts
 reached here = tt
 reached (over kind begins same further) = reached further
-reached (token {own = own} {after = after} {t = t} begins same further) = (sound t own after begins.fits, reached further)
-  where
-    sound : (t : Token) (own after : List ℕ) → Spells t own after → IsSound t
-    sound (Name x) own after s = subst IsName (sym s.0) (record { text = s.1; free = s.2 })
-    sound (Integer n) own after s = tt
-    sound (Str x) own after s = (s.0, s.2, s.3)
-    sound (Word w) own after s = tt
-    sound (Mark m) own after s = tt
+reached (token {own = own} {after = after} begins same further) = ((own, after, begins.fits), reached further)
 
-items_sound : (ts : List Spanned) → AllByRecursion (λ t. IsSound t.token) ts → AreSound (map bound_item ts)
+items_sound : (ts : List Spanned) → AllByRecursion (λ t. IsSpelled t.token) ts → AreSound (map bound_item ts)
 items_sound [] all = tt
 items_sound (t ∷ ts) all = (all.0, items_sound ts all.1)
 
@@ -52,7 +39,7 @@ tokens_sound text ts d = items_sound ts (reached d.1)
 
 -- ---- expressions and patterns
 
-literal_spelled : (c : Token) (at : tree.Span) (e : tree.Expr) → IsSound c → literal c at ≡ Some e → Spelled (written_expr_strings e)
+literal_spelled : (c : Token) (at : tree.Span) (e : tree.Expr) → IsSpelled c → literal c at ≡ Some e → Spelled (written_expr_strings e)
 literal_spelled (Name x) at e s h = let same : tree.VarExpr x at ≡ e = cc in subst (λ e. Spelled (written_expr_strings e)) same tt
 literal_spelled (Integer n) at e s h = let same : tree.IntExpr n at ≡ e = cc in subst (λ e. Spelled (written_expr_strings e)) same tt
 literal_spelled (Str x) at e s h = let same : tree.StrExpr x at ≡ e = cc in subst (λ e. Spelled (written_expr_strings e)) same (s, tt)
@@ -66,11 +53,11 @@ expr (grammar.leaf {c = c} {w = w} {e = e} h) s = (literal_spelled c (place_of w
 expr (grammar.unit r) s = (tt, s.1.1)
 expr (grammar.bracket r d) s = let i = expr d s.1 in (i.0, i.1.1)
 expr (grammar.atom d) s = expr d s
-expr (grammar.times {a = a} {b = b} d r e) s = let i = expr d s in let j = expr e i.1.1 in (all_both IsSpelled (written_expr_strings a.0) (written_expr_strings b.0) i.0 j.0, j.1)
+expr (grammar.times {a = a} {b = b} d r e) s = let i = expr d s in let j = expr e i.1.1 in (all_both IsString (written_expr_strings a.0) (written_expr_strings b.0) i.0 j.0, j.1)
 expr (grammar.product d) s = expr d s
-expr (grammar.plus {a = a} {b = b} h d r e) s = let i = expr d s in let j = expr e i.1.1 in (all_both IsSpelled (written_expr_strings a.0) (written_expr_strings b.0) i.0 j.0, j.1)
+expr (grammar.plus {a = a} {b = b} h d r e) s = let i = expr d s in let j = expr e i.1.1 in (all_both IsString (written_expr_strings a.0) (written_expr_strings b.0) i.0 j.0, j.1)
 expr (grammar.sum d) s = expr d s
-expr (grammar.compare {a = a} {b = b} h d r e) s = let i = expr d s in let j = expr e i.1.1 in (all_both IsSpelled (written_expr_strings a.0) (written_expr_strings b.0) i.0 j.0, j.1)
+expr (grammar.compare {a = a} {b = b} h d r e) s = let i = expr d s in let j = expr e i.1.1 in (all_both IsString (written_expr_strings a.0) (written_expr_strings b.0) i.0 j.0, j.1)
 
 pattern : {lim : Limits} {o k t : ℕ} {l : Level} {ts us : List Item} {p : tree.Pattern} → grammar.Pattern lim o k l ts p t us → AreSound ts → AreSound us
 pattern (grammar.number h) s = s.1
@@ -108,7 +95,7 @@ arg ts us e d s = expr d.2 s
 
 args_spelled : (es : List tree.Expr) → AllByRecursion (λ e. Spelled (written_expr_strings e)) es → Spelled (flat_map written_expr_strings es)
 args_spelled [] all = tt
-args_spelled (e ∷ es) all = all_both IsSpelled (written_expr_strings e) (flat_map written_expr_strings es) all.0 (args_spelled es all.1)
+args_spelled (e ∷ es) all = all_both IsString (written_expr_strings e) (flat_map written_expr_strings es) all.0 (args_spelled es all.1)
 
 name : (ts us : List Item) (x : tree.Name) → Binder ts x us → AreSound ts → Unit {0} × AreSound us
 name ts us x binder s = (tt, s.1)
@@ -122,7 +109,7 @@ listed_strings (tree.FreeClause w m ∷ cs) c = ap (λ xs. term_strings m ++ xs)
 listed_strings (tree.ReceiveClause w t xs y m ∷ cs) c = ap (λ xs. term_strings m ++ xs) (listed_strings cs c) ∙ sym (append_assoc (term_strings m) (clauses_strings (listed cs)) (clauses_strings (listed (c ∷ []))))
 
 one_clause_more : (cs : List tree.Clause) (c : tree.Clause) → Spelled (clauses_strings (listed cs)) → Spelled (clauses_strings (listed (c ∷ []))) → Spelled (clauses_strings (listed (cs ++ c ∷ [])))
-one_clause_more cs c l r = subst Spelled (sym (listed_strings cs c)) (all_both IsSpelled (clauses_strings (listed cs)) (clauses_strings (listed (c ∷ []))) l r)
+one_clause_more cs c l r = subst Spelled (sym (listed_strings cs c)) (all_both IsString (clauses_strings (listed cs)) (clauses_strings (listed (c ∷ []))) l r)
 
 mutual
   term : {lim : Limits} {o s f : ℕ} {l : Part} {ts us : List Item} {m : tree.Term} → grammar.Term lim o s l ts m f us → AreSound ts → Spelled (term_strings m) × AreSound us
@@ -137,12 +124,12 @@ mutual
       let i = expr e s.1 in
       let j = term d i.1.1 in
       let k = term g j.1.1.1.1 in
-      (all_both IsSpelled (written_expr_strings a.0 ++ term_strings m) (term_strings n) (all_both IsSpelled (written_expr_strings a.0) (term_strings m) i.0 j.0) k.0, k.1.1)
+      (all_both IsString (written_expr_strings a.0 ++ term_strings m) (term_strings n) (all_both IsString (written_expr_strings a.0) (term_strings m) i.0 j.0) k.0, k.1.1)
   term (grammar.guard p r d) s = let i = clauses d (pattern p s.1.1.1).1 in (i.0, i.1.1)
   term (grammar.block r d) s = let i = term d s.1 in (i.0, i.1.1)
   term (grammar.simple d) s = term d s
-  term (grammar.then {m = m} {n = n} d r e) s = let i = term d s in let j = term e i.1.1 in (all_both IsSpelled (term_strings m) (term_strings n) i.0 j.0, j.1)
-  term (grammar.bind {a = a} {b = b} d r e) s = let i = term d s.1.1.1 in let j = term e i.1.1 in (all_both IsSpelled (term_strings a) (term_strings b) i.0 j.0, j.1)
+  term (grammar.then {m = m} {n = n} d r e) s = let i = term d s in let j = term e i.1.1 in (all_both IsString (term_strings m) (term_strings n) i.0 j.0, j.1)
+  term (grammar.bind {a = a} {b = b} d r e) s = let i = term d s.1.1.1 in let j = term e i.1.1 in (all_both IsString (term_strings a) (term_strings b) i.0 j.0, j.1)
 
   clauses : {lim : Limits} {o s : ℕ} {b : Bool} {ts us : List Item} {cs : List tree.Clause} → grammar.Clauses lim o s b ts cs us → AreSound ts → Spelled (clauses_strings (listed cs)) × AreSound us
   clauses grammar.no_clause s = (tt, s)
@@ -150,12 +137,12 @@ mutual
   clauses (grammar.free_clause {w = w} {cs = cs} {m = m} d e) s =
       let i = clauses d s in
       let j = term e i.1.1.1 in
-      (one_clause_more cs (tree.FreeClause (place_of w) m) i.0 (all_both IsSpelled (term_strings m) [] j.0 tt), j.1)
+      (one_clause_more cs (tree.FreeClause (place_of w) m) i.0 (all_both IsString (term_strings m) [] j.0 tt), j.1)
   clauses (grammar.receive_clause {w = w} {n = n} {h = h} {x = x} {y = y} {cs = cs} {ns = ns} {m = m} d r e g) s =
       let i = clauses d s in
       let j = optional (λ x. Unit {0}) name e i.1.1.1.1 in
       let k = term g j.1.1.1.1.1 in
-      (one_clause_more cs (tree.ReceiveClause (place_of w) (named x n) ns (named y h) m) i.0 (all_both IsSpelled (term_strings m) [] k.0 tt), k.1)
+      (one_clause_more cs (tree.ReceiveClause (place_of w) (named x n) ns (named y h) m) i.0 (all_both IsString (term_strings m) [] k.0 tt), k.1)
 
 -- ---- declarations
 
@@ -185,7 +172,7 @@ decls (grammar.interface {x = x} {n = n} {ds = ds} {xs = xs} d r e) s =
     let j = separated IsMessage message e i.2.1.1.1 in
     let it : tree.Decl = tree.InterfaceDecl (named x n) xs in (
       all_both IsDecl ds (it ∷ []) i.0 ((i.2.1.0, separated_some e, j.0), tt),
-      subst Spelled (sym (strings_more ds it)) (all_both IsSpelled (tree_strings ds) [] i.1 tt),
+      subst Spelled (sym (strings_more ds it)) (all_both IsString (tree_strings ds) [] i.1 tt),
       j.1.1,
     )
 decls (grammar.function {x = x} {n = n} {vs = vs} {ds = ds} {ps = ps} {r = r} {m = m} d q e g p t) s =
@@ -194,10 +181,10 @@ decls (grammar.function {x = x} {n = n} {vs = vs} {ds = ds} {ps = ps} {r = r} {m
     let k = written_type vs _ r g j.1.1.1 in
     let l = term t k.1.1 in
     let it : tree.Decl = tree.DefDecl (named x n) ps r m in (
-      all_both IsDecl ds (it ∷ []) i.0 (tt, tt),
-      subst Spelled (sym (strings_more ds it)) (all_both IsSpelled (tree_strings ds) (term_strings m ++ []) i.1 (all_both IsSpelled (term_strings m) [] l.0 tt)),
+      all_both IsDecl ds (it ∷ []) i.0 (i.2.1.0, tt),
+      subst Spelled (sym (strings_more ds it)) (all_both IsString (tree_strings ds) (term_strings m ++ []) i.1 (all_both IsString (term_strings m) [] l.0 tt)),
       l.1.1,
     )
 
-pub tree_written : {lim : Limits} {ts : List Item} {t : tree.Tree} → grammar.Spells lim ts t → AreSound ts → AllByRecursion IsDecl t × Spelled (tree_strings t)
-tree_written d s = let i = decls d s in (i.0, i.1)
+pub tree_written : {lim : Limits} {ts : List Item} {t : tree.Tree} → grammar.Spells lim ts t → AreSound ts → IsWritten t
+tree_written d s = let i = decls d s in record { decls = i.0; strings = i.1 }

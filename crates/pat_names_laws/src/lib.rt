@@ -5,24 +5,22 @@ ghost use Rattle.std.specs.Prelude.{◌≡◌, [], ◌++◌};
 ghost use Rattle.pat_grammar.specs.Trees.{span};
 ghost use Rattle.pat_names.specs.Findings.{findings, found, UnknownName, Twice, WrongArity, WrongKind, ForeignTag, EmptySending, TooManyTags};
 ghost use Rattle.pat_names.specs.Numbering.{numbered};
-ghost use Rattle.pat_names_laws.specs.Laws.{EachTreeIsAnswered, ResolvedIsWellFormed, ResolvedIsNamed, StringsAreKept, ResolvedIsSpelled, SpelledIsWritten, SpelledIsWellFormed, NeededIsGiven, NumberedIsPlaced};
+ghost use Rattle.pat_names_laws.specs.Laws.{EachTreeIsAnswered, ResolvedIsWhole, StringsAreKept, SpelledIsWritten, SpelledIsWhole, NeededIsGiven, NumberedIsPlaced};
 ghost use Rattle.pat_names_laws.specs.Examples as example;
 
-/// A tree resolves or is refused. One that breaks no rule has a well-formed program, with names for interfaces and tags, the
-/// tree's string literals, and a place for each part.
+/// A tree resolves or is refused. What it resolves to is well formed, with names and strings that a text can have and a place
+/// for each part. The program's string literals are the tree's.
 pub fn resolution_laws()
     ensures answer { EachTreeIsAnswered }
-    ensures well_formed { ResolvedIsWellFormed }
-    ensures named { ResolvedIsNamed }
+    ensures whole { ResolvedIsWhole }
     ensures strings { StringsAreKept }
-    ensures spelled { ResolvedIsSpelled }
     ensures placed { NumberedIsPlaced }
 {}
 
-/// What a text spells is a tree as above, so what it resolves to is a well-formed program that a text can show.
+/// What a text spells is a tree as above, so what it resolves to is whole.
 pub fn text_laws()
     ensures written { SpelledIsWritten }
-    ensures well_formed { SpelledIsWellFormed }
+    ensures whole { SpelledIsWhole }
 {}
 
 /// Where nothing is found in a term, it has the kind that is needed of it.

@@ -1,5 +1,5 @@
-pub mod Entries
-pub mod Rows
-pub mod Room
-pub mod Definitions
-pub mod Wholes
+mod Entries
+mod Rows
+mod Room
+mod Definitions
+mod Wholes

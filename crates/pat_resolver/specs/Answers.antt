@@ -1,12 +1,12 @@
--- What a refusal says of a tree.
+-- What an error says of a tree.
 use Rattle.std.specs.Prelude.{ℕ}
 use Rattle.pat_grammar.specs.Trees.{Tree}
-use Rattle.pat_names.specs.Claims.{IsRefused}
+use Rattle.pat_names.specs.Claims.{BreaksFirst}
 use Rattle.pat_resolver_answers.specs.Views.{finding_view}
 use Rattle.pat_resolver_answers.specs.declared.error.ResolveError.{ResolveError}
 use Rattle.pat_resolver_answers.specs.declared.error.ResolveError.TheVariants.{Broken, NoMemory}
 
--- the tree is refused so, where the text ends at the offset; want of memory says nothing
+-- what an error says of a tree whose text ends at the offset; want of memory claims nothing
 abbrev pub Explains : ℕ → Tree → ResolveError → Type 0
-Explains end t (Broken k s) = IsRefused end t (finding_view k s)
+Explains end t (Broken k s) = BreaksFirst end t (finding_view k s)
 Explains end t NoMemory = Unit {0}

@@ -1,12 +1,12 @@
 // Whole trees.
 ghost use Rattle.std.specs.Prelude.{◌≡◌, ◌<◌, ◌++◌, [], map, OnOk, IfOk, IfErr};
-ghost use Rattle.pat_model.specs.WellFormed.{WellFormed};
 ghost use Rattle.pat_names.specs.Scopes.{number_found};
 ghost use Rattle.pat_names.specs.Heads.{interface_names, heads_of};
 ghost use Rattle.pat_names.specs.Findings.{heads_findings, main_findings, main_of, findings};
 ghost use Rattle.pat_names.specs.Numbering.{numbered};
 ghost use Rattle.pat_names.specs.Places.{payload_places, places};
-ghost use Rattle.pat_names.specs.Claims.{Resolves, IsWritten, IsNamed};
+ghost use Rattle.pat_names.specs.Claims.{Resolves, IsWritten};
+ghost use Rattle.pat_names.specs.Resolved.{IsResolved};
 ghost use Rattle.pat_grammar_laws.specs.Counts.{tree_size};
 ghost use Rattle.pat_core.specs.Views.{program_view};
 ghost use Rattle.pat_tree.specs.Views.{tree_view};
@@ -36,9 +36,8 @@ pub fn resolve(alloc: Global, tree: &Tree, end: u32) -> Result<Program, ResolveE
     // The same in other words.
     ensures resolved { IfOk result (λ p. Resolves end (tree_view tree.now) (program_view p)) }
     ensures refused { IfErr result (Explains end (tree_view tree.now)) }
-    // The program of a tree that is written as the grammar has it is well formed, and its names are names.
-    ensures well_formed { IsWritten (tree_view tree.now) → IfOk result (λ p. WellFormed (program_view p)) }
-    ensures named { IsWritten (tree_view tree.now) → IfOk result (λ p. IsNamed (program_view p)) }
+    // Of a tree that is written as the grammar has it: all that later calls ask of a program.
+    ensures is_resolved { IsWritten (tree_view tree.now) → IfOk result (λ p. IsResolved (program_view p) (places_view p)) }
 {
     whole_tree(alloc, tree, end)
 }

@@ -1,1 +1,2 @@
+-- for the crates above
 pub mod Firsts

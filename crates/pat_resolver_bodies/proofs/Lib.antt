@@ -1,9 +1,10 @@
-pub mod Chains
-pub mod Earlier
-pub mod Forms
-pub mod Order
-pub mod Places
-pub mod Rest
+mod Chains
+mod Earlier
+mod Forms
+mod Order
+mod Places
+mod Rest
+mod Steps
+mod Within
+-- for the crates above
 pub mod Rows
-pub mod Steps
-pub mod Within

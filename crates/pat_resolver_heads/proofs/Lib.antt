@@ -1,5 +1,6 @@
-pub mod Found
-pub mod Tags
-pub mod Checks
+mod Found
+mod Tags
+mod Checks
+mod Tied
+-- for the crates above
 pub mod Size
-pub mod Tied

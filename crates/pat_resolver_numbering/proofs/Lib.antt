@@ -1,6 +1,7 @@
-pub mod Adding
-pub mod Branching
-pub mod Ending
-pub mod Guarding
-pub mod Letting
+mod Adding
+mod Branching
+mod Ending
+mod Guarding
+mod Letting
+-- for the crates above
 pub mod Sizes

@@ -6,7 +6,7 @@ ghost use Rattle.pat_primitives.specs.Views.{op_view};
 ghost use Rattle.pat_resolver_tables.specs.Views.{scope_view};
 ghost use Rattle.pat_tree.specs.Views.{expr_view};
 
-use crate::look_ups::variable_number;
+use crate::lookups::variable_number;
 use pat_core::Expr;
 use pat_resolver_tables::ScopeTable;
 use pat_sequences::Sequence;

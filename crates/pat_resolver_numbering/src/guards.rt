@@ -8,7 +8,7 @@ ghost use Rattle.pat_resolver_numbering.specs.Progress.{kinds_of, no_bodies, rec
 ghost use Rattle.pat_resolver_tables.specs.Views.{scope_view};
 ghost use Rattle.pat_tree.specs.Views.{clause_view, name_view, pattern_view, span_view, term_view};
 
-use crate::look_ups::{guarded_interface, tag_number, variable_number};
+use crate::lookups::{guarded_interface, tag_number, variable_number};
 use crate::state::{Context, Numbering, Spot};
 use pat_core::{Clause, Core, Kind};
 use pat_sequences::Sequence;

@@ -6,7 +6,7 @@ ghost use Rattle.pat_resolver_numbering.specs.Progress.{AddsTerm};
 ghost use Rattle.pat_tree.specs.Views.{expr_view, name_view, span_view};
 
 use crate::expressions::{number_args, number_expr};
-use crate::look_ups::{
+use crate::lookups::{
     function_number, guarded_interface, interface_number, tag_number, variable_number,
 };
 use crate::state::{Context, Numbering, Spot};

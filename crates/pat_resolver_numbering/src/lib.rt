@@ -5,7 +5,7 @@ mod bodies;
 mod expressions;
 mod guards;
 mod leaves;
-mod look_ups;
+mod lookups;
 mod state;
 mod terms;
 

@@ -1,2 +1,2 @@
-pub mod Places
-pub mod Tops
+mod Places
+mod Tops

@@ -1,5 +1,5 @@
 // Names in order, found by their bytes.
-ghost use Rattle.std.specs.Prelude.{◌≡◌, ◌∷◌, ◌++◌, ◌<◌, [], List, ℕ, length, option_map, OnOk, IfSome};
+ghost use Rattle.std.specs.Prelude.{◌≡◌, ◌∷◌, ◌++◌, ◌<◌, [], List, ℕ, length, option_map, OnOk, OnErr, IfSome};
 ghost use Rattle.pat_names.specs.Scopes.{first_named, itself};
 ghost use Rattle.pat_resolver_tables.specs.Places.{place_of, known_place};
 
@@ -43,7 +43,8 @@ impl NameTable {
 
     /// Appends a name. An error leaves the table as it was.
     pub fn push(&mut self, alloc: Global, name: &Text) -> Result<(), AllocError>
-        ensures { OnOk result (self.new ≡ self.old ++ name.now ∷ []) }
+        ensures pushed { OnOk result (self.new ≡ self.old ++ name.now ∷ []) }
+        ensures kept { OnErr result (self.new ≡ self.old) }
     {
         let own = name.copy(alloc)?;
         if self.places.contains_key(name.as_bytes()) {

@@ -1,5 +1,5 @@
 // The variables in scope, found by name.
-ghost use Rattle.std.specs.Prelude.{◌≡◌, ◌∷◌, ◌≤◌, [], List, ℕ, length, drop, map, option_copied, option_map, OnOk};
+ghost use Rattle.std.specs.Prelude.{◌≡◌, ◌∷◌, ◌≤◌, [], List, ℕ, length, drop, map, option_copied, option_map, OnOk, OnErr};
 ghost use Rattle.pat_names.specs.Scopes.{variable_of};
 ghost use Rattle.pat_resolver_tables.specs.Views.{scope_view, variable_view};
 ghost use Rattle.pat_resolver_tables.specs.Innermost.{innermost, shadowed_in, known_top};
@@ -69,7 +69,8 @@ impl ScopeTable {
         number: u32,
         kind: Kind,
     ) -> Result<(), AllocError>
-        ensures { OnOk result (self.new ≡ record { name = name.now; number = number; kind = kind } ∷ self.old) }
+        ensures pushed { OnOk result (self.new ≡ record { name = name.now; number = number; kind = kind } ∷ self.old) }
+        ensures kept { OnErr result (self.new ≡ self.old) }
     {
         let own = name.copy(alloc)?;
         let key = Vec::from_slice(alloc, name.as_bytes())?;

@@ -1,11 +1,17 @@
 use Rattle.pat_tree.specs.Views.{tree_view}
 use Rattle.pat_core.specs.Views.{program_view}
-use Rattle.pat_front.proofs.Resolved.{program_text, formed}
+use Rattle.pat_resolver_answers.specs.Views.{places_view}
+use Rattle.pat_front.proofs.Resolved.{program_text, is_resolved}
 use Rattle.pat_front.proofs.front.program_of.Goals as goal
 
+pub returns-in-Ok-clause-is_resolved : goal.returns-in-Ok-clause-is_resolved
+returns-in-Ok-clause-is_resolved c = λ bytes text end.
+    let t = tree_view c.args.tree.now in
+    let p = program_view c.in-Ok.program in
+    is_resolved bytes t p (places_view c.in-Ok.program) (program_text bytes t p c.args.end text end c.in-Ok.ensures.found c.in-Ok.ensures.program) c.in-Ok.ensures.places
+
 pub returns-in-Ok-clause-well_formed : goal.returns-in-Ok-clause-well_formed
-returns-in-Ok-clause-well_formed c = λ bytes text end.
-    formed bytes (tree_view c.args.tree.now) (program_view c.in-Ok.program) (program_text bytes (tree_view c.args.tree.now) (program_view c.in-Ok.program) c.args.end text end c.in-Ok.ensures.found c.in-Ok.ensures.program)
+returns-in-Ok-clause-well_formed c = λ bytes text end. (returns-in-Ok-clause-is_resolved c bytes text end).well_formed
 
 pub returns-in-Err-clause-refused : goal.returns-in-Err-clause-refused
 returns-in-Err-clause-refused c = λ bytes text end.

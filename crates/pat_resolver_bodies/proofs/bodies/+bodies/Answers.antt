@@ -233,10 +233,10 @@ check_named-returns-clause-scope t c =
     let m = term_view c.args.bound.now in
     let one : length (c.args.variables.now.kinds ++ code.Unit ∷ []) ≡ suc (length c.args.variables.now.kinds) = omega (arith, length-append c.args.variables.now.kinds (code.Unit ∷ [])) in
     let own : kind_view c.in_ok-kind.kind ≡ kind_of_term (heads_view c.args.heads.now) (scope_view c.args.scope.now) (suc (length c.args.variables.now.kinds)) m = rw (c.in_ok-push.ensures.ok, one) at c.in_ok-kind.ensures.kind in
-    rw (c.in_ok-push-3.ensures, c.in_ok-kind.ensures.scope, own, c.len-number.ensures) refl
+    rw (c.in_ok-push-3.ensures.pushed, c.in_ok-kind.ensures.scope, own, c.len-number.ensures) refl
 
 pub check_named-returns-clause-above : goal.check_named-returns-clause-above
-check_named-returns-clause-above t c = rw (c.in_ok-push-3.ensures, c.in_ok-kind.ensures.scope) (above_one _ _)
+check_named-returns-clause-above t c = rw (c.in_ok-push-3.ensures.pushed, c.in_ok-kind.ensures.scope) (above_one _ _)
 
 pub check_clause-returns-in_err-open_receive-in-Receive-clause-found : goal.check_clause-returns-in_err-open_receive-in-Receive-clause-found
 check_clause-returns-in_err-open_receive-in-Receive-clause-found t c = search (rules, refuses_front)

@@ -63,7 +63,7 @@ number_named-returns t c =
     let own = own_kind c.args.context.now s (name_view c.args.name.now) (term_view c.args.bound.now) c.requires in
     let j = get_or c.args.context.now.kinds.now s.next kind.Unit in
     let variable : Variable = record { name = c.args.name.now.text; number = s.next; kind = j } in
-    ok_then c.push.result _ _ c.push.ensures
+    ok_then c.push.result _ _ c.push.ensures.pushed
     (λ pushed. let_done c.args.context.now (kind_view c.args.spot.kind) (kind_view j) (span_view c.args.spot.span) (Some (name_view c.args.name.now)) (term_view c.args.bound.now)
     s _ r _ (variable ∷ []) _ _ c.len-place.result c.len.result
     c.len-place.ensures c.len.ensures (own_numbered s c.reserve.new.self _ _ c.in_ok-reserve.ensures)
@@ -83,7 +83,7 @@ number_receive-number_term-requires t c =
     let count = length-map c.args.names.now name_view in
     let next : q.next ≡ s.next + length xs = omega (arith, c.in_ok-vars.ensures.next, count) in
     let r : Numbering = record { nodes = q.nodes; scope = c.push.new.self; next = q.next + 1 } in
-    let scope = bound_scope c.args.context.now c.args.interface s (name_view c.args.tag.now) xs (name_view c.args.from.now) (term_view c.args.body.now) c.requires q r _ next c.in_ok-vars.ensures.scope c.in_ok-push.ensures refl in
+    let scope = bound_scope c.args.context.now c.args.interface s (name_view c.args.tag.now) xs (name_view c.args.from.now) (term_view c.args.body.now) c.requires q r _ next c.in_ok-vars.ensures.scope c.in_ok-push.ensures.pushed refl in
     (search (rules, the_lemmas), receive_fits c.args.context.now c.args.interface s (name_view c.args.tag.now) xs (name_view c.args.from.now) (term_view c.args.body.now) c.requires r c.in_ok-vars.ensures.nodes (omega (arith, next)) scope)
 
 pub number_receive-returns-clause-added : goal.number_receive-returns-clause-added
@@ -95,12 +95,12 @@ number_receive-returns-clause-added t c =
     let count = length-map c.args.names.now name_view in
     let next : q.next ≡ s.next + length xs = omega (arith, c.in_ok-vars.ensures.next, count) in
     let r : Numbering = record { nodes = q.nodes; scope = c.push.new.self; next = q.next + 1 } in
-    let scope = bound_scope c.args.context.now c.args.interface s (name_view c.args.tag.now) xs (name_view c.args.from.now) (term_view c.args.body.now) c.requires q r _ next c.in_ok-vars.ensures.scope c.in_ok-push.ensures refl in
-    let deeper = ap length c.in_ok-push.ensures in
+    let scope = bound_scope c.args.context.now c.args.interface s (name_view c.args.tag.now) xs (name_view c.args.from.now) (term_view c.args.body.now) c.requires q r _ next c.in_ok-vars.ensures.scope c.in_ok-push.ensures.pushed refl in
+    let deeper = ap length c.in_ok-push.ensures.pushed in
     receive_adds c.args.context.now c.args.interface s (name_view c.args.tag.now) xs (name_view c.args.from.now) (term_view c.args.body.now) c.requires
     (kind_view c.args.kind) r o _ c.len-outer.result (c.len.result - c.len-outer.result)
     c.in_ok-vars.ensures.nodes (omega (arith, next)) scope (omega (arith, deeper, count, c.in_ok-vars.ensures.outer.0))
-    (ap (drop (suc (length xs))) c.in_ok-push.ensures ∙ ap (λ (j : ℕ). drop j q.scope) count ∙ c.in_ok-vars.ensures.outer.1)
+    (ap (drop (suc (length xs))) c.in_ok-push.ensures.pushed ∙ ap (λ (j : ℕ). drop j q.scope) count ∙ c.in_ok-vars.ensures.outer.1)
     c.in_ok-number_term.ensures c.len-outer.ensures (ap (λ (j : ℕ). j - c.len-outer.result) c.len.ensures)
     (ap (λ (j : List Variable). record o { scope = j }) c.pop.ensures)
 

@@ -16,16 +16,16 @@ loop-name-preserved c =
     let kinds = c.args.context.now.kinds.now in
     let within : i < length items = omega arith in
     let there : v < length kinds = omega (arith, c.loop-name.invariant.next, c.requires.kinds, ap length c.as_slice-name-items.ensures) in
-    let deeper = ap length c.in_ok-push.ensures in
+    let deeper = ap length c.in_ok-push.ensures.pushed in
     let one : i + 1 ≡ suc i = omega arith in
     record {
       next = omega (arith, c.loop-name.invariant.next);
       numbers = numbers_step c.loop-name.numbers _ items i v c.name-item.result within c.name-item.is c.in_ok-push-2.ensures.ok ∙ c.loop-name.invariant.numbers;
       nodes = c.loop-name.invariant.nodes;
       scope =
-          ap (λ (q : List Variable). bind_names (v + 1) (map name_view (drop (i + 1) items)) (drop (v + 1) (kinds_of c.args.context.now)) (scope_view q)) c.in_ok-push.ensures
+          ap (λ (q : List Variable). bind_names (v + 1) (map name_view (drop (i + 1) items)) (drop (v + 1) (kinds_of c.args.context.now)) (scope_view q)) c.in_ok-push.ensures.pushed
           ∙ sym (bind_step kinds items i v c.name-item.result kind.Unit (scope_view c.loop-name.self.scope) within c.name-item.is there)
           ∙ c.loop-name.invariant.scope;
       outer = omega (arith, c.loop-name.invariant.outer, deeper);
-      kept = ap (λ (q : ℕ). drop q c.push.new.self) one ∙ ap (drop (suc i)) c.in_ok-push.ensures ∙ c.loop-name.invariant.kept;
+      kept = ap (λ (q : ℕ). drop q c.push.new.self) one ∙ ap (drop (suc i)) c.in_ok-push.ensures.pushed ∙ c.loop-name.invariant.kept;
     }
