@@ -14,10 +14,10 @@ use Rattle.pat_lexical_laws.proofs.MarkBeginnings.{mark_begins}
 use Rattle.pat_lexical_laws.proofs.NameBeginnings.{name_begins, word_begins, NoMoreName}
 use Rattle.pat_lexer.specs.declared.unfinished.Unfinished.{Unfinished}
 use Rattle.pat_lexer.specs.declared.unfinished.Unfinished.TheVariants.{Nothing}
-use Rattle.pat_lexer.specs.Bytes.{is_name_byte}
+use Rattle.pat_lexer_fronts.specs.Bytes.{is_name_byte}
 use Rattle.pat_lexer.specs.Progress.{Progress, HasKind, Stands}
 use Rattle.pat_lexer.specs.Changes.{with_token, with_piece}
-use Rattle.pat_lexer.specs.Spelled.{IsNameToken, name, word}
+use Rattle.pat_lexer_fronts.specs.Spelled.{IsNameToken, name, word}
 use Rattle.pat_lexer.proofs.Standing.{free_of, stands_free, stands_of, with_token_stands}
 
 -- a place is refused where nothing fits

@@ -18,12 +18,13 @@ use Rattle.pat_lexical_laws.proofs.NameBeginnings.{NoMoreName, name_more, name_o
 use Rattle.pat_lexical_laws.proofs.Faults.{no_name, no_string, no_end_character, no_comment_text, NoEnd}
 use Rattle.pat_lexer.specs.declared.unfinished.Unfinished.{Unfinished}
 use Rattle.pat_lexer.specs.declared.unfinished.Unfinished.TheVariants.{Nothing, Name, Integer, Str, Escape, Equals, Minus, Slash, Comment}
-use Rattle.pat_lexer.specs.Fronts.{IsCut}
+use Rattle.pat_lexer_fronts.specs.Fronts.{IsCut}
 use Rattle.pat_lexer.specs.Progress.{Progress, HasKind, Stands}
-use Rattle.pat_lexer.specs.Reads.{IsAnswer, refusal_in, TakesCharacters, Judges}
+use Rattle.pat_lexer.specs.Explains.{Explains}
+use Rattle.pat_lexer.specs.Reads.{refusal_in, TakesCharacters, Judges}
 use Rattle.pat_lexer.proofs.Standing.{stands_of}
 use Rattle.pat_lexer.proofs.Between.{refused_at, name_token_begins}
-use Rattle.pat_lexer.proofs.WordOr.{name_or_word}
+use Rattle.pat_lexer_fronts.proofs.WordOr.{name_or_word}
 
 -- a text that begins with a byte that isn't ASCII
 pub record High (tail : List ℕ) : Type 0 where
@@ -77,11 +78,11 @@ no_start tail n c after s e = from (starts_name c) refl
 some_high : (tail : List ℕ) → High tail → tail ≢ []
 some_high tail h e = let no : h.first ∷ h.others ≡ [] = sym h.is ∙ e in absurd (let none : ⊥ = cc in none)
 
-bad_name : (tail : List ℕ) → High tail → NoStart tail → NothingFits tail
+pub bad_name : (tail : List ℕ) → High tail → NoStart tail → NothingFits tail
 bad_name tail h none = subst NothingFits (sym h.is) (no_name h.first h.others h.high (λ c after s e. none c after s (h.is ∙ e)))
 
 -- a character that doesn't fit the piece is refused: a name is whole before it
-pub refused_kind : (u : Unfinished) (p : Progress) (opened tail text : List ℕ) → HasKind u p opened → Reaches 0 text p.whole p.start (opened ++ tail) → High tail → NotTaken u tail → p.character_start ≡ p.start + length opened → IsAnswer text (refusal_in u p.start p.character_start)
+pub refused_kind : (u : Unfinished) (p : Progress) (opened tail text : List ℕ) → HasKind u p opened → Reaches 0 text p.whole p.start (opened ++ tail) → High tail → NotTaken u tail → p.character_start ≡ p.start + length opened → Explains text (refusal_in u p.start p.character_start)
 refused_kind Nothing p opened tail text k r h n at = refused_at text tail p.whole p.start (subst (λ l. Reaches 0 text p.whole p.start (l ++ tail)) k.0 r) (some_high tail h) (bad_name tail h n)
 refused_kind Name p opened tail text k r h n at =
     let token = name_or_word opened in
@@ -100,7 +101,7 @@ refused_kind Minus p opened tail text k r h n at = absurd n
 refused_kind Slash p opened tail text k r h n at = absurd n
 
 -- the character is refused where it doesn't fit
-pub judged_refused : (p : Progress) (text rest : List ℕ) → Judges p text rest → NotTaken p.unfinished (p.character ++ rest) → IsAnswer text (refusal_in p.unfinished p.start p.character_start)
+pub judged_refused : (p : Progress) (text rest : List ℕ) → Judges p text rest → NotTaken p.unfinished (p.character ++ rest) → Explains text (refusal_in p.unfinished p.start p.character_start)
 judged_refused p text rest j n = refused_kind p.unfinished p j.opened (p.character ++ rest) text j.kind j.reaches (high_of p.character rest j.cut.high) n j.begins
 
 -- an unfinished character isn't ASCII
@@ -115,7 +116,7 @@ unfinished_high (b ∷ bytes) u = from (nat_le 128 b) refl
         absurd (u.none_whole b bytes (low_scalar b (omega (arith, low))) (ap (λ l. l ++ bytes) (sym (encode_ascii b low))))
 
 -- the text ends within a character
-pub ends_refused : (p : Progress) (text : List ℕ) → p.character ≢ [] → Stands p text [] → IsAnswer text (refusal_in p.unfinished p.start p.character_start)
+pub ends_refused : (p : Progress) (text : List ℕ) → p.character ≢ [] → Stands p text [] → Explains text (refusal_in p.unfinished p.start p.character_start)
 ends_refused p text some s = from s.character
   where
     takes : (u : Unfinished) → HasKind u p s.opened → TakesCharacters u
@@ -129,7 +130,7 @@ ends_refused p text some s = from s.character
     takes Minus k = some k.2
     takes Slash k = some k.2
 
-    from : (p.character ≡ []) ⊎ (IsUnfinished p.character × (p.character_start ≡ p.start + length s.opened)) → IsAnswer text (refusal_in p.unfinished p.start p.character_start)
+    from : (p.character ≡ []) ⊎ (IsUnfinished p.character × (p.character_start ≡ p.start + length s.opened)) → Explains text (refusal_in p.unfinished p.start p.character_start)
     from (inl none) = absurd (some none)
     from (inr u) = refused_kind p.unfinished p s.opened (p.character ++ []) text s.kind s.reaches (high_of p.character [] (unfinished_high p.character u.0)) (none_taken p.unfinished (p.character ++ []) (takes p.unfinished s.kind) (subst StartsWithNoChar (sym (append-nil p.character)) u.0.none_whole)) u.1
 

@@ -1,5 +1,5 @@
 -- Where an unfinished piece ends.
-use Rattle.std.proofs.Common.{◌≡◌, ◌<◌, ◌==◌, ◌&&◌, not, nat_lt, ℕ, Bool, true, false, List, [], ◌∷◌, ◌++◌, length, get_or, Result, Ok, Err, refl, ap, sym, arith}
+use Rattle.std.proofs.Common.{◌≡◌, ◌<◌, ◌==◌, ◌&&◌, not, nat_lt, ℕ, Bool, true, false, List, [], ◌∷◌, ◌++◌, length, get_or, ◌+◌, ◌∙◌, Result, Ok, Err, refl, ap, sym, arith}
 use Rattle.std.specs.Result.{IfOk, IfErr}
 use Rattle.std.proofs.lemmas.Bool.Decides.{nat_tests}
 use Rattle.pat_lexical.specs.Characters.{is_digit, is_in_line, FrontFails}
@@ -8,9 +8,12 @@ use Rattle.pat_lexical_laws.proofs.NameBeginnings.{NoMoreName}
 use Rattle.pat_lexical_laws.proofs.Faults.{no_end_nil}
 use Rattle.pat_lexer.specs.declared.unfinished.Unfinished.{Unfinished}
 use Rattle.pat_lexer.specs.declared.unfinished.Unfinished.TheVariants.{Name, Integer, Str, Escape, Equals, Minus, Slash, Comment}
-use Rattle.pat_lexer.specs.Bytes.{is_name_byte}
+use Rattle.pat_lexer_fronts.specs.Bytes.{is_name_byte}
 use Rattle.pat_lexer.specs.Ends.{ends, EndsAt}
+use Rattle.pat_lexer.specs.declared.error.LexError.{LexError}
+use Rattle.pat_lexer.specs.declared.reader.Reader.{Reader}
 use Rattle.pat_lexer.specs.Progress.{Progress, Stands}
+use Rattle.pat_lexer.specs.Reads.{Reads, Advances}
 use Rattle.pat_lexer.proofs.Between.{no_more_ascii, no_more_nil}
 use Rattle.pat_lexer.proofs.Inside.{string_refused, escape_refused, slash_refused}
 
@@ -22,6 +25,11 @@ ok_then (Err e) P Q h f = tt
 pub err_then : {T E : Type 0} (r : Result T E) (P Q : E → Type 0) → IfErr r P → ((e : E) → P e → Q e) → IfErr r Q
 err_then (Ok x) P Q h f = tt
 err_then (Err e) P Q h f = f e h
+
+-- what was settled before the bytes were read on
+pub advance_then : (old mid new : Reader) (bytes : List ℕ) (r : Result ℕ LexError) → mid.position ≡ old.position → Reads old mid bytes 0 → Advances mid new bytes r → Advances old new bytes r
+advance_then old mid new bytes (Ok n) at settled h = (h.0, h.1, h.2 ∙ ap (λ k. k + n) at, λ text more s. h.3 text more (settled text more s))
+advance_then old mid new bytes (Err e) at settled h = λ text more s. h text more (settled text more s)
 
 -- the first byte of a piece ends what is unfinished
 pub ends_at : (u : Unfinished) (bytes more : List ℕ) → 0 < length bytes → ends u (get_or bytes 0 0) ≡ true → EndsAt u (bytes ++ more)

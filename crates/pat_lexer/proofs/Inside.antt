@@ -18,11 +18,11 @@ use Rattle.pat_lexical_laws.proofs.NameBeginnings.{NoMoreName, name_more_ascii}
 use Rattle.pat_lexical_laws.proofs.Faults.{no_string, no_end_escape, no_comment, wide_begins, NoEnd}
 use Rattle.pat_lexer.specs.declared.unfinished.Unfinished.{Unfinished}
 use Rattle.pat_lexer.specs.declared.unfinished.Unfinished.TheVariants.{Nothing, Name, Integer, Str, Escape, Equals, Minus, Slash, Comment}
-use Rattle.pat_lexer.specs.Bytes.{is_name_byte, is_plain_ascii}
+use Rattle.pat_lexer_fronts.specs.Bytes.{is_name_byte, is_plain_ascii}
 use Rattle.pat_lexer.specs.Progress.{Progress, HasKind, Stands}
 use Rattle.pat_lexer.specs.Changes.{with_token, with_held}
 use Rattle.pat_lexer.proofs.Standing.{Opened, opened_of, stands_of, stands_free, with_token_stands}
-use Rattle.pat_lexer.specs.Spelled.{IsNameToken}
+use Rattle.pat_lexer_fronts.specs.Spelled.{IsNameToken}
 use Rattle.pat_lexer.proofs.Between.{refused_at, name_token_begins}
 
 -- what is known of the unfinished piece, by its kind

@@ -3,8 +3,7 @@ mod Between
 mod Inside
 mod Slices
 mod Characters
-mod WordOr
 mod Endings
-mod Cuts
 mod Histories
+mod Unsure
 mod Holding

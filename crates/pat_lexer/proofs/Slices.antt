@@ -7,12 +7,12 @@ use Rattle.std.specs.Str.{IsUtf8}
 use Rattle.pat_lexical.specs.Characters.{Each, FrontFails, IsNameText}
 use Rattle.pat_lexical_laws.proofs.Runs.{both}
 use Rattle.pat_lexical_laws.proofs.NameBeginnings.{NoMoreName, ascii_name}
-use Rattle.pat_lexer.specs.Bytes.{is_name_byte, is_name_start, IsRunOf}
+use Rattle.pat_lexer_fronts.specs.Bytes.{is_name_byte, is_name_start, IsRunOf}
 use Rattle.pat_lexer.proofs.Between.{no_more_ascii}
 use Rattle.pat_lexer.specs.declared.error.LexError.{LexError}
 use Rattle.pat_lexer.specs.declared.error.LexError.TheVariants.{NoMemory}
 use Rattle.pat_lexer.specs.Progress.{Progress, Stands}
-use Rattle.pat_lexer.specs.Reads.{IsAnswer}
+use Rattle.pat_lexer.specs.Explains.{Explains}
 
 pub front_split : (bytes : List ℕ) → 0 < length bytes → bytes ≡ get_or bytes 0 0 ∷ drop 1 bytes
 front_split bytes some = drop_more bytes 0 0 some
@@ -36,8 +36,8 @@ at_run p q bytes n step text more s = step text more (subst (Stands p text) (spl
 pub by_run : (p : Progress) (P : List ℕ → Type 0) (bytes : List ℕ) (n : ℕ) → ((text more : List ℕ) → Stands p text (take n bytes ++ (drop n bytes ++ more)) → P text) → (text more : List ℕ) → Stands p text (bytes ++ more) → P text
 by_run p P bytes n shown text more s = shown text more (subst (Stands p text) (split_at bytes more n) s)
 
-pub no_memory : (e : LexError) (text : List ℕ) → e ≡ NoMemory → IsAnswer text e
-no_memory e text same = subst (IsAnswer text) (sym same) tt
+pub no_memory : (e : LexError) (text : List ℕ) → e ≡ NoMemory → Explains text e
+no_memory e text same = subst (Explains text) (sym same) tt
 
 pub take_one : (bytes : List ℕ) → 0 < length bytes → take 1 bytes ≡ get_or bytes 0 0 ∷ []
 take_one [] some = absurd (omega arith)

@@ -5,7 +5,7 @@ use Rattle.pat_lexical.specs.Divisions.{Reaches}
 use Rattle.pat_lexer.specs.declared.error.LexError.{LexError}
 use Rattle.pat_lexer.specs.declared.unfinished.Unfinished.TheVariants.{Comment}
 use Rattle.pat_lexer.specs.Progress.{Progress, Stands}
-use Rattle.pat_lexer.specs.Reads.{IsAnswer}
+use Rattle.pat_lexer.specs.Explains.{Explains}
 
 -- what a lexer shows: what it has read, and the refusal that it has answered
 pub record Lexed : Type 0 where
@@ -17,7 +17,7 @@ pub record Lexed : Type 0 where
 pub record HasRead (bytes : List ℕ) (l : Lexed) : Type 0 where
   pub counted : l.refusal ≡ None → l.progress.position ≡ length bytes
   pub stands : l.refusal ≡ None → (more : List ℕ) → Stands l.progress (bytes ++ more) more
-  pub refused : (e : LexError) → l.refusal ≡ Some e → (more : List ℕ) → IsAnswer (bytes ++ more) e
+  pub refused : (e : LexError) → l.refusal ≡ Some e → (more : List ℕ) → Explains (bytes ++ more) e
 
 -- What is held of the bytes read ends them. Outside a comment the whole tokens lead to it, whatever bytes follow;
 -- within one it is an unfinished character, or nothing.

@@ -1,8 +1,6 @@
-pub mod Bytes
-pub mod Spelled
+pub mod Explains
 pub mod Ends
 pub mod Progress
 pub mod Changes
-pub mod Fronts
 pub mod Reads
 pub mod Lexed

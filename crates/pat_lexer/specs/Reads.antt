@@ -1,16 +1,17 @@
 -- What reading does to what a reader has.
-use Rattle.std.specs.Prelude.{◌≡◌, ◌≤◌, ◌+◌, ℕ, List, [], ◌∷◌, ◌++◌, length, drop, map}
+use Rattle.std.specs.Prelude.{◌≡◌, ◌<◌, ◌≤◌, ◌+◌, ℕ, List, [], ◌∷◌, ◌++◌, length, drop, map, Result, Ok, Err}
 use Rattle.pat_syntax.specs.Views.{token_view}
-use Rattle.pat_lexical.specs.Divisions.{Reaches, IsRefused, BadToken as BadTokenAt, NumberTooWide as NumberTooWideAt}
+use Rattle.pat_lexical.specs.Divisions.{Reaches}
 use Rattle.pat_lexer.specs.declared.error.LexError.{LexError}
-use Rattle.pat_lexer.specs.declared.error.LexError.TheVariants.{BadToken, NumberTooWide, NoMemory}
+use Rattle.pat_lexer.specs.declared.error.LexError.TheVariants.{BadToken}
 use Rattle.pat_lexer.specs.declared.unfinished.Unfinished.{Unfinished}
 use Rattle.pat_lexer.specs.declared.unfinished.Unfinished.TheVariants.{Nothing, Name, Str, Equals, Minus, Slash, Comment}
-use Rattle.pat_lexer.specs.declared.character.Front.{Front}
+use Rattle.pat_lexer_fronts.specs.declared.character.Front.{Front}
 use Rattle.pat_lexer.specs.declared.reader.Reader.{Reader}
+use Rattle.pat_lexer.specs.Explains.{Explains}
 use Rattle.pat_lexer.specs.Ends.{EndsAt}
 use Rattle.pat_lexer.specs.Progress.{Progress, HasKind, Stands}
-use Rattle.pat_lexer.specs.Fronts.{IsCut, FrontIs}
+use Rattle.pat_lexer_fronts.specs.Fronts.{IsCut, FrontIs}
 
 -- what the reader has
 abbrev pub progress : Reader → Progress
@@ -26,11 +27,9 @@ progress r = record {
   text = r.text.items;
 }
 
--- the text is refused so, or memory ran out
+-- what an error says of a text, by a name that goes once nothing above names it
 abbrev pub IsAnswer : List ℕ → LexError → Type 0
-IsAnswer text (BadToken o) = IsRefused text (BadTokenAt o)
-IsAnswer text (NumberTooWide o) = IsRefused text (NumberTooWideAt o)
-IsAnswer text NoMemory = Unit {0}
+IsAnswer text e = Explains text e
 
 -- where a character that doesn't fit is refused: a name is whole before it
 abbrev pub refusal_in : Unfinished → ℕ → ℕ → LexError
@@ -47,7 +46,12 @@ Reads old new bytes n = (text more : List ℕ) → Stands (progress old) text (b
 
 -- where a reader stands before these bytes, the text is refused so, whatever follows
 abbrev pub Refuses : Reader → List ℕ → LexError → Type 0
-Refuses old bytes e = (text more : List ℕ) → Stands (progress old) text (bytes ++ more) → IsAnswer text e
+Refuses old bytes e = (text more : List ℕ) → Stands (progress old) text (bytes ++ more) → Explains text e
+
+-- a reader has read some bytes at the front of these, or where it stands the text is refused
+abbrev pub Advances : Reader → Reader → List ℕ → Result ℕ LexError → Type 0
+Advances old new bytes (Ok n) = (0 < n) × (n ≤ length bytes) × (new.position ≡ old.position + n) × Reads old new bytes n
+Advances old new bytes (Err e) = Refuses old bytes e
 
 -- a reader that stood where its unfinished piece ends has ended it
 abbrev pub Closes : Reader → Reader → Type 0
@@ -55,7 +59,7 @@ Closes old new = (text rest : List ℕ) → EndsAt old.unfinished rest → Stand
 
 -- where a reader stands at the end of its unfinished piece, the text is refused so
 abbrev pub ClosesNot : Reader → LexError → Type 0
-ClosesNot old e = (text rest : List ℕ) → EndsAt old.unfinished rest → Stands (progress old) text rest → IsAnswer text e
+ClosesNot old e = (text rest : List ℕ) → EndsAt old.unfinished rest → Stands (progress old) text rest → Explains text e
 
 -- a character may stand in the piece
 abbrev pub TakesCharacters : Unfinished → Type 0
@@ -84,7 +88,7 @@ abbrev pub Takes : Reader → Reader → Front → Type 0
 Takes old new front = FrontIs front old.character.items → (text more : List ℕ) → Judges (progress old) text more → Stands (progress new) text more
 
 abbrev pub TakesNot : Reader → Front → LexError → Type 0
-TakesNot old front e = FrontIs front old.character.items → (text more : List ℕ) → Judges (progress old) text more → IsAnswer text e
+TakesNot old front e = FrontIs front old.character.items → (text more : List ℕ) → Judges (progress old) text more → Explains text e
 
 -- a reader that stood before the byte judges the character that it goes on
 abbrev pub Extends : Reader → Reader → ℕ → Type 0

@@ -1,9 +1,10 @@
 // The lexer: a reader, and the refusal that it has answered.
 ghost use Rattle.std.specs.Prelude.{◌≡◌, ◌+◌, ◌<◌, ◌^◌, ℕ, List, [], ◌++◌, length, map, None, Some, Err, IfOk, IfErr, MatchResult};
 ghost use Rattle.pat_lexical.specs.Divisions.{Divides};
+ghost use Rattle.pat_lexical.specs.Held.{IsHeld};
 ghost use Rattle.pat_syntax.specs.Views.{token_view};
 ghost use Rattle.pat_lexer.specs.Lexed.{HasRead, Holds};
-ghost use Rattle.pat_lexer.specs.Reads.{IsAnswer};
+ghost use Rattle.pat_lexer.specs.Explains.{Explains};
 ghost use Rattle.pat_lexer.specs.declared.error.LexError.{LexError as Refusal};
 
 use super::error::LexError;
@@ -61,7 +62,7 @@ impl Lexer {
     /// The tokens of the text that ends here, or its refusal.
     pub fn finish(self) -> Result<Vec<Token>, LexError>
         ensures divided { (bytes : List ℕ) → HasRead bytes self → IfOk result (λ tokens. Divides bytes (map token_view tokens.items)) }
-        ensures refused { (bytes : List ℕ) → HasRead bytes self → IfErr result (λ e. IsAnswer bytes e) }
+        ensures refused { (bytes : List ℕ) → HasRead bytes self → IfErr result (λ e. Explains bytes e) }
         ensures same { (e : Refusal) → self.refusal ≡ Some e → result ≡ Err e }
     {
         let Lexer { reader, refusal } = self;
@@ -76,6 +77,8 @@ impl Lexer {
     pub fn held(&self) -> &[u8]
         ensures held { result.now ≡ self.now.progress.held }
         ensures known { (bytes : List ℕ) → HasRead bytes self.now → self.now.refusal ≡ None → Holds bytes self.now.progress }
+        // They are the end of the bytes fed that whole pieces lead to, and of which nothing is known to be whole.
+        ensures end { (bytes : List ℕ) → HasRead bytes self.now → self.now.refusal ≡ None → IsHeld bytes self.now.progress.whole result.now }
     {
         self.reader.held.as_slice()
     }

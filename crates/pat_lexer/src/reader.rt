@@ -2,15 +2,14 @@
 ghost use Rattle.std.specs.Prelude.{◌≡◌, ◌≢◌, ◌+◌, ◌<◌, ◌≤◌, ◌^◌, ◌==◌, ◌||◌, ℕ, List, [], ◌∷◌, map, length, slice_index, true, false, IfOk, IfErr};
 ghost use Rattle.pat_lexical.specs.Characters.{is_blank, is_digit, is_in_line};
 ghost use Rattle.pat_syntax.specs.Views.{kind_view, token_view};
-ghost use Rattle.pat_lexer.specs.Bytes.{is_name_start, is_name_byte, is_plain_ascii, is_other, IsRunOf};
+ghost use Rattle.pat_lexer_fronts.specs.Bytes.{is_name_start, is_name_byte, is_plain_ascii, is_other, IsRunOf};
 
-use super::character::{Front, front_of};
 use super::error::LexError;
-use super::runs::{
-    blank_run, comment_run, digit_run, is_escapable, is_name_byte, name_run, number_with, plain_run,
-};
-use super::spelling::{mark_of, name_token};
 use super::unfinished::Unfinished;
+use pat_lexer_fronts::{
+    Front, blank_run, comment_run, digit_run, front_of, is_escapable, is_name_byte, mark_of,
+    name_run, name_token, number_with, plain_run,
+};
 use pat_sequences::Text;
 use pat_syntax::{Mark, Span, Token, TokenKind};
 use std::alloc::Global;
@@ -46,7 +45,8 @@ impl Reader {
     ghost use Rattle.pat_lexer.specs.Changes.{with_token, with_piece, with_held};
     ghost use Rattle.pat_lexer.specs.Progress.{Stands};
     ghost use Rattle.pat_lexical.specs.Divisions.{Divides};
-    ghost use Rattle.pat_lexer.specs.Reads.{refusal_of, IsAnswer, progress, Reads, Refuses, Closes, ClosesNot, StandsAtStart, MayGoOn, Takes, TakesNot, Extends, OpensWith};
+    ghost use Rattle.pat_lexer.specs.Explains.{Explains};
+    ghost use Rattle.pat_lexer.specs.Reads.{refusal_of, progress, Reads, Refuses, Advances, Closes, ClosesNot, StandsAtStart, MayGoOn, Takes, TakesNot, Extends, OpensWith};
 
     pub fn new(alloc: Global) -> Reader
         ensures position { result.position ≡ 0 }
@@ -84,10 +84,7 @@ impl Reader {
     fn advance(&mut self, text: &[u8]) -> Result<usize, LexError>
         requires some { 0 < length text.now }
         requires room { self.old.position + length text.now < 2 ^ 32 }
-        ensures some { IfOk result (λ n. (0 < n) × (n ≤ length text.now)) }
-        ensures position { IfOk result (λ n. self.new.position ≡ self.old.position + n) }
-        ensures read { IfOk result (λ n. Reads self.old self.new text.now n) }
-        ensures refused { IfErr result (λ e. Refuses self.old text.now e) }
+        ensures { Advances self.old self.new text.now result }
     {
         if !self.character.is_empty() {
             return self.read_character(text);
@@ -219,10 +216,7 @@ impl Reader {
         requires some { 0 < length text.now }
         requires room { self.old.position + length text.now < 2 ^ 32 }
         requires characters { self.old.character.items ≡ [] }
-        ensures some { IfOk result (λ n. (0 < n) × (n ≤ length text.now)) }
-        ensures position { IfOk result (λ n. self.new.position ≡ self.old.position + n) }
-        ensures read { IfOk result (λ n. Reads self.old self.new text.now n) }
-        ensures refused { IfErr result (λ e. Refuses self.old text.now e) }
+        ensures { Advances self.old self.new text.now result }
     {
         match self.unfinished {
             Unfinished::Nothing => self.read_between(text),
@@ -244,10 +238,7 @@ impl Reader {
         requires room { self.old.position + length text.now < 2 ^ 32 }
         requires kind { self.old.unfinished ≡ Unfinished.Nothing }
         requires characters { self.old.character.items ≡ [] }
-        ensures some { IfOk result (λ n. (0 < n) × (n ≤ length text.now)) }
-        ensures position { IfOk result (λ n. self.new.position ≡ self.old.position + n) }
-        ensures read { IfOk result (λ n. Reads self.old self.new text.now n) }
-        ensures refused { IfErr result (λ e. Refuses self.old text.now e) }
+        ensures { Advances self.old self.new text.now result }
     {
         match text[0] {
             b'a'..=b'z' | b'A'..=b'Z' | b'_' => self.read_first_name(text),
@@ -269,10 +260,7 @@ impl Reader {
         requires room { self.old.position + length text.now < 2 ^ 32 }
         requires kind { self.old.unfinished ≡ Unfinished.Nothing }
         requires characters { self.old.character.items ≡ [] }
-        ensures some { IfOk result (λ n. (0 < n) × (n ≤ length text.now)) }
-        ensures position { IfOk result (λ n. self.new.position ≡ self.old.position + n) }
-        ensures read { IfOk result (λ n. Reads self.old self.new text.now n) }
-        ensures refused { IfErr result (λ e. Refuses self.old text.now e) }
+        ensures { Advances self.old self.new text.now result }
     {
         let n = blank_run(text);
         self.position += n as u32;
@@ -288,10 +276,7 @@ impl Reader {
         requires room { self.old.position + length text.now < 2 ^ 32 }
         requires kind { self.old.unfinished ≡ Unfinished.Nothing }
         requires characters { self.old.character.items ≡ [] }
-        ensures some { IfOk result (λ n. (0 < n) × (n ≤ length text.now)) }
-        ensures position { IfOk result (λ n. self.new.position ≡ self.old.position + n) }
-        ensures read { IfOk result (λ n. Reads self.old self.new text.now n) }
-        ensures refused { IfErr result (λ e. Refuses self.old text.now e) }
+        ensures { Advances self.old self.new text.now result }
     {
         let n = name_run(text);
         let is_whole = n < text.len() && text[n] < 128;
@@ -311,10 +296,7 @@ impl Reader {
         requires room { self.old.position + length text.now < 2 ^ 32 }
         requires kind { self.old.unfinished ≡ Unfinished.Nothing }
         requires characters { self.old.character.items ≡ [] }
-        ensures some { IfOk result (λ n. (0 < n) × (n ≤ length text.now)) }
-        ensures position { IfOk result (λ n. self.new.position ≡ self.old.position + n) }
-        ensures read { IfOk result (λ n. Reads self.old self.new text.now n) }
-        ensures refused { IfErr result (λ e. Refuses self.old text.now e) }
+        ensures { Advances self.old self.new text.now result }
     {
         match mark_of(text[0]) {
             Some(mark) => {
@@ -333,10 +315,7 @@ impl Reader {
         requires room { self.old.position + length text.now < 2 ^ 32 }
         requires kind { self.old.unfinished ≡ Unfinished.Nothing }
         requires characters { self.old.character.items ≡ [] }
-        ensures some { IfOk result (λ n. (0 < n) × (n ≤ length text.now)) }
-        ensures position { IfOk result (λ n. self.new.position ≡ self.old.position + n) }
-        ensures read { IfOk result (λ n. Reads self.old self.new text.now n) }
-        ensures refused { IfErr result (λ e. Refuses self.old text.now e) }
+        ensures { Advances self.old self.new text.now result }
     {
         self.number = u64::from(text[0] - b'0');
         self.open(Unfinished::Integer, &text[..1])?;
@@ -350,10 +329,7 @@ impl Reader {
         requires room { self.old.position + length text.now < 2 ^ 32 }
         requires kind { self.old.unfinished ≡ Unfinished.Nothing }
         requires characters { self.old.character.items ≡ [] }
-        ensures some { IfOk result (λ n. (0 < n) × (n ≤ length text.now)) }
-        ensures position { IfOk result (λ n. self.new.position ≡ self.old.position + n) }
-        ensures read { IfOk result (λ n. Reads self.old self.new text.now n) }
-        ensures refused { IfErr result (λ e. Refuses self.old text.now e) }
+        ensures { Advances self.old self.new text.now result }
     {
         self.open(unfinished, &text[..1])?;
         Ok(1)
@@ -385,10 +361,7 @@ impl Reader {
         requires room { self.old.position + length text.now < 2 ^ 32 }
         requires kind { self.old.unfinished ≡ Unfinished.Name }
         requires characters { self.old.character.items ≡ [] }
-        ensures some { IfOk result (λ n. (0 < n) × (n ≤ length text.now)) }
-        ensures position { IfOk result (λ n. self.new.position ≡ self.old.position + n) }
-        ensures read { IfOk result (λ n. Reads self.old self.new text.now n) }
-        ensures refused { IfErr result (λ e. Refuses self.old text.now e) }
+        ensures { Advances self.old self.new text.now result }
     {
         let n = name_run(text);
         if n == 0 {
@@ -404,10 +377,7 @@ impl Reader {
         requires room { self.old.position + length text.now < 2 ^ 32 }
         requires kind { self.old.unfinished ≡ Unfinished.Integer }
         requires characters { self.old.character.items ≡ [] }
-        ensures some { IfOk result (λ n. (0 < n) × (n ≤ length text.now)) }
-        ensures position { IfOk result (λ n. self.new.position ≡ self.old.position + n) }
-        ensures read { IfOk result (λ n. Reads self.old self.new text.now n) }
-        ensures refused { IfErr result (λ e. Refuses self.old text.now e) }
+        ensures { Advances self.old self.new text.now result }
     {
         let n = digit_run(text);
         let digits = &text[..n];
@@ -426,10 +396,7 @@ impl Reader {
         requires room { self.old.position + length text.now < 2 ^ 32 }
         requires kind { self.old.unfinished ≡ Unfinished.Str }
         requires characters { self.old.character.items ≡ [] }
-        ensures some { IfOk result (λ n. (0 < n) × (n ≤ length text.now)) }
-        ensures position { IfOk result (λ n. self.new.position ≡ self.old.position + n) }
-        ensures read { IfOk result (λ n. Reads self.old self.new text.now n) }
-        ensures refused { IfErr result (λ e. Refuses self.old text.now e) }
+        ensures { Advances self.old self.new text.now result }
     {
         match text[0] {
             b'"' => self.close_string(text),
@@ -447,10 +414,7 @@ impl Reader {
         requires room { self.old.position + length text.now < 2 ^ 32 }
         requires kind { self.old.unfinished ≡ Unfinished.Str }
         requires characters { self.old.character.items ≡ [] }
-        ensures some { IfOk result (λ n. (0 < n) × (n ≤ length text.now)) }
-        ensures position { IfOk result (λ n. self.new.position ≡ self.old.position + n) }
-        ensures read { IfOk result (λ n. Reads self.old self.new text.now n) }
-        ensures refused { IfErr result (λ e. Refuses self.old text.now e) }
+        ensures { Advances self.old self.new text.now result }
     {
         let n = plain_run(text);
         let plain = &text[..n];
@@ -465,10 +429,7 @@ impl Reader {
         requires room { self.old.position + length text.now < 2 ^ 32 }
         requires kind { self.old.unfinished ≡ Unfinished.Str }
         requires characters { self.old.character.items ≡ [] }
-        ensures some { IfOk result (λ n. (0 < n) × (n ≤ length text.now)) }
-        ensures position { IfOk result (λ n. self.new.position ≡ self.old.position + n) }
-        ensures read { IfOk result (λ n. Reads self.old self.new text.now n) }
-        ensures refused { IfErr result (λ e. Refuses self.old text.now e) }
+        ensures { Advances self.old self.new text.now result }
     {
         let content = mem::replace(&mut self.text, Vec::new(self.alloc));
         self.position += 1;
@@ -482,10 +443,7 @@ impl Reader {
         requires room { self.old.position + length text.now < 2 ^ 32 }
         requires kind { self.old.unfinished ≡ Unfinished.Str }
         requires characters { self.old.character.items ≡ [] }
-        ensures some { IfOk result (λ n. (0 < n) × (n ≤ length text.now)) }
-        ensures position { IfOk result (λ n. self.new.position ≡ self.old.position + n) }
-        ensures read { IfOk result (λ n. Reads self.old self.new text.now n) }
-        ensures refused { IfErr result (λ e. Refuses self.old text.now e) }
+        ensures { Advances self.old self.new text.now result }
     {
         self.hold(&text[..1])?;
         self.unfinished = Unfinished::Escape;
@@ -497,10 +455,7 @@ impl Reader {
         requires room { self.old.position + length text.now < 2 ^ 32 }
         requires kind { self.old.unfinished ≡ Unfinished.Escape }
         requires characters { self.old.character.items ≡ [] }
-        ensures some { IfOk result (λ n. (0 < n) × (n ≤ length text.now)) }
-        ensures position { IfOk result (λ n. self.new.position ≡ self.old.position + n) }
-        ensures read { IfOk result (λ n. Reads self.old self.new text.now n) }
-        ensures refused { IfErr result (λ e. Refuses self.old text.now e) }
+        ensures { Advances self.old self.new text.now result }
     {
         if is_escapable(text[0]) {
             self.close_escape(text)
@@ -515,10 +470,7 @@ impl Reader {
         requires room { self.old.position + length text.now < 2 ^ 32 }
         requires kind { self.old.unfinished ≡ Unfinished.Escape }
         requires characters { self.old.character.items ≡ [] }
-        ensures some { IfOk result (λ n. (0 < n) × (n ≤ length text.now)) }
-        ensures position { IfOk result (λ n. self.new.position ≡ self.old.position + n) }
-        ensures read { IfOk result (λ n. Reads self.old self.new text.now n) }
-        ensures refused { IfErr result (λ e. Refuses self.old text.now e) }
+        ensures { Advances self.old self.new text.now result }
     {
         self.text.push(text[0])?;
         self.hold(&text[..1])?;
@@ -532,10 +484,7 @@ impl Reader {
         requires room { self.old.position + length text.now < 2 ^ 32 }
         requires kind { self.old.unfinished ≡ Unfinished.Equals }
         requires characters { self.old.character.items ≡ [] }
-        ensures some { IfOk result (λ n. (0 < n) × (n ≤ length text.now)) }
-        ensures position { IfOk result (λ n. self.new.position ≡ self.old.position + n) }
-        ensures read { IfOk result (λ n. Reads self.old self.new text.now n) }
-        ensures refused { IfErr result (λ e. Refuses self.old text.now e) }
+        ensures { Advances self.old self.new text.now result }
     {
         self.position += 1;
         self.push(TokenKind::Mark(Mark::DoubleEquals))?;
@@ -548,10 +497,7 @@ impl Reader {
         requires room { self.old.position + length text.now < 2 ^ 32 }
         requires kind { self.old.unfinished ≡ Unfinished.Minus }
         requires characters { self.old.character.items ≡ [] }
-        ensures some { IfOk result (λ n. (0 < n) × (n ≤ length text.now)) }
-        ensures position { IfOk result (λ n. self.new.position ≡ self.old.position + n) }
-        ensures read { IfOk result (λ n. Reads self.old self.new text.now n) }
-        ensures refused { IfErr result (λ e. Refuses self.old text.now e) }
+        ensures { Advances self.old self.new text.now result }
     {
         self.position += 1;
         self.push(TokenKind::Mark(Mark::Arrow))?;
@@ -563,10 +509,7 @@ impl Reader {
         requires room { self.old.position + length text.now < 2 ^ 32 }
         requires kind { self.old.unfinished ≡ Unfinished.Slash }
         requires characters { self.old.character.items ≡ [] }
-        ensures some { IfOk result (λ n. (0 < n) × (n ≤ length text.now)) }
-        ensures position { IfOk result (λ n. self.new.position ≡ self.old.position + n) }
-        ensures read { IfOk result (λ n. Reads self.old self.new text.now n) }
-        ensures refused { IfErr result (λ e. Refuses self.old text.now e) }
+        ensures { Advances self.old self.new text.now result }
     {
         if text[0] != b'/' {
             return Err(LexError::BadToken(self.start));
@@ -583,10 +526,7 @@ impl Reader {
         requires room { self.old.position + length text.now < 2 ^ 32 }
         requires kind { self.old.unfinished ≡ Unfinished.Comment }
         requires characters { self.old.character.items ≡ [] }
-        ensures some { IfOk result (λ n. (0 < n) × (n ≤ length text.now)) }
-        ensures position { IfOk result (λ n. self.new.position ≡ self.old.position + n) }
-        ensures read { IfOk result (λ n. Reads self.old self.new text.now n) }
-        ensures refused { IfErr result (λ e. Refuses self.old text.now e) }
+        ensures { Advances self.old self.new text.now result }
     {
         let n = comment_run(text);
         if n == 0 {
@@ -601,10 +541,7 @@ impl Reader {
         requires may { MayGoOn self.old (slice_index text.now 0) }
         requires some { 0 < length text.now }
         requires room { self.old.position + length text.now < 2 ^ 32 }
-        ensures some { IfOk result (λ n. (0 < n) × (n ≤ length text.now)) }
-        ensures position { IfOk result (λ n. self.new.position ≡ self.old.position + n) }
-        ensures read { IfOk result (λ n. Reads self.old self.new text.now n) }
-        ensures refused { IfErr result (λ e. Refuses self.old text.now e) }
+        ensures { Advances self.old self.new text.now result }
     {
         self.extend_character(text[0])?;
         let front = front_of(self.character.as_slice());
@@ -730,7 +667,7 @@ impl Reader {
     /// The tokens of the text that ends here.
     pub fn finish(self) -> Result<Vec<Token>, LexError>
         ensures divided { IfOk result (λ tokens. (text : List ℕ) → Stands (progress self) text [] → Divides text (map token_view tokens.items)) }
-        ensures refused { IfErr result (λ e. (text : List ℕ) → Stands (progress self) text [] → IsAnswer text e) }
+        ensures refused { IfErr result (λ e. (text : List ℕ) → Stands (progress self) text [] → Explains text e) }
     {
         let mut reader = self;
         if !reader.character.is_empty() {

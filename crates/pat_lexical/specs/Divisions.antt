@@ -29,7 +29,7 @@ IsRefused text (BadToken o) = (rest : List ℕ) × IsReached text o rest × (res
 IsRefused text (NumberTooWide o) = (rest own after : List ℕ) × IsReached text o rest × (own ++ after ≡ rest) × Fits TooWide own after
 
 -- a text divides in at most one way, is refused in at most one way, and isn't both divided and refused
-pub record OneAnswer (text : List ℕ) : Type 0 where
+pub record OneDivision (text : List ℕ) : Type 0 where
   pub one_division : (tokens others : List Spanned) → Divides text tokens → Divides text others → tokens ≡ others
   pub one_refusal : (refusal other : Refusal) → IsRefused text refusal → IsRefused text other → refusal ≡ other
   pub not_both : (tokens : List Spanned) (refusal : Refusal) → Divides text tokens → IsRefused text refusal → ⊥

@@ -5,3 +5,4 @@ pub mod Characters
 pub mod Lexemes
 pub mod Spelled
 pub mod Divisions
+pub mod Held

@@ -118,7 +118,7 @@ mark_front Equals = record { front = _; tail = _; is = refl; kind = refl }
 mark_front DoubleEquals = record { front = _; tail = _; is = refl; kind = refl }
 mark_front Arrow = record { front = _; tail = _; is = refl; kind = refl }
 
-digits_front : (own : List ℕ) → own ≢ [] → Each is_digit own → Fronts own Digits
+pub digits_front : (own : List ℕ) → own ≢ [] → Each is_digit own → Fronts own Digits
 digits_front [] some each = absurd (some refl)
 digits_front (b ∷ bs) some each = record { front = b; tail = bs; is = refl; kind = class_digit b each.0 }
 
@@ -140,7 +140,7 @@ start_front c rest (b ∷ bs) s e = record { front = b; tail = bs; is = refl; ki
     known true h = high_front b (grind (arith, nat_tests))
     known false h = let low : b < 128 = grind (arith, nat_tests) in let same : c ≡ b = char_from_byte (b ∷ bs) rest c e low (omega arith) in ascii_start b low (subst (λ x. starts_name x ≡ true) same s)
 
-name_front : (own : List ℕ) → IsNameText own → Fronts own Names
+pub name_front : (own : List ℕ) → IsNameText own → Fronts own Names
 name_front own n = start_front n.first (encode_utf8_all n.others) own n.starts n.spelled
 
 token_front : (t : Token) (own rest : List ℕ) → Fits (Whole t) own rest → Fronts own (class_of (Whole t))

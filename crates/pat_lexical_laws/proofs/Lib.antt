@@ -1,11 +1,13 @@
+mod Spellings
+mod ByClass
+
+-- for the crates above
 pub mod Runs
 pub mod Numbers
-pub mod Spellings
 pub mod Classes
 pub mod Unique
 pub mod Reaching
 pub mod Texts
-pub mod ByClass
 pub mod Strings
 pub mod Beginnings
 pub mod MarkBeginnings

@@ -5,7 +5,7 @@ ghost use Rattle.std.specs.Prelude.{◌≡◌, ◌<◌, ◌^◌, ℕ, List, leng
 ghost use Rattle.pat_lexical.specs.Divisions.{Divides};
 ghost use Rattle.pat_syntax.specs.Views.{token_view};
 ghost use Rattle.pat_lexer.specs.Lexed.{HasRead};
-ghost use Rattle.pat_lexer.specs.Reads.{IsAnswer};
+ghost use Rattle.pat_lexer.specs.Explains.{Explains};
 
 #[cfg(test)]
 mod tests;
@@ -19,7 +19,7 @@ pub fn lexer_behind(alloc: Global, text: &[u8], size: usize) -> Result<Lexer, Le
     requires small { length text.now < 2 ^ 32 }
     requires some { 0 < size }
     ensures read { IfOk result (λ lexer. HasRead text.now lexer) }
-    ensures refused { IfErr result (λ e. IsAnswer text.now e) }
+    ensures refused { IfErr result (λ e. Explains text.now e) }
 {
     let mut lexer = Lexer::new(alloc);
     let mut at = 0;
@@ -36,7 +36,7 @@ pub fn tokens_of(alloc: Global, text: &[u8], size: usize) -> Result<Vec<Token>, 
     requires small { length text.now < 2 ^ 32 }
     requires some { 0 < size }
     ensures divided { IfOk result (λ tokens. Divides text.now (map token_view tokens.items)) }
-    ensures refused { IfErr result (λ e. IsAnswer text.now e) }
+    ensures refused { IfErr result (λ e. Explains text.now e) }
 {
     let lexer = lexer_behind(alloc, text, size)?;
     lexer.finish()

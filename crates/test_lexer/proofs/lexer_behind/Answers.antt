@@ -3,7 +3,7 @@ use Rattle.std.proofs.lemmas.List.{take-append-drop}
 use Rattle.std.proofs.lemmas.Result.{err_from_is_err_and}
 use lib.Seq.{take-add}
 use Rattle.pat_lexer.specs.Lexed.{HasRead}
-use Rattle.pat_lexer.specs.Reads.{IsAnswer}
+use Rattle.pat_lexer.specs.Explains.{Explains}
 use Rattle.test_lexer.proofs.lexer_behind.Goals as goal
 
 -- a piece behind what was read
@@ -22,7 +22,7 @@ returns-in_err-feed-clause-refused c =
     let at = c.loop-at.at in
     let n = c.min.result in
     let h = subst (λ l. HasRead l c.feed.new.self) (read_on text at n) (c.feed.ensures.read (take at text) c.loop-at.invariant.read) in
-    rw (q.1, q.2) (subst (λ l. IsAnswer l c.in_err-feed.field-0.0) (take-append-drop (at + n) text) (h.refused c.in_err-feed.field-0.0 c.in_err-feed.ensures.answer (drop (at + n) text)))
+    rw (q.1, q.2) (subst (λ l. Explains l c.in_err-feed.field-0.0) (take-append-drop (at + n) text) (h.refused c.in_err-feed.field-0.0 c.in_err-feed.ensures.answer (drop (at + n) text)))
 
 pub loop-at-preserved : goal.loop-at-preserved
 loop-at-preserved c =

@@ -6,7 +6,8 @@ use Rattle.unicode_ident.specs.Ident.{is_xid_start}
 use Rattle.pat_lexical.specs.Characters.{starts_name}
 use Rattle.pat_lexer.specs.declared.unfinished.Unfinished.TheVariants.{Name}
 use Rattle.pat_lexer.specs.Progress.{Progress}
-use Rattle.pat_lexer.specs.Reads.{progress, IsAnswer, refusal_in}
+use Rattle.pat_lexer.specs.Explains.{Explains}
+use Rattle.pat_lexer.specs.Reads.{progress, refusal_in}
 use Rattle.pat_lexer.proofs.Slices.{moved}
 use Rattle.pat_lexer.proofs.Characters.{judged_refused, no_start_char, name_begun, NotTaken, cut_high}
 use Rattle.pat_lexer.proofs.reader.Reader.accept_first.Goals as goal
@@ -34,7 +35,7 @@ returns-then-not-is_xid_start-clause-refused c = λ f text more j.
     let p = progress c.args.self.now in
     let fails : starts_name c.args.character ≡ false = neither (is_xid_start c.args.character) (c.args.character == 95) (sym c.is_xid_start.ensures.value ∙ c.if-not-is_xid_start.true) (no_underscore c.args.character (cut_high c.args.character p.character j.cut f.1)) in
     let taken : NotTaken p.unfinished (p.character ++ more) = subst (λ u. NotTaken u (p.character ++ more)) (sym c.requires.kind) (no_start_char p more c.args.character f.1 fails) in
-    subst (λ u. IsAnswer text (refusal_in u p.start p.character_start)) c.requires.kind (judged_refused p text more j taken)
+    subst (λ u. Explains text (refusal_in u p.start p.character_start)) c.requires.kind (judged_refused p text more j taken)
 
 pub returns-clause-taken : goal.returns-clause-taken
 returns-clause-taken c = λ f text more j.

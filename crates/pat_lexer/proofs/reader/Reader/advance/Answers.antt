@@ -1,6 +1,5 @@
-use Rattle.pat_lexer.proofs.Endings.{err_then}
+use Rattle.pat_lexer.proofs.Endings.{advance_then}
 use Rattle.pat_lexer.proofs.reader.Reader.advance.Goals as goal
 
-pub returns-clause-refused : goal.returns-clause-refused
-returns-clause-refused c =
-    err_then c.read_on.result _ _ c.read_on.ensures.refused (λ e h text more s. h text more (c.in_ok-settle.ensures.read text more s))
+pub returns : goal.returns
+returns c = advance_then c.args.self.now c.settle.new.self c.read_on.new.self c.args.text.now c.read_on.result c.in_ok-settle.ensures.position c.in_ok-settle.ensures.read c.read_on.ensures

@@ -1,4 +1,4 @@
-use Rattle.std.proofs.Common.{◌≡◌, ◌∷◌, [], ◌++◌, ℕ, get_or, ap, sym, ◌∙◌, append-nil}
+use Rattle.std.proofs.Common.{rules, ◌≡◌, ◌∷◌, [], ◌++◌, ℕ, get_or, ap, sym, ◌∙◌, append-nil}
 use Rattle.std.proofs.lemmas.Str.{IsUtf8-nil}
 use Rattle.pat_lexical.specs.Characters.{nothing}
 use Rattle.pat_lexer.specs.declared.unfinished.Unfinished.{Unfinished}
@@ -22,10 +22,10 @@ opens p Integer b is none held empty = absurd is
 opens p Escape b is none held empty = absurd is
 opens p Comment b is none held empty = absurd is
 
-pub returns-clause-read : goal.returns-clause-read
-returns-clause-read c =
+pub returns : goal.returns
+returns c =
     let p = progress c.args.self.now in
     let u = c.args.unfinished in
     let bytes = c.args.text.now in
     let b = get_or bytes 0 0 in
-    at_first p (progress c.open.new.self) bytes c.requires.some (λ text more s. moved _ (progress c.open.new.self) text more (c.in_ok-open.ensures.opened ∙ ap (with_piece p u) (take_one bytes c.requires.some)) (piece_stands p text (b ∷ []) more u c.requires.kind c.requires.characters (λ held empty. opens p u b c.requires.opens c.requires.characters held empty) s))
+    (search rules, search rules, search rules, at_first p (progress c.open.new.self) bytes c.requires.some (λ text more s. moved _ (progress c.open.new.self) text more (c.in_ok-open.ensures.opened ∙ ap (with_piece p u) (take_one bytes c.requires.some)) (piece_stands p text (b ∷ []) more u c.requires.kind c.requires.characters (λ held empty. opens p u b c.requires.opens c.requires.characters held empty) s)))

@@ -1,4 +1,4 @@
-use Rattle.std.proofs.Common.{◌≡◌, ◌-◌, ◌≤◌, ◌∷◌, [], ◌++◌, ℕ, true, get_or, ap, ◌∙◌, arith}
+use Rattle.std.proofs.Common.{rules, ◌≡◌, ◌-◌, ◌≤◌, ◌∷◌, [], ◌++◌, ℕ, true, get_or, ap, ◌∙◌, arith}
 use Rattle.std.proofs.lemmas.Bool.Decides.{nat_tests}
 use Rattle.pat_lexical.specs.Characters.{is_digit}
 use Rattle.pat_lexical.specs.Lexemes.{greatest}
@@ -18,11 +18,11 @@ opens : (p : Progress) (b : ℕ) → is_digit b ≡ true → p.number ≡ b - 48
 opens p b digit is none held empty =
     ((λ e. let no : ⊥ = cc in no), (digit, tt), omega (arith, is), (let low = small b digit in omega (arith, is, low)), ap (λ l. l ++ b ∷ []) held, none, empty)
 
-pub returns-clause-read : goal.returns-clause-read
-returns-clause-read c =
+pub returns : goal.returns
+returns c =
     let p = progress c.args.self.now in
     let bytes = c.args.text.now in
     let b = get_or bytes 0 0 in
     let n = c.from-self.result in
     let q = record p { number = n } in
-    at_first p (progress c.open.new.self) bytes c.requires.some (λ text more s. moved _ (progress c.open.new.self) text more (c.in_ok-open.ensures.opened ∙ ap (with_piece q Integer) (take_one bytes c.requires.some)) (piece_stands q text (b ∷ []) more Integer c.requires.kind c.requires.characters (λ held empty. opens q b c.requires.digit c.from-self.ensures c.requires.characters held empty) (renumbered p text (b ∷ more) n c.requires.kind c.requires.characters s)))
+    (search rules, search rules, search rules, at_first p (progress c.open.new.self) bytes c.requires.some (λ text more s. moved _ (progress c.open.new.self) text more (c.in_ok-open.ensures.opened ∙ ap (with_piece q Integer) (take_one bytes c.requires.some)) (piece_stands q text (b ∷ []) more Integer c.requires.kind c.requires.characters (λ held empty. opens q b c.requires.digit c.from-self.ensures c.requires.characters held empty) (renumbered p text (b ∷ more) n c.requires.kind c.requires.characters s))))

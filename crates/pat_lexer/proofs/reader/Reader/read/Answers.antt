@@ -8,4 +8,4 @@ use Rattle.pat_lexer.proofs.reader.Reader.read.Goals as goal
 pub returns-in_err-at-clause-refused : goal.returns-in_err-at-clause-refused
 returns-in_err-at-clause-refused c =
     let q = err_from_is_err_and c.from_residual.result c.from_residual.ensures.1 in
-    rw (q.1, q.2) (λ text more s. c.in_err-at.ensures.refused text more (subst (λ l. Stands (progress c.loop-at.self) text (l ++ more)) (sym (take_rest c.args.piece.now c.loop-at.at)) (c.loop-at.invariant.read text more s)))
+    rw (q.1, q.2) (λ text more s. c.in_err-at.ensures text more (subst (λ l. Stands (progress c.loop-at.self) text (l ++ more)) (sym (take_rest c.args.piece.now c.loop-at.at)) (c.loop-at.invariant.read text more s)))

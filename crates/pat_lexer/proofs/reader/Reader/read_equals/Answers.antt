@@ -1,4 +1,4 @@
-use Rattle.std.proofs.Common.{◌≡◌, ◌==◌, not, false, ◌∷◌, get_or, ℕ, subst, arith}
+use Rattle.std.proofs.Common.{rules, ◌≡◌, ◌==◌, not, false, ◌∷◌, get_or, ℕ, subst, arith}
 use Rattle.std.proofs.lemmas.Bool.Decides.{nat_tests}
 use Rattle.pat_lexer.specs.Progress.{Stands}
 use Rattle.pat_lexer.specs.Reads.{progress}
@@ -9,8 +9,8 @@ use Rattle.pat_lexer.proofs.reader.Reader.read_equals.Goals as goal
 second : (b : ℕ) → not (b == 61) ≡ false → b ≡ 61
 second b h = grind (arith, nat_tests)
 
-pub returns-clause-read : goal.returns-clause-read
-returns-clause-read c =
+pub returns : goal.returns
+returns c =
     let p = progress c.args.self.now in
     let bytes = c.args.text.now in
-    at_first p (progress c.push.new.self) bytes c.requires.some (λ text more s. moved _ (progress c.push.new.self) text more c.in_ok-push.ensures.pushed (equals_pairs p text more c.requires.kind c.requires.characters (subst (λ b. Stands p text (b ∷ more)) (second (get_or bytes 0 0) c.requires.goes_on) s)))
+    (search rules, search rules, search rules, at_first p (progress c.push.new.self) bytes c.requires.some (λ text more s. moved _ (progress c.push.new.self) text more c.in_ok-push.ensures.pushed (equals_pairs p text more c.requires.kind c.requires.characters (subst (λ b. Stands p text (b ∷ more)) (second (get_or bytes 0 0) c.requires.goes_on) s))))

@@ -1,4 +1,4 @@
-use Rattle.std.proofs.Common.{◌≡◌, ◌==◌, ◌+◌, ◌⊎◌, inl, inr, ◌∷◌, ◌++◌, ℕ, true, false, [], length, get_or, ap, sym, subst, ◌∙◌, arith}
+use Rattle.std.proofs.Common.{rules, ◌≡◌, ◌==◌, ◌+◌, ◌⊎◌, inl, inr, ◌∷◌, ◌++◌, ℕ, true, false, [], length, get_or, ap, sym, subst, ◌∙◌, arith}
 use Rattle.std.proofs.lemmas.Bool.Decides.{nat_tests}
 use Rattle.pat_lexical.specs.Marks.{mark_bytes}
 use Rattle.pat_lexical.specs.Tokens.{Mark}
@@ -7,7 +7,7 @@ use Rattle.pat_lexical.specs.Divisions.{IsRefused, BadToken}
 use Rattle.pat_lexical_laws.proofs.Classes.{is_name_front, class_other}
 use Rattle.pat_lexical_laws.proofs.Faults.{no_mark}
 use Rattle.pat_syntax.specs.Views.{mark_view}
-use Rattle.pat_lexer.specs.Bytes.{is_other}
+use Rattle.pat_lexer_fronts.specs.Bytes.{is_other}
 use Rattle.pat_lexer.specs.Progress.{Progress, Stands}
 use Rattle.pat_lexer.specs.Changes.{with_token}
 use Rattle.pat_lexer.specs.Reads.{progress}
@@ -15,15 +15,15 @@ use Rattle.pat_lexer.proofs.Slices.{at_first, by_first, moved}
 use Rattle.pat_lexer.proofs.Between.{mark_stands, free_refused}
 use Rattle.pat_lexer.proofs.reader.Reader.read_mark.Goals as goal
 
-pub returns-in_ok-push-in-Some-clause-read : goal.returns-in_ok-push-in-Some-clause-read
-returns-in_ok-push-in-Some-clause-read c =
+pub returns-in_ok-push-in-Some : goal.returns-in_ok-push-in-Some
+returns-in_ok-push-in-Some c =
     let p = progress c.args.self.now in
     let bytes = c.args.text.now in
     let m = mark_view c.in-Some.mark in
     let b = get_or bytes 0 0 in
     let one : mark_bytes m ≡ b ∷ [] = c.in-Some.ensures.found in
     let longer : ℕ → Progress = λ n. with_token (record p { position = p.position + n }) (Mark m) in
-    at_first p (progress c.push.new.self) bytes c.requires.some (λ text more s. moved _ (progress c.push.new.self) text more (c.in_ok-push-in-Some.ensures.pushed ∙ ap longer (sym (ap length one))) (mark_stands p text more m c.requires.kind c.requires.characters (c.in-Some.ensures.alone more) (subst (λ l. Stands p text (l ++ more)) (sym one) s)))
+    (search rules, search rules, search rules, at_first p (progress c.push.new.self) bytes c.requires.some (λ text more s. moved _ (progress c.push.new.self) text more (c.in_ok-push-in-Some.ensures.pushed ∙ ap longer (sym (ap length one))) (mark_stands p text more m c.requires.kind c.requires.characters (c.in-Some.ensures.alone more) (subst (λ l. Stands p text (l ++ more)) (sym one) s))))
 
 no_name : (b : ℕ) → is_other b ≡ true → is_name_front b ≡ false
 no_name b h = grind (arith, nat_tests)
@@ -44,8 +44,8 @@ no_longer : (b : ℕ) → is_other b ≡ true → (b ≡ 61) ⊎ (b ≡ 45) → 
 no_longer b h (inl e) = grind (arith, nat_tests)
 no_longer b h (inr e) = grind (arith, nat_tests)
 
-pub returns-in-None-clause-refused : goal.returns-in-None-clause-refused
-returns-in-None-clause-refused c =
+pub returns-in-None : goal.returns-in-None
+returns-in-None c =
     let p = progress c.args.self.now in
     let bytes = c.args.text.now in
     let b = get_or bytes 0 0 in

@@ -1,4 +1,4 @@
-use Rattle.std.proofs.Common.{◌≡◌, ◌≢◌, ◌==◌, ◌+◌, ◌∷◌, ℕ, false, List, get_or, ap, subst, arith}
+use Rattle.std.proofs.Common.{rules, ◌≡◌, ◌≢◌, ◌==◌, ◌+◌, ◌∷◌, ℕ, false, List, get_or, ap, subst, arith}
 use Rattle.std.proofs.lemmas.Bool.Decides.{nat_tests}
 use Rattle.pat_lexical.specs.Divisions.{IsRefused, BadToken}
 use Rattle.pat_lexer.specs.declared.unfinished.Unfinished.TheVariants.{Comment}
@@ -11,15 +11,15 @@ use Rattle.pat_lexer.proofs.reader.Reader.read_slash.Goals as goal
 differs : (b : ℕ) → b ≢ 47 → (b == 47) ≡ false
 differs b h = grind (arith, nat_tests)
 
-pub returns-then-text-ne47-clause-refused : goal.returns-then-text-ne47-clause-refused
-returns-then-text-ne47-clause-refused c =
+pub returns-then-text-ne47 : goal.returns-then-text-ne47
+returns-then-text-ne47 c =
     let p = progress c.args.self.now in
     let bytes = c.args.text.now in
     by_first p (λ text. IsRefused text (BadToken p.start)) bytes c.requires.some (λ text more s. slash_refused p text (get_or bytes 0 0 ∷ more) c.requires.kind c.requires.characters (differs (get_or bytes 0 0) c.if-text-ne47.true) s)
 
-pub returns-clause-read : goal.returns-clause-read
-returns-clause-read c =
+pub returns : goal.returns
+returns c =
     let p = progress c.args.self.now in
     let bytes = c.args.text.now in
     let cleared : List ℕ → Progress = λ l. record p { position = p.position + 1; unfinished = Comment; held = l } in
-    at_first p _ bytes c.requires.some (λ text more s. moved _ _ text more (ap cleared c.clear.ensures.items) (slash_opens p text more c.requires.kind c.requires.characters (subst (λ b. Stands p text (b ∷ more)) c.if-text-ne47.false s)))
+    (search rules, search rules, search rules, at_first p _ bytes c.requires.some (λ text more s. moved _ _ text more (ap cleared c.clear.ensures.items) (slash_opens p text more c.requires.kind c.requires.characters (subst (λ b. Stands p text (b ∷ more)) c.if-text-ne47.false s))))

@@ -17,8 +17,8 @@ no_quote b h = grind (arith, nat_tests)
 no_backslash : (b : ℕ) → b ≤ 31 → (b == 92) ≡ false
 no_backslash b h = grind (arith, nat_tests)
 
-pub returns-in-0-to-31-clause-refused : goal.returns-in-0-to-31-clause-refused
-returns-in-0-to-31-clause-refused c =
+pub returns-in-0-to-31 : goal.returns-in-0-to-31
+returns-in-0-to-31 c =
     let p = progress c.args.self.now in
     let bytes = c.args.text.now in
     let b = get_or bytes 0 0 in

@@ -1,0 +1,3 @@
+mod Cuts
+-- for the crates above
+pub mod WordOr
