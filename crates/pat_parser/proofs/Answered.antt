@@ -16,18 +16,18 @@ use Rattle.pat_tree.specs.Views.{tree_view}
 use Rattle.pat_parser.specs.declared.fault.ParseError.{ParseError}
 use Rattle.pat_parser.specs.declared.fault.ParseError.TheVariants as errors
 use Rattle.pat_parser_states.specs.Views.{limits}
-use Rattle.pat_parser.specs.Answers.{GivesAt, FailsAt, Explained}
+use Rattle.pat_parser.specs.Answers.{GivesAt, FailsAt, Explains}
 
-explained : (end : ℕ) (ts : List Spanned) (e : ParseError) (q : Result AnyTree (m.Fault × ℕ)) → FailsAt e q → Claimed limits end ts q → Explained end ts e
+explained : (end : ℕ) (ts : List Spanned) (e : ParseError) (q : Result AnyTree (m.Fault × ℕ)) → FailsAt e q → Claimed limits end ts q → Explains end ts e
 explained end ts errors.NoMemory q f c = tt
 explained end ts (errors.Unexpected o) q f c = subst (λ (r : Result AnyTree (m.Fault × ℕ)). Claimed limits end ts r) f c
 explained end ts (errors.TooDeep o) q f c = subst (λ (r : Result AnyTree (m.Fault × ℕ)). Claimed limits end ts r) f c
 
-claimed : (end : ℕ) (ts : List Spanned) (r : Result Tree ParseError) (q : Result AnyTree (m.Fault × ℕ)) → GivesAt tree_view r q → Claimed limits end ts q → MatchResult r (λ t. SpellsTree limits ts (tree_view t)) (λ e. Explained end ts e)
+claimed : (end : ℕ) (ts : List Spanned) (r : Result Tree ParseError) (q : Result AnyTree (m.Fault × ℕ)) → GivesAt tree_view r q → Claimed limits end ts q → MatchResult r (λ t. SpellsTree limits ts (tree_view t)) (λ e. Explains end ts e)
 claimed end ts (Ok t) q f c = subst (λ (r : Result AnyTree (m.Fault × ℕ)). Claimed limits end ts r) f c
 claimed end ts (Err e) q f c = explained end ts e q f c
 
-pub answered : (end : ℕ) (ts : List Spanned) (r : Result Tree ParseError) → GivesAt tree_view r (m.parsed limits end (map bound_item ts)) → MatchResult r (λ t. SpellsTree limits ts (tree_view t)) (λ e. Explained end ts e)
+pub answered : (end : ℕ) (ts : List Spanned) (r : Result Tree ParseError) → GivesAt tree_view r (m.parsed limits end (map bound_item ts)) → MatchResult r (λ t. SpellsTree limits ts (tree_view t)) (λ e. Explains end ts e)
 answered end ts r f = claimed end ts r (m.parsed limits end (map bound_item ts)) f (exact_answer limits end ts).is_so
 
 pub answered_tree : (end : ℕ) (ts : List Spanned) (r : Result Tree ParseError) → GivesAt tree_view r (m.parsed limits end (map bound_item ts)) → (t : AnyTree) → SpellsTree limits ts t → GivesAt tree_view r (Ok t)
@@ -48,7 +48,7 @@ all_named ts (Ok t) Q s h = tree_named limits ts (tree_view t) s h
 all_named ts (Err e) Q s h = tt
 
 pub answered_size : (end : ℕ) (ts : List Spanned) (r : Result Tree ParseError) → GivesAt tree_view r (m.parsed limits end (map bound_item ts)) → IfOk r (λ t. tree_size (tree_view t) ≤ 4 * length ts)
-answered_size end ts r f = sized ts r (λ e. Explained end ts e) (answered end ts r f)
+answered_size end ts r f = sized ts r (λ e. Explains end ts e) (answered end ts r f)
 
 pub answered_names : (end : ℕ) (ts : List Spanned) (r : Result Tree ParseError) → GivesAt tree_view r (m.parsed limits end (map bound_item ts)) → AreSpelled ts → IfOk r (λ t. TreeNamed (tree_view t))
-answered_names end ts r f s = all_named ts r (λ e. Explained end ts e) s (answered end ts r f)
+answered_names end ts r f s = all_named ts r (λ e. Explains end ts e) s (answered end ts r f)

@@ -1,3 +1,1 @@
-pub mod Answered
-pub mod Stars
-pub mod Places
+mod Answered

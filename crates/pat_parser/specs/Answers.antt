@@ -2,7 +2,6 @@
 use Rattle.std.specs.Prelude.{◌≡◌, ℕ, List, Result, Ok, Err}
 use Rattle.pat_lexical.specs.Tokens.{Spanned}
 use Rattle.pat_grammar.specs.Claims.{IsUnexpected, IsTooDeep}
-use Rattle.pat_grammar.specs.Trees.{Term as AnyTerm}
 use Rattle.pat_grammar.specs.Machine as m
 use Rattle.pat_parser_states.specs.declared.fault.Fault.{Fault}
 use Rattle.pat_parser_states.specs.declared.fault.Fault.TheVariants as faults
@@ -26,12 +25,12 @@ abbrev pub GivesAt : {X Y : Type 0} → (X → Y) → Result X ParseError → Re
 GivesAt view (Ok x) read = read ≡ Ok (view x)
 GivesAt view (Err e) read = FailsAt e read
 
--- what an error claims of the tokens of a text that ends at the offset; want of memory claims nothing
-abbrev pub Explained : ℕ → List Spanned → ParseError → Type 0
-Explained end ts errors.NoMemory = Unit {0}
-Explained end ts (errors.Unexpected o) = IsUnexpected limits end ts o
-Explained end ts (errors.TooDeep o) = IsTooDeep limits ts o
+-- what an error says of the tokens of a text that ends at the offset; want of memory says nothing
+abbrev pub Explains : ℕ → List Spanned → ParseError → Type 0
+Explains end ts errors.NoMemory = Unit {0}
+Explains end ts (errors.Unexpected o) = IsUnexpected limits end ts o
+Explains end ts (errors.TooDeep o) = IsTooDeep limits ts o
 
--- what stands below a term, and the term
-abbrev pub standing : List m.Frame → AnyTerm → Result (List m.Frame × AnyTerm) m.Fault
-standing fs x = Ok (fs, x)
+-- the same, by a name that goes once nothing above names it
+abbrev pub Explained : ℕ → List Spanned → ParseError → Type 0
+Explained end ts e = Explains end ts e

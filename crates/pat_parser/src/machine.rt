@@ -10,21 +10,21 @@ ghost use Rattle.pat_syntax.specs.Views.{kind_view, token_view};
 ghost use Rattle.pat_tree.specs.Views.{span_view, tree_view};
 ghost use Rattle.pat_parser_states.specs.Views.{stack_view, decl_control_view, name_control_view, type_control_view, pattern_control_view, term_control_view, clause_control_view, expr_control_view, control_view, state_view, limits};
 ghost use Rattle.pat_parser_states.specs.Answers.{Gives, Makes};
-ghost use Rattle.pat_parser.specs.Answers.{GivesAt, Explained, error_at};
+ghost use Rattle.pat_parser.specs.Answers.{GivesAt, Explains, error_at};
 
-use crate::declarations::{decl, first_param, message, params};
-use crate::ends::{behind_simple, clause};
-use crate::expressions::{first_arg, have, opened, want};
 use crate::fault::ParseError;
-use crate::names::{got_name, want_name};
-use crate::patterns::{have_pattern, want_pattern};
-use crate::terms::{
-    binders, first_binder, free, free_clause, named, new, otherwise, print, spawn, start, yes,
-};
-use crate::types::{first_payload, have_base, polarity, type_named, want_type};
+use pat_parser_declarations::{decl, first_param, got_name, message, params, want_name};
+use pat_parser_ends::{behind_simple, clause};
 use pat_parser_states::{
     ClauseControl, Control, DeclControl, ExprControl, Fault, NameControl, PatternControl, Place,
     State, TermControl, TypeControl, at,
+};
+use pat_parser_terms::{
+    binders, first_arg, first_binder, free, free_clause, have, named, new, opened, otherwise,
+    print, spawn, start, want, yes,
+};
+use pat_parser_types::{
+    first_payload, have_base, have_pattern, polarity, type_named, want_pattern, want_type,
 };
 use pat_sequences::{Sequence, Stack};
 use pat_syntax::{Span, Token, TokenKind};
@@ -274,7 +274,7 @@ fn whole_text(alloc: Global, tokens: Vec<Token>, end: u32) -> Result<Tree, Parse
 /// refused.
 pub fn parse(alloc: Global, tokens: Vec<Token>, end: u32) -> Result<Tree, ParseError>
     // A tree is the one that the tokens spell within the limits, and an error says where they first can't.
-    ensures answers { MatchResult result (λ t. SpellsTree limits (map token_view tokens.items) (tree_view t)) (λ e. Explained end (map token_view tokens.items) e) }
+    ensures answers { MatchResult result (λ t. SpellsTree limits (map token_view tokens.items) (tree_view t)) (λ e. Explains end (map token_view tokens.items) e) }
     // What the tokens spell is answered, unless memory runs out.
     ensures tree { (t : trees.Tree) → SpellsTree limits (map token_view tokens.items) t → GivesAt tree_view result (Ok t) }
     // So is a token that is unexpected, and the end of the text.

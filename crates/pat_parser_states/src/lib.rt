@@ -7,10 +7,10 @@ mod place;
 mod state;
 
 pub use fault::Fault;
-pub use lists::{with_clause, with_decl, with_expr, with_type};
+pub use lists::{message_added, param_added, with_clause, with_decl, with_expr, with_type};
 pub use place::{
-    at, boxed_term, failed, has_room, leading, levels, name_of, over, parts_before, refused,
-    too_deep, top, waiting, within,
+    at, boxed_term, done, has_room, leading, levels, name_of, naming, open, open_here, over,
+    parts_before, refused, too_deep, top, waiting, with_control,
 };
 pub use state::{
     Before, BlockFrame, ClauseControl, ClauseFrame, ClauseHead, Control, DeclControl, Defining,

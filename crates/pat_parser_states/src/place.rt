@@ -1,13 +1,16 @@
 // States from their parts, and whether one more token may be open.
-ghost use Rattle.std.specs.Prelude.{◌≡◌, ◌∷◌, ◌+◌, nat_lt, Ok, Err};
+ghost use Rattle.std.specs.Prelude.{◌≡◌, ◌∷◌, ◌+◌, nat_lt, suc, Ok, Err};
 ghost use Rattle.pat_grammar.specs.Machine as m;
 ghost use Rattle.pat_grammar.specs.Trees as trees;
 ghost use Rattle.pat_tree.specs.Views.{span_view, name_view, term_at, term_view};
-ghost use Rattle.pat_parser_states.specs.Views.{pending_view, waiting_view, before_view, leading_view, frame_view, stack_view, control_view, state_view, limits};
+ghost use Rattle.pat_parser_states.specs.Views.{pending_view, waiting_view, before_view, leading_view, naming_view, frame_view, stack_view, control_view, state_view};
 ghost use Rattle.pat_parser_states.specs.Answers.{Gives, Makes, Tops};
 
 use crate::fault::Fault;
-use crate::state::{Before, Control, Frame, Frames, Leading, Pending, Place, State, Waiting};
+use crate::state::{
+    Before, Control, Frame, Frames, Leading, NameControl, Naming, Pending, Place, State,
+    TermControl, Waiting,
+};
 use pat_sequences::{Sequence, Text};
 use pat_syntax::Span;
 use pat_tree::{Form, Name, Term};
@@ -115,7 +118,7 @@ pub fn top(stack: Frames) -> Option<(Frame, Frames)>
 }
 
 /// A step can't be taken; what was read is dropped.
-pub fn failed<T: Drop>(fault: Fault, _rest: T) -> Result<State, Fault>
+fn failed<T: Drop>(fault: Fault, _rest: T) -> Result<State, Fault>
     ensures { result ≡ Err fault }
 {
     Err(fault)
@@ -136,7 +139,7 @@ pub fn too_deep<T: Drop>(rest: T) -> Result<State, Fault>
 }
 
 /// A state with one frame more.
-pub fn within(
+fn within(
     frame: Frame,
     below: Frames,
     control: Control,
@@ -149,4 +152,63 @@ pub fn within(
         Ok(stack) => Ok(at(control, stack, opened, 0, statements)),
         Err(fault) => failed(fault, control),
     }
+}
+
+/// A state that wants a name, with the same frames.
+pub fn naming(place: Place, naming: Naming) -> State
+    ensures { state_view result ≡ m.state (m.WantName (naming_view naming)) (stack_view place.stack) place.opened 0 place.statements }
+{
+    at(
+        Control::Name(NameControl::WantName(naming)),
+        place.stack,
+        place.opened,
+        0,
+        place.statements,
+    )
+}
+
+/// A state with the same frames.
+pub fn with_control(place: Place, control: Control) -> State
+    ensures { state_view result ≡ m.state (control_view control) (stack_view place.stack) place.opened 0 place.statements }
+{
+    at(control, place.stack, place.opened, 0, place.statements)
+}
+
+/// One bracket more, in a frame of its own.
+pub fn open(place: Place, frame: Frame, control: Control) -> Result<State, Fault>
+    ensures { Makes result (m.Opens place.opened 0 (m.state (control_view control) (frame_view frame ∷ stack_view place.stack) (suc place.opened) 0 place.statements)) }
+{
+    if !has_room(place.opened, 0) {
+        return too_deep((place, frame, control));
+    }
+    within(
+        frame,
+        place.stack,
+        control,
+        place.opened + 1,
+        place.statements,
+    )
+}
+
+/// One bracket more, with the same frames.
+pub fn open_here(place: Place, control: Control) -> Result<State, Fault>
+    ensures { Makes result (m.Opens place.opened 0 (m.state (control_view control) (stack_view place.stack) (suc place.opened) 0 place.statements)) }
+{
+    if !has_room(place.opened, 0) {
+        return too_deep((place, control));
+    }
+    Ok(at(control, place.stack, place.opened + 1, 0, place.statements))
+}
+
+/// A state behind a term that begins there.
+pub fn done(term: Box<Term>, from: u32, stack: Frames, opened: u16, statements: u16) -> State
+    ensures { state_view result ≡ m.state (m.Done (term_view term.value) from) (stack_view stack) opened 0 statements }
+{
+    at(
+        Control::Term(TermControl::Done(term, from)),
+        stack,
+        opened,
+        0,
+        statements,
+    )
 }

@@ -113,21 +113,24 @@ fn check_row(rt: &impl Abort, alloc: Global, text: &str, expected: &str) -> Resu
     Ok(())
 }
 
-#[test]
-fn programs_are_canonical(rt: HostRuntime) -> Result<(), Fail> {
-    for text in PROGRAMS {
-        check_row(&rt, rt.alloc(), text, text)?;
+fn check_programs(rt: &impl Abort, alloc: Global, rows: &[&str]) -> Result<(), AllocError> {
+    for text in rows {
+        check_row(rt, alloc, text, text)?;
+    }
+    Ok(())
+}
+
+fn check_corners(rt: &impl Abort, alloc: Global, rows: &[(&str, &str)]) -> Result<(), AllocError> {
+    for (text, expected) in rows {
+        check_row(rt, alloc, text, expected)?;
+        check_row(rt, alloc, expected, expected)?;
     }
     Ok(())
 }
 
 #[test]
-fn corners(rt: HostRuntime) -> Result<(), Fail> {
-    for (text, expected) in CORNERS {
-        check_row(&rt, rt.alloc(), text, expected)?;
-        if expected.ends_with("\n") {
-            check_row(&rt, rt.alloc(), expected, expected)?;
-        }
-    }
+fn canonical_texts(rt: HostRuntime) -> Result<(), Fail> {
+    check_programs(&rt, rt.alloc(), PROGRAMS)?;
+    check_corners(&rt, rt.alloc(), CORNERS)?;
     Ok(())
 }

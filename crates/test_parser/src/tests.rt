@@ -1,4 +1,4 @@
-use super::{CELL, outcome, text_of};
+use super::{CELL, outcome};
 use std::alloc::{AllocError, Global};
 use std::process::Abort;
 use std::test::Fail;
@@ -50,41 +50,6 @@ const TEXTS: &[(&str, &str)] = &[
     ("def f(): Unit { () } }", "unexpected 21"),
     ("def f(): Unit { () } x", "unexpected 21"),
     ("def f(): Unit { 9223372036854775808 }", "no tokens"),
-];
-
-/// Parts, each so many times over, and what becomes of them.
-const SHAPES: &[(&[(&str, usize)], &str)] = &[
-    (
-        &[("def main(): Unit { ", 1), ("();", 4095), ("() }", 1)],
-        "tree of 1",
-    ),
-    (
-        &[("def main(): Unit { ", 1), ("();", 4096), ("() }", 1)],
-        "too deep 12306",
-    ),
-    (
-        &[
-            ("def main(): Unit { print(", 1),
-            ("(", 253),
-            ("1", 1),
-            (")", 254),
-            ("}", 1),
-        ],
-        "tree of 1",
-    ),
-    (
-        &[("def main(): Unit { print(", 1), ("(", 254), ("1", 1)],
-        "too deep 278",
-    ),
-    (
-        &[("def main(): Unit { 1", 1), ("+1", 254), (" }", 1)],
-        "tree of 1",
-    ),
-    (
-        &[("def main(): Unit { 1", 1), ("+1", 255), (" }", 1)],
-        "too deep 528",
-    ),
-    (&[("interface I { A() }", 500)], "tree of 500"),
 ];
 
 /// What becomes of a program that is cut off.
@@ -146,36 +111,17 @@ fn check_texts(rt: &impl Abort, alloc: Global, rows: &[(&str, &str)]) -> Result<
     Ok(())
 }
 
-fn check_shapes(
-    rt: &impl Abort,
-    alloc: Global,
-    rows: &[(&[(&str, usize)], &str)],
-) -> Result<(), Fail> {
-    for (parts, expected) in rows {
-        let text = text_of(alloc, parts)?;
-        let got = outcome(alloc, text.as_slice())?;
-        assert_eq!(rt; got.as_str(), *expected);
+fn check_cuts(rt: &impl Abort, alloc: Global, whole: &[u8]) -> Result<(), Fail> {
+    for end in 0..=whole.len() {
+        let got = outcome(alloc, &whole[..end])?;
+        let expected = shown(alloc, cut_at(end), end)?;
+        assert_eq!(rt; got.as_str(), expected.as_str());
     }
     Ok(())
 }
 
 #[test]
 fn texts_and_refusals(rt: HostRuntime) -> Result<(), Fail> {
-    check_texts(&rt, rt.alloc(), TEXTS)
-}
-
-#[test]
-fn limits(rt: HostRuntime) -> Result<(), Fail> {
-    check_shapes(&rt, rt.alloc(), SHAPES)
-}
-
-#[test]
-fn cuts(rt: HostRuntime) -> Result<(), Fail> {
-    let whole = WHOLE.as_bytes();
-    for end in 0..=whole.len() {
-        let got = outcome(rt.alloc(), &whole[..end])?;
-        let expected = shown(rt.alloc(), cut_at(end), end)?;
-        assert_eq!(rt; got.as_str(), expected.as_str());
-    }
-    Ok(())
+    check_texts(&rt, rt.alloc(), TEXTS)?;
+    check_cuts(&rt, rt.alloc(), WHOLE.as_bytes())
 }
