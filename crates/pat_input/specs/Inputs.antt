@@ -1,13 +1,17 @@
 -- What was read of a source, and what it divides into.
-use Rattle.std.specs.Prelude.{◌≡◌, ◌≢◌, ◌<◌, ◌≤◌, ◌++◌, ℕ, suc, List, length, map}
+use Rattle.std.specs.Prelude.{◌≡◌, ◌≢◌, ◌<◌, ◌≤◌, ◌++◌, ℕ, suc, List, length, map, Result}
+use Rattle.std.specs.declared.result.Result.TheVariants.{Ok, Err}
 use Rattle.std.specs.declared.option.Option.{Option}
 use Rattle.std.specs.Io.KnownBytes.{Consumes, IsAtEnd}
+use Rattle.pat_ports.specs.Causes.{Raised}
 use Rattle.pat_lexical.specs.Divisions.{Divides}
 use Rattle.pat_syntax.specs.Views.{token_view}
 use Rattle.pat_lexer.specs.Lexed.{Lexed, HasRead}
 use Rattle.pat_lexer.specs.Reads.{IsAnswer}
 use Rattle.pat_lexer.specs.declared.error.LexError.TheVariants.{NoMemory}
 use Rattle.pat_input.specs.declared.reading.Input.{Input}
+use Rattle.pat_input.specs.declared.reading.InputError.{InputError}
+use Rattle.pat_input.specs.declared.reading.InputError.TheVariants.{Failed, NoMemory as NoMemoryLeft}
 use Rattle.pat_input.specs.declared.reading.Input.TheVariants.{TooLong, Refused, Tokens}
 
 -- the most bytes of a program
@@ -29,3 +33,9 @@ IsRead bytes (Tokens ts end) = (length bytes ≤ limit) × Divides bytes (map to
 -- the lexer has read the piece besides
 abbrev pub Fed : Lexed → Lexed → List ℕ → Type 0
 Fed old new piece = (bytes : List ℕ) → HasRead bytes old → HasRead (bytes ++ piece) new
+
+-- the source's count of faults after a reading: one more where it failed, and else what it was
+abbrev pub FaultsAfter : {A : Type 0} → ℕ → ℕ → Result A InputError → Type 0
+FaultsAfter before now (Err Failed) = Raised before now
+FaultsAfter before now (Err NoMemoryLeft) = now ≡ before
+FaultsAfter before now (Ok x) = now ≡ before

@@ -1,10 +1,10 @@
 // Reading a source to its end, or past the limit. Each piece that a read gives is fed to the lexer at once.
-ghost use Rattle.std.specs.Prelude.{◌≡◌, ◌+◌, ◌<◌, ◌≤◌, ◌++◌, ◌^◌, ℕ, List, IfOk, OnOk, IsErrOf, length, None};
+ghost use Rattle.std.specs.Prelude.{◌≡◌, ◌+◌, ◌<◌, ◌≤◌, ◌++◌, ◌≢◌, ◌^◌, ℕ, Bool, nat_eq, List, IfOk, OnOk, IsErrOf, length, None};
 ghost use Rattle.std.specs.Io.KnownBytes.{Consumes, IsAtEnd};
-ghost use Rattle.pat_ports.specs.Causes.{Rose};
+ghost use Rattle.pat_ports.specs.Ends.{ReachesBy, EndsOnce, EndsThere};
 ghost use Rattle.pat_lexer.specs.Lexed.{HasRead};
 ghost use Rattle.pat_input.specs.declared.reading.InputError.TheVariants.{Failed as ReadFailed, NoMemory};
-ghost use Rattle.pat_input.specs.Inputs.{IsInput, IsRead, Fed};
+ghost use Rattle.pat_input.specs.Inputs.{IsInput, IsRead, Fed, FaultsAfter};
 
 use pat_lexer::{LexError, Lexer};
 use pat_ports::{Failed, Source};
@@ -55,7 +55,9 @@ const PIECE: usize = 8192;
 /// Reads a source to its end, or past the limit.
 pub fn read_tokens<S: Source>(alloc: Global, source: &mut S) -> Result<Input, InputError>
     ensures ok { IfOk result (λ input. (bytes : List ℕ) × IsInput (S.rest source.old) (S.rest source.new) bytes × IsRead bytes input) }
-    ensures failed { IsErrOf result InputError.Failed → Rose (S.faults source.old) (S.faults source.new) }
+    ensures faults { FaultsAfter (S.faults source.old) (S.faults source.new) result }
+    ensures end { IfOk result (λ input. input ≢ Input.TooLong → EndsThere (S.reach source.old) (S.reach source.new)) }
+    ensures one_end { EndsOnce (S.reach source.old) (S.reach source.new) }
 {
     let mut lexer = Lexer::new(alloc);
     let mut total = 0;
@@ -92,8 +94,8 @@ fn read_piece<S: Source>(
     ensures count { IfOk result (λ count. (piece : List ℕ) × Consumes (S.rest source.old) (S.rest source.new) piece × Fed lexer.old lexer.new piece × (length piece ≡ count)) }
     ensures end { IfOk result (λ count. count ≡ 0 → IsAtEnd (S.rest source.new)) }
     ensures room { IfOk result (λ count. total + count ≤ 1048577) }
-    ensures later { S.faults source.old ≤ S.faults source.new }
-    ensures failed { IsErrOf result InputError.Failed → Rose (S.faults source.old) (S.faults source.new) }
+    ensures faults { FaultsAfter (S.faults source.old) (S.faults source.new) result }
+    ensures reach { (end : Bool) × ReachesBy (S.reach source.old) (S.reach source.new) end × IfOk result (λ count. end ≡ nat_eq count 0) }
 {
     let mut buffer = [0u8; PIECE];
     let room = (LIMIT + 1 - total).min(PIECE);

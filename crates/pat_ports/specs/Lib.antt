@@ -1,3 +1,4 @@
 pub mod Causes
 pub mod Bytes
+pub mod Ends
 pub mod Memory

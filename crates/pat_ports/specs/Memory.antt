@@ -1,14 +1,17 @@
 -- Ports in memory, as contracts see them.
 use Rattle.std.specs.Prelude.{◌≡◌, ◌⊎◌, length, IsTrue, ℕ, ◌+◌, ◌-◌, ◌^◌, ◌<◌, Bool, false, nat_eq, nat_lt, List, Option, Some, None, if◌then◌else◌}
 use Rattle.std.specs.List.{list_any}
+use Rattle.pat_ports.specs.declared.reach.Reach.{Reach}
 
--- a source: the bytes left, the most that it gives at a call, the calls that fail, the number of the next call, and how many failed
+-- a source: the bytes left, the most that it gives at a call, the calls that fail, the number of the next call, how many
+-- failed, and how far it was read
 pub record MemorySource : Type 0 where
   pub rest : List ℕ
   pub piece : ℕ
   pub failing : List ℕ
   pub call : Option ℕ
   pub faults : ℕ
+  pub reach : Reach
 
 -- a sink: the bytes taken, the most that it takes at a call and in all, the calls that fail, the number of the next call, and how many failed
 pub record MemorySink : Type 0 where
@@ -36,7 +39,8 @@ number_after (Some n) = number_past n
 abbrev pub Refuses : MemorySink → List ℕ → Type 0
 Refuses s bytes = IsTrue (is_listed s.call s.failing) ⊎ ((length s.taken ≡ s.room) × (0 < length bytes))
 
--- a source that never fails: the bytes left, and the most that it gives at a call
+-- a source that never fails: the bytes left, the most that it gives at a call, and how far it was read
 pub record Pieces : Type 0 where
   pub rest : List ℕ
   pub piece : ℕ
+  pub reach : Reach

@@ -2,11 +2,13 @@
 #![tactic(auto)]
 
 mod copying;
+mod counting;
 mod gate;
 mod mem_sink;
 mod mem_source;
 mod plan;
 mod port;
+mod reach;
 mod standard;
 mod sure;
 
@@ -14,8 +16,6 @@ pub use gate::{Gate, OpenGate};
 pub use mem_sink::MemSink;
 pub use mem_source::MemSource;
 pub use port::{Failed, Sink, Source};
+pub use reach::Reach;
 pub use standard::{StdSink, StdSource};
 pub use sure::{SureSink, SureSource};
-
-#[cfg(test)]
-mod tests;

@@ -1,10 +1,11 @@
 // A sink over memory, which fails at the calls that it is told to.
 ghost use Rattle.std.specs.Prelude.{◌≡◌, ◌-◌, ◌<◌, ◌≤◌, ◌↔◌, ◌⊎◌, Some, None, List, [], length, take, min, IfOk, IsErr, IsTrue};
 ghost use Rattle.std.specs.Io.KnownBytes.{WriteAppends};
-ghost use Rattle.pat_ports.specs.Causes.{HasCause, faults_after};
-ghost use Rattle.pat_ports.specs.Bytes.{WritesSome};
+ghost use Rattle.pat_ports.specs.Causes.{Counted};
+ghost use Rattle.pat_ports.specs.Bytes.{WritesSome, HandsOver};
 ghost use Rattle.pat_ports.specs.Memory.{MemorySink, is_listed, number_after, Refuses};
 
+use crate::counting::raised;
 use crate::plan::{is_planned, next_call};
 use crate::{Failed, Sink};
 use std::alloc::{AllocError, Global};
@@ -65,13 +66,15 @@ impl Sink for MemSink {
 
     ghost faults = { λ s. s.faults };
 
+    ghost handed = { λ s. Some s.taken };
+
     fn write(&mut self, bytes: &[u8]) -> Result<usize, Failed>
         ensures count { WritesSome result bytes.now }
         ensures bytes { WriteAppends (Some self.old.taken) (Some self.new.taken) result bytes.now }
-        ensures cause { HasCause self.old.faults self.new.faults result }
         ensures fails { IsErr result ↔ Refuses self.old bytes.now }
         ensures given { IfOk result (λ n. n ≡ min (min (length bytes.now) self.old.piece) (self.old.room - length self.old.taken)) }
-        ensures counted { self.new.faults ≡ faults_after self.old.faults result }
+        ensures counted { Counted self.old.faults self.new.faults result }
+        ensures handed { HandsOver (Some self.old.taken) (Some self.new.taken) result bytes.now }
         ensures numbered { self.new.call ≡ number_after self.old.call }
         ensures plan { (self.new.piece ≡ self.old.piece) × (self.new.room ≡ self.old.room) × (self.new.failing ≡ self.old.failing) }
     {
@@ -80,7 +83,7 @@ impl Sink for MemSink {
             || (left == 0 && !bytes.is_empty());
         self.call = next_call(self.call);
         if fails {
-            self.faults = self.faults.saturating_add(1);
+            self.faults = raised(self.faults);
             return Err(Failed);
         }
         let count = bytes.len().min(self.piece).min(left);

@@ -1,4 +1,8 @@
-use super::*;
+use crate::writers::{BrokenReader, ShortWriter};
+use pat_ports::{
+    Failed, Gate, MemSink, MemSource, OpenGate, Sink, Source, StdSink, StdSource, SureSink,
+    SureSource,
+};
 use std::io;
 use std::test::Fail;
 
@@ -46,5 +50,43 @@ fn standard_ports(rt: HostRuntime) -> Result<(), Fail> {
     assert_eq!(rt; sink.write(b"abc"), Ok(2));
     assert_eq!(rt; sink.write(b"c"), Err(Failed));
     assert_eq!(rt; sink.write(b""), Ok(0));
+    Ok(())
+}
+
+// An error is no end, and what follows it is still read.
+#[test]
+fn a_broken_reader_fails(rt: HostRuntime) -> Result<(), Fail> {
+    let mut source = StdSource::new(BrokenReader {
+        call: 0,
+        fails_at: 2,
+    });
+    let mut buf = [0u8; 4];
+    for want in [Ok(1), Err(Failed), Ok(1)] {
+        assert_eq!(rt; source.read(&mut buf), want);
+    }
+    Ok(())
+}
+
+// Each write is flushed, a part of a piece is answered as a part, and a flush that fails is a fault.
+#[test]
+fn a_short_writer_is_flushed(rt: HostRuntime) -> Result<(), Fail> {
+    let mut taken = Vec::new(rt.alloc());
+    let mut flushes = 0;
+    let mut sink = StdSink::new(ShortWriter {
+        taken: &mut taken,
+        flushes: &mut flushes,
+        fails_at: 3,
+    });
+    for (piece, want) in [
+        (b"abc", Ok(2)),
+        (b"cde", Ok(2)),
+        (b"efg", Err(Failed)),
+        (b"ghi", Ok(2)),
+    ] {
+        assert_eq!(rt; sink.write(piece), want);
+    }
+    drop(sink);
+    assert_eq!(rt; taken.as_slice(), b"abcdefgh".as_slice());
+    assert_eq!(rt; flushes, 4);
     Ok(())
 }
