@@ -1,15 +1,18 @@
 //! `pat` on standard input and output.
 #![tactic(auto)]
 
-mod call;
+ghost use Rattle.std.specs.Prelude.{◌≡◌, drop};
+ghost use Rattle.std.specs.Process.{exit_status};
+ghost use Rattle.pat_answers.specs.Statuses.{status_code};
+
 #[cfg(test)]
 mod tests;
 #[cfg(test)]
 mod texts;
 
-use call::pat;
+use pat_answers::Status;
 use pat_ports::{OpenGate, StdSink, StdSource};
-use pat_session::Status;
+pub use pat_session::pat;
 use std::alloc::AllocError;
 use std::process::ExitCode;
 use std::{env, io};
@@ -17,24 +20,41 @@ use std::{env, io};
 fn main(rt: HostRuntime) -> ExitCode {
     let mut source = StdSource::new(rt.reader());
     let mut sink = StdSink::new(io::writer(&rt));
-    let status = match words(&rt) {
-        Ok(words) => pat(
+    let status = match arguments(&rt) {
+        Ok(arguments) => pat(
             rt.alloc(),
-            words.as_slice(),
+            without_name(arguments.as_slice()),
             &mut source,
             &mut sink,
             &OpenGate,
         ),
         Err(AllocError) => Status::NoMemory,
     };
-    ExitCode::from(status.code())
+    exit_code(status)
 }
 
-/// The words behind the program's name. Where one isn't UTF-8 they are no command, as none at all are.
-fn words(rt: &HostRuntime) -> Result<Vec<String>, AllocError> {
+/// The program's name and the words behind it. Where one isn't UTF-8 they are no command, as none at all are.
+fn arguments(rt: &HostRuntime) -> Result<Vec<String>, AllocError> {
     match env::args(rt) {
-        Ok(args) => args.skip(1).collect(rt.alloc()),
+        Ok(arguments) => arguments.collect(rt.alloc()),
         Err(error) if error.kind() == io::ErrorKind::OutOfMemory => Err(AllocError),
         Err(_) => Ok(Vec::new(rt.alloc())),
     }
+}
+
+/// The words of a call: all arguments but the first, which is the program's name.
+fn without_name(arguments: &[String]) -> &[String]
+    ensures { result.now ≡ drop 1 arguments.now }
+{
+    match arguments.split_first() {
+        Some((_name, words)) => words,
+        None => arguments,
+    }
+}
+
+/// The exit status that says a status.
+fn exit_code(status: Status) -> ExitCode
+    ensures { exit_status result ≡ status_code status }
+{
+    ExitCode::from(status.code())
 }

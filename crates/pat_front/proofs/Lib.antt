@@ -1,3 +1,3 @@
-pub mod Fewness
-pub mod Resolved
-pub mod OneVerdict
+mod Fewness
+mod Resolved
+mod OneVerdict

@@ -1,5 +1,5 @@
 -- What a text is: that of a tree and its program, or one that is refused.
-use Rattle.std.specs.Prelude.{◌≡◌, ◌<◌, ◌≤◌, ◌⊎◌, ℕ, false, List, length}
+use Rattle.std.specs.Prelude.{◌≡◌, ◌<◌, ◌≤◌, ◌⊎◌, ℕ, List, length}
 use Rattle.pat_lexical.specs.Tokens.{Spanned}
 use Rattle.pat_lexical.specs.Divisions.{Divides, IsRefused, BadToken as BadTokenAt, NumberTooWide as TooWideAt}
 use Rattle.pat_model.specs.Programs.{Program}
@@ -7,7 +7,6 @@ use Rattle.pat_grammar.specs.Trees.{Tree}
 use Rattle.pat_grammar.specs.Claims.{SpellsTree, IsUnexpected, IsTooDeep}
 use Rattle.pat_parser_states.specs.Views.{limits}
 use Rattle.pat_names.specs.Claims as names
-use Rattle.pat_plain_laws.specs.Straight.{is_straight}
 use Rattle.pat_resolver_answers.specs.Views.{finding_view}
 use Rattle.pat_input.specs.Inputs.{limit}
 use Rattle.pat_front.specs.declared.front.FrontError.{FrontError}
@@ -39,10 +38,6 @@ IsRefusal bytes (verdict.NumberTooWide o) = (length bytes ≤ limit) × IsRefuse
 IsRefusal bytes (verdict.TooDeep o) = (length bytes ≤ limit) × ((tokens : List Spanned) × Divides bytes tokens × IsTooDeep limits tokens o)
 IsRefusal bytes (verdict.Resolve k s) = (t : Tree) × IsTreeText bytes t × names.BreaksFirst (length bytes) t (finding_view k s)
 IsRefusal bytes verdict.NotYet = ⊥
-
--- the bytes are the text of a program that isn't straight-line
-abbrev pub IsNotYet : List ℕ → Type 0
-IsNotYet bytes = (t : Tree) × (p : Program) × IsProgramText bytes t p × (is_straight p ≡ false)
 
 -- what an error says of the bytes; want of memory says nothing
 abbrev pub Explains : List ℕ → FrontError → Type 0

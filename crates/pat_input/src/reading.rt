@@ -3,13 +3,13 @@ ghost use Rattle.std.specs.Prelude.{◌≡◌, ◌+◌, ◌<◌, ◌≤◌, ◌+
 ghost use Rattle.std.specs.Io.KnownBytes.{Consumes, IsAtEnd};
 ghost use Rattle.pat_ports.specs.Ends.{ReachesBy, EndsOnce, EndsThere};
 ghost use Rattle.pat_lexer.specs.Lexed.{HasRead};
-ghost use Rattle.pat_input.specs.declared.reading.InputError.TheVariants.{Failed as ReadFailed, NoMemory};
+ghost use Rattle.pat_input.specs.declared.reading.InputError.TheVariants.{Failed as ReadFailed};
 ghost use Rattle.pat_input.specs.Inputs.{IsInput, IsRead, Fed, FaultsAfter};
 
 use pat_lexer::{LexError, Lexer};
 use pat_ports::{Failed, Source};
 use pat_syntax::Token;
-use std::alloc::{AllocError, Global};
+use std::alloc::Global;
 
 /// What a source gave.
 #[derive(Drop)]
@@ -28,14 +28,6 @@ pub enum InputError {
     /// The source failed.
     Failed,
     NoMemory,
-}
-
-impl From<AllocError> for InputError {
-    ghost from_gives = { λ _ e. e ≡ NoMemory };
-
-    fn from(_: AllocError) -> Self {
-        InputError::NoMemory
-    }
 }
 
 impl From<Failed> for InputError {

@@ -1,22 +1,21 @@
 -- What an answer allows, and what follows from it.
-use Rattle.std.proofs.Common.{◌≡◌, ℕ, true, List, [], ◌∷◌, length, Option, Result, Ok as Done, Err as Failed, Vec, Global, refl, sym, ap, ◌∙◌, subst, inl, inr, ⊎_elim, ◌⊎◌, arith}
-use Rattle.std.specs.Prelude.{IfOk}
+use Rattle.std.proofs.Common.{◌≡◌, ◌≤◌, ℕ, List, [], ◌∷◌, length, Option, refl, sym, ap, ◌∙◌, subst, ⊎_elim, ◌⊎◌, arith}
 use Rattle.std.specs.Io.KnownBytes.{Appends}
-use Rattle.pat_model.specs.Programs.{Program}
-use Rattle.pat_model.specs.Runs.{Outcome, EndDone, EndWaiting, EndFull, EndBudget}
-use Rattle.pat_model.specs.Faults.{IsSafe}
-use Rattle.pat_grammar.specs.Trees.{Tree}
-use Rattle.pat_plain_laws.specs.Straight.{is_straight}
-use Rattle.pat_input.specs.Inputs.{IsInput}
+use Rattle.pat_input.specs.Inputs.{IsInput, limit}
 use Rattle.pat_front.specs.Lines.{line_of_verdict}
-use Rattle.pat_front.specs.Texts.{IsProgramText, IsRefusal}
 use Rattle.pat_front.specs.declared.verdict.Verdict.{Verdict}
-use Rattle.pat_session.specs.declared.status.Status.{Status}
-use Rattle.pat_session.specs.declared.status.Status.TheVariants.{Ok, Refused, Usage, ReadFault, WriteFault, NoMemory, Budget}
+use Rattle.pat_answers.specs.declared.status.Status.{Status}
+use Rattle.pat_answers.specs.declared.status.Status.TheVariants.{Ok, Refused, Usage, ReadFault, WriteFault, NoMemory, Budget}
 use Rattle.pat_session.specs.declared.words.Command.{Command}
 use Rattle.pat_session.specs.declared.words.Command.TheVariants.{Print, Run}
 use Rattle.pat_session.specs.Ports.{IsCutShort, Written}
-use Rattle.pat_session.specs.Allowed.{IsCommand, HasCommand, EndsWith, RunShows, IsRunnable, AllowedPrint, AllowedRun, AllowedTo, Allowed, usage_line}
+use Rattle.pat_answers.specs.Answers.{IsCommandStatus}
+use Rattle.pat_command_print.specs.Allowed.{AllowedPrint}
+use Rattle.pat_command_print.proofs.Statuses.{print_status}
+use Rattle.pat_command_run.specs.Allowed.{RunShows, IsRunnable, AllowedRun}
+use Rattle.pat_command_run.proofs.Statuses.{run_status}
+use Rattle.pat_session.specs.Allowed.{IsCommand, HasCommand, AllowedTo, Allowed, usage_line}
+use Rattle.pat_session.specs.Calls.{ReadsAll}
 use Rattle.pat_session.specs.Answers.{Completes, BreaksOff, Answers, IsAccepted, AcceptsSafe, ShowsRun, ShowsTree, ShowsVerdict}
 
 -- ---- words
@@ -28,62 +27,35 @@ first_length (w ∷ ws) = length w
 not_both : (words : List (List ℕ)) → IsCommand Run words → IsCommand Print words → ⊥
 not_both words run print = let clash : 3 ≡ 5 = ap first_length (sym run ∙ print) in absurd (omega (arith, clash))
 
--- ---- runs
+-- ---- statuses
 
--- a run ends with no other status than these two
-only_two : (o : Outcome) (s : Status) → EndsWith o s → (s ≡ Ok) ⊎ (s ≡ Budget)
-only_two EndDone s h = inl h
-only_two EndBudget s h = inr h
-only_two EndWaiting s h = absurd h
-only_two EndFull s h = absurd h
+-- what is allowed of a command has a command's status
+pub command_status : (c : Command) (bytes text : List ℕ) (s : Status) → AllowedTo c bytes text s → IsCommandStatus bytes s
+command_status Print bytes text s a = print_status bytes text s a
+command_status Run bytes text s a = run_status bytes text s a
 
--- what a run of a straight-line program of the bytes shows is allowed
-pub allowed_run : (bytes : List ℕ) (t : Tree) (p : Program) (text : List ℕ) (s : Status) → IsProgramText bytes t p → is_straight p ≡ true → IsSafe p → RunShows p text s → AllowedRun bytes text s
-allowed_run bytes t p text s spelled straight safe shows =
-    let r : IsRunnable bytes = record { tree = t; program = p; spelled = spelled; straight = straight; safe = safe } in
-    ⊎_elim
-    (λ (e : s ≡ Ok). subst (λ k. AllowedRun bytes text k) (sym e) (r, subst (λ k. RunShows p text k) e shows))
-    (λ (e : s ≡ Budget). subst (λ k. AllowedRun bytes text k) (sym e) (r, subst (λ k. RunShows p text k) e shows))
-    (only_two shows.0 s shows.1)
-
--- ---- refusals
-
--- a line that refuses the bytes is allowed of each command
-pub allowed_refusal : (c : Command) (bytes text : List ℕ) (s : Status) (v : Verdict) → s ≡ Refused v → IsRefusal bytes v → text ≡ line_of_verdict v → AllowedTo c bytes text s
-allowed_refusal Print bytes text s v is refused shown = subst (λ k. AllowedPrint bytes text k) (sym is) (refused, shown)
-allowed_refusal Run bytes text s v is refused shown = subst (λ k. AllowedRun bytes text k) (sym is) (inl refused, shown)
-
--- the same of a result
-pub allowed_refusals : {E : Type 0} (c : Command) (bytes : List ℕ) (r : Result (Vec ℕ Global × Status) E) → IfOk r (λ a. (v : Verdict) × (a.1 ≡ Refused v) × IsRefusal bytes v × (a.0.items ≡ line_of_verdict v)) → IfOk r (λ a. AllowedTo c bytes a.0.items a.1)
-allowed_refusals c bytes (Done a) (v, is, refused, shown) = allowed_refusal c bytes a.0.items a.1 v is refused shown
-allowed_refusals c bytes (Failed e) h = tt
-
--- ---- no fault is allowed
-
-no_usage : (c : Command) (bytes text : List ℕ) → AllowedTo c bytes text Usage → ⊥
-no_usage Print bytes text a = a
-no_usage Run bytes text a = a
-
-no_read : (c : Command) (bytes text : List ℕ) → AllowedTo c bytes text ReadFault → ⊥
-no_read Print bytes text a = a
-no_read Run bytes text a = a
-
-no_write : (c : Command) (bytes text : List ℕ) → AllowedTo c bytes text WriteFault → ⊥
-no_write Print bytes text a = a
-no_write Run bytes text a = a
-
-no_memory : (c : Command) (bytes text : List ℕ) → AllowedTo c bytes text NoMemory → ⊥
-no_memory Print bytes text a = a
-no_memory Run bytes text a = a
-
+-- so it is no fault
 pub not_a_write_fault : (c : Command) (bytes text : List ℕ) (s : Status) → AllowedTo c bytes text s → s ≡ WriteFault → ⊥
-not_a_write_fault c bytes text s a e = no_write c bytes text (subst (λ k. AllowedTo c bytes text k) e a)
+not_a_write_fault c bytes text s a e = command_status c bytes text WriteFault (subst (λ k. AllowedTo c bytes text k) e a)
+
+pub not_a_read_fault : (c : Command) (bytes text : List ℕ) (s : Status) → AllowedTo c bytes text s → s ≡ ReadFault → ⊥
+not_a_read_fault c bytes text s a e = command_status c bytes text ReadFault (subst (λ k. AllowedTo c bytes text k) e a)
+
+-- an answer for which the whole input was read has bytes that are few enough
+pub reads_small : (bytes : List ℕ) (s : Status) → IsCommandStatus bytes s → ReadsAll s → length bytes ≤ limit
+reads_small bytes Ok small all = small
+reads_small bytes Budget small all = small
+reads_small bytes (Refused v) small all = small all
+reads_small bytes Usage small all = absurd small
+reads_small bytes ReadFault small all = absurd small
+reads_small bytes WriteFault small all = absurd small
+reads_small bytes NoMemory small all = absurd small
 
 -- what is allowed of a command is allowed of its words
 of_command : (words : List (List ℕ)) (c : Command) (bytes text : List ℕ) (s : Status) → IsCommand c words → AllowedTo c bytes text s → Allowed words bytes text s
 of_command words c bytes text Ok command a = (c, command, a)
 of_command words c bytes text (Refused v) command a = (c, command, a)
-of_command words c bytes text Usage command a = absurd (no_usage c bytes text a)
+of_command words c bytes text Usage command a = absurd (command_status c bytes text Usage a)
 of_command words c bytes text ReadFault command a = (c, command, a)
 of_command words c bytes text WriteFault command a = (c, command, a)
 of_command words c bytes text NoMemory command a = (c, command, a)
@@ -96,9 +68,9 @@ module _ (words : List (List ℕ)) (had left old new : Option (List ℕ)) where
   completed (Refused v) c = c
   completed Usage c = c
   completed Budget c = c
-  completed ReadFault c = let a = c.allowed in absurd (no_read a.0 c.bytes c.text a.2)
-  completed WriteFault c = let a = c.allowed in absurd (no_write a.0 c.bytes c.text a.2)
-  completed NoMemory c = let a = c.allowed in absurd (no_memory a.0 c.bytes c.text a.2)
+  completed ReadFault c = let a = c.allowed in absurd (command_status a.0 c.bytes c.text ReadFault a.2)
+  completed WriteFault c = let a = c.allowed in absurd (command_status a.0 c.bytes c.text WriteFault a.2)
+  completed NoMemory c = let a = c.allowed in absurd (command_status a.0 c.bytes c.text NoMemory a.2)
 
   -- what was written, whole or not, is answered
   answered : (bytes text : List ℕ) (s result : Status) → (HasCommand words → IsInput had left bytes) → Allowed words bytes text s → Written old new text s result → Answers words had left old new result
@@ -213,11 +185,3 @@ module _ (words : List (List ℕ)) (had left old new : Option (List ℕ)) where
       let k = c.allowed in
       let shown = verdict_text k.0 c.bytes c.text v k.2 in
       record { bytes = c.bytes; command = k.0; asked = k.1; input = c.input (k.0, k.1); refused = shown.1; written = subst (λ l. Appends old new l) shown.0 c.written }
-
-  -- a text that was written whole or not is not the answer of a fault of the source
-  pub no_read_fault : (c : Command) (bytes text : List ℕ) (s result : Status) → AllowedTo c bytes text s → Written old new text s result → result ≡ ReadFault → ⊥
-  no_read_fault c bytes text s result allowed written e =
-      ⊎_elim
-      (λ (w : (result ≡ s) × Appends old new text). no_read c bytes text (subst (λ k. AllowedTo c bytes text k) (sym w.0 ∙ e) allowed))
-      (λ (w : (result ≡ WriteFault) × IsCutShort old new text). let clash : WriteFault ≡ ReadFault = sym w.0 ∙ e in cc)
-      written

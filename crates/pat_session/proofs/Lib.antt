@@ -1,4 +1,4 @@
-pub mod Fronts
-pub mod Runs
-pub mod Allows
-pub mod Runnable
+mod Fronts
+mod Writing
+mod Allows
+mod Calls

@@ -10,11 +10,12 @@ use Rattle.pat_input.specs.Inputs.{IsInput}
 use Rattle.pat_front.specs.Lines.{line_of_verdict}
 use Rattle.pat_front.specs.Texts.{IsProgramText}
 use Rattle.pat_front.specs.declared.verdict.Verdict.{Verdict}
-use Rattle.pat_session.specs.declared.status.Status.{Status}
-use Rattle.pat_session.specs.declared.status.Status.TheVariants.{Ok, Refused, Usage, ReadFault, WriteFault, NoMemory, Budget}
+use Rattle.pat_answers.specs.declared.status.Status.{Status}
+use Rattle.pat_answers.specs.declared.status.Status.TheVariants.{Ok, Refused, Usage, ReadFault, WriteFault, NoMemory, Budget}
+use Rattle.pat_command_run.specs.Allowed.{RunShows}
 use Rattle.pat_session.specs.declared.words.Command.{Command}
 use Rattle.pat_session.specs.Ports.{IsCutShort}
-use Rattle.pat_session.specs.Allowed.{IsCommand, HasCommand, AllowedTo, Allowed, RunShows}
+use Rattle.pat_session.specs.Allowed.{IsCommand, HasCommand, AllowedTo, Allowed}
 
 -- the sink took all of a text that the words and the input allow with this status
 pub record Completes (words : List (List ℕ)) (had left old new : Option (List ℕ)) (status : Status) : Type 0 where

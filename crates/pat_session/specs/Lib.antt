@@ -1,4 +1,4 @@
-pub mod Statuses
 pub mod Ports
 pub mod Allowed
 pub mod Answers
+pub mod Calls

@@ -1,14 +1,18 @@
 // The top call.
-ghost use Rattle.std.specs.Prelude.{◌≡◌, ◌⊎◌, ℕ, List, map, string_bytes};
+ghost use Rattle.std.specs.Prelude.{◌≡◌, ◌≢◌, ◌⊎◌, ℕ, List, map, string_bytes};
 ghost use Rattle.pat_ports.specs.Causes.{Rose};
+ghost use Rattle.pat_ports.specs.Ends.{EndsOnce, EndsThere};
 ghost use Rattle.pat_front.specs.declared.verdict.Verdict.{Verdict};
 ghost use Rattle.pat_session.specs.Allowed.{IsCommand, HasCommand};
 ghost use Rattle.pat_session.specs.Answers.{Answers, IsAccepted, AcceptsSafe, ShowsRun, ShowsTree, ShowsVerdict};
+ghost use Rattle.pat_session.specs.Ports.{source_state, sink_state};
+ghost use Rattle.pat_session.specs.Calls.{Call, ReadsAll};
 
-use crate::answer::answer;
+use crate::Command;
+use crate::commands::answer_to;
 use crate::output::written;
 use crate::words::command_of;
-use crate::{Command, Status};
+use pat_answers::Status;
 use pat_input::{InputError, read_tokens};
 use pat_ports::{Gate, Sink, Source};
 use std::alloc::{AllocError, Global};
@@ -27,12 +31,19 @@ pub fn pat<S: Source, K: Sink, G: Gate>(
     ensures usage { result ≡ Status.Usage → HasCommand (map string_bytes words.now) → ⊥ }
     ensures no_command { (HasCommand (map string_bytes words.now) → ⊥) → ((result ≡ Status.Usage) ⊎ (result ≡ Status.WriteFault)) × (source.new ≡ source.old) }
 
-    // A fault comes only where its count rose in this call.
+    // A fault comes only where its count rose in this call, and no other answer where one was counted.
     ensures read_fault { result ≡ Status.ReadFault → Rose (S.faults source.old) (S.faults source.new) }
     ensures write_fault { result ≡ Status.WriteFault → Rose (K.faults sink.old) (K.faults sink.new) }
+    ensures no_read_fault { result ≢ Status.ReadFault → S.faults source.new ≡ S.faults source.old }
+    ensures no_write_fault { result ≢ Status.WriteFault → K.faults sink.new ≡ K.faults sink.old }
 
-    // What was read and what was written, for each answer.
+    // Nothing is read after the end of the input, and all that is before it, unless it is too long.
+    ensures one_end { EndsOnce (S.reach source.old) (S.reach source.new) }
+    ensures end { ReadsAll result → EndsThere (S.reach source.old) (S.reach source.new) }
+
+    // What was read and what was written, for each answer; the same of what the sink handed over.
     ensures output { Answers (map string_bytes words.now) (S.rest source.old) (S.rest source.new) (K.taken sink.old) (K.taken sink.new) result }
+    ensures handed { result ≢ Status.WriteFault → Answers (map string_bytes words.now) (S.rest source.old) (S.rest source.new) (K.handed sink.old) (K.handed sink.new) result }
 
     // What that says of the program that was read, of its run, and of its canonical text.
     ensures accepted_is_safe { IsCommand Command.Run (map string_bytes words.now) → IsAccepted result → AcceptsSafe (S.rest source.old) (S.rest source.new) }
@@ -45,6 +56,7 @@ pub fn pat<S: Source, K: Sink, G: Gate>(
     respond(alloc, words, source, sink)
 }
 
+// Usage, or what the command comes to.
 fn respond<S: Source, K: Sink>(
     alloc: Global,
     words: &[String],
@@ -52,9 +64,7 @@ fn respond<S: Source, K: Sink>(
     sink: &mut K,
 ) -> Status
     ensures no_command { (HasCommand (map string_bytes words.now) → ⊥) → ((result ≡ Status.Usage) ⊎ (result ≡ Status.WriteFault)) × (source.new ≡ source.old) }
-    ensures read_fault { result ≡ Status.ReadFault → Rose (S.faults source.old) (S.faults source.new) }
-    ensures write_fault { result ≡ Status.WriteFault → Rose (K.faults sink.old) (K.faults sink.new) }
-    ensures output { Answers (map string_bytes words.now) (S.rest source.old) (S.rest source.new) (K.taken sink.old) (K.taken sink.new) result }
+    ensures call { Call (map string_bytes words.now) (source_state S.rest S.faults S.reach source.old) (source_state S.rest S.faults S.reach source.new) (sink_state K.taken K.handed K.faults sink.old) (sink_state K.taken K.handed K.faults sink.new) result }
 {
     match command_of(words) {
         Some(command) => obey(alloc, command, source, sink),
@@ -64,17 +74,15 @@ fn respond<S: Source, K: Sink>(
 
 // Does what a command asks.
 fn obey<S: Source, K: Sink>(alloc: Global, command: Command, source: &mut S, sink: &mut K) -> Status
-    ensures read_fault { result ≡ Status.ReadFault → Rose (S.faults source.old) (S.faults source.new) }
-    ensures write_fault { result ≡ Status.WriteFault → Rose (K.faults sink.old) (K.faults sink.new) }
-    ensures output { (words : List (List ℕ)) → IsCommand command words → Answers words (S.rest source.old) (S.rest source.new) (K.taken sink.old) (K.taken sink.new) result }
+    ensures { (words : List (List ℕ)) → IsCommand command words → Call words (source_state S.rest S.faults S.reach source.old) (source_state S.rest S.faults S.reach source.new) (sink_state K.taken K.handed K.faults sink.old) (sink_state K.taken K.handed K.faults sink.new) result }
 {
     let input = match read_tokens(alloc, source) {
         Ok(input) => input,
         Err(InputError::Failed) => return Status::ReadFault,
         Err(InputError::NoMemory) => return Status::NoMemory,
     };
-    match answer(alloc, command, input) {
-        Ok((text, status)) => written(sink, text.as_slice(), status),
+    match answer_to(alloc, command, input) {
+        Ok(answer) => written(sink, answer.text.as_slice(), answer.status),
         Err(AllocError) => Status::NoMemory,
     }
 }

@@ -1,0 +1,28 @@
+-- What every command may answer, whichever it is.
+use Rattle.std.specs.Prelude.{◌≡◌, ◌≢◌, ◌≤◌, ℕ, List, length}
+use Rattle.pat_input.specs.Inputs.{limit}
+use Rattle.pat_front.specs.Lines.{line_of_verdict}
+use Rattle.pat_front.specs.Texts.{IsRefusal}
+use Rattle.pat_front.specs.declared.verdict.Verdict.{Verdict}
+use Rattle.pat_front.specs.declared.verdict.Verdict.TheVariants.{TooLong}
+use Rattle.pat_answers.specs.declared.status.Status.{Status}
+use Rattle.pat_answers.specs.declared.status.Status.TheVariants.{Ok, Refused, Usage, ReadFault, WriteFault, NoMemory, Budget}
+
+-- the text is the line of the verdict, and the status its refusal
+abbrev pub SaysVerdict : Verdict → List ℕ → Status → Type 0
+SaysVerdict v text status = (status ≡ Refused v) × (text ≡ line_of_verdict v)
+
+-- the text and the status refuse the bytes by a verdict that they deserve
+abbrev pub Refuses : List ℕ → List ℕ → Status → Type 0
+Refuses bytes text status = (v : Verdict) × IsRefusal bytes v × SaysVerdict v text status
+
+-- a status that a command may answer on these bytes: no fault, no want of memory, and only a verdict on their number where
+-- they are too many
+abbrev pub IsCommandStatus : List ℕ → Status → Type 0
+IsCommandStatus bytes Ok = length bytes ≤ limit
+IsCommandStatus bytes Budget = length bytes ≤ limit
+IsCommandStatus bytes (Refused v) = v ≢ TooLong → length bytes ≤ limit
+IsCommandStatus bytes Usage = ⊥
+IsCommandStatus bytes ReadFault = ⊥
+IsCommandStatus bytes WriteFault = ⊥
+IsCommandStatus bytes NoMemory = ⊥

@@ -1,0 +1,37 @@
+// What a call answers.
+ghost use Rattle.std.specs.Prelude.{◌≡◌};
+ghost use Rattle.pat_answers.specs.Statuses.{status_code};
+
+use pat_front::Verdict;
+
+/// What a call of `pat` came to.
+#[derive(Clone, Copy, Debug, PartialEq, Eq)]
+pub enum Status {
+    /// It did its work; a run is done.
+    Ok,
+    Refused(Verdict),
+    /// The words are no command.
+    Usage,
+    ReadFault,
+    WriteFault,
+    NoMemory,
+    /// The steps of a run are spent.
+    Budget,
+}
+
+impl Status {
+    /// The exit status.
+    pub fn code(&self) -> u8
+        ensures { result ≡ status_code self.now }
+    {
+        match self {
+            Status::Ok => 0,
+            Status::Refused(_) => 1,
+            Status::Usage => 2,
+            Status::ReadFault => 3,
+            Status::WriteFault => 4,
+            Status::NoMemory => 5,
+            Status::Budget => 6,
+        }
+    }
+}

@@ -1,0 +1,3 @@
+mod Refusals
+-- for the crates above
+pub mod Statuses

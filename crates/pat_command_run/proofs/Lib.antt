@@ -1,0 +1,5 @@
+mod Runs
+mod Answering
+mod Runnable
+-- for the crates above
+pub mod Statuses

@@ -1,0 +1,93 @@
+-- What a call comes to, for each way in which it ends.
+use Rattle.std.proofs.Common.{◌≡◌, ◌+◌, ◌≤◌, ◌<◌, ℕ, List, length, Option, Some, None, refl, sym, ap, ◌∙◌, subst, inl, inr, ⊎_elim, ◌⊎◌, arith}
+use Rattle.std.specs.Prelude.{◌≢◌}
+use Rattle.std.specs.Io.KnownBytes.{Appends, Keeps}
+use Rattle.pat_ports.specs.Causes.{Raised, Rose}
+use Rattle.pat_ports.specs.Ends.{EndsOnce, EndsThere}
+use Rattle.pat_ports.specs.declared.reach.Reach.{Reach}
+use Rattle.pat_ports.specs.declared.reach.Reach.TheVariants.{Before, Past}
+use Rattle.pat_input.specs.Inputs.{IsInput, IsRead, limit}
+use Rattle.pat_input.specs.declared.reading.Input.{Input}
+use Rattle.pat_input.specs.declared.reading.Input.TheVariants.{TooLong}
+use Rattle.pat_answers.specs.declared.status.Status.{Status}
+use Rattle.pat_answers.specs.declared.status.Status.TheVariants.{Usage, ReadFault, WriteFault, NoMemory}
+use Rattle.pat_session.specs.declared.words.Command.{Command}
+use Rattle.pat_session.specs.Ports.{SourceState, SinkState, IsCutShort, Answered, Writes}
+use Rattle.pat_session.specs.Allowed.{IsCommand, HasCommand, AllowedTo, usage_line}
+use Rattle.pat_session.specs.Answers.{Answers}
+use Rattle.pat_session.specs.Calls.{Call, ReadsAll}
+use Rattle.pat_session.proofs.Allows.{command_status, not_a_read_fault, reads_small, answered_command, answered_usage}
+
+pub raised_rose : (before now : ℕ) → Raised before now → Rose before now
+raised_rose before now r = ⊎_elim (λ (more : now ≡ before + 1). inl (omega (arith, more))) (λ full. inr full.0) r
+
+keeps : (o : Option (List ℕ)) → Keeps o o
+keeps None = tt
+keeps (Some xs) = refl
+
+none_read : (o : Option Reach) → EndsOnce o o
+none_read o = λ before past. let clash = sym before ∙ past in cc
+
+-- an input that isn't too long
+pub small_input : (bytes : List ℕ) (input : Input) → IsRead bytes input → length bytes ≤ limit → input ≡ TooLong → ⊥
+small_input bytes input read small is = let long = subst (IsRead bytes) is read in absurd (omega (arith, long, small))
+
+module _ (words : List (List ℕ)) (had left : SourceState) where
+  -- a read that failed
+  pub call_read_fault : (sink : SinkState) → Raised had.faults left.faults → EndsOnce had.reach left.reach → Call words had left sink sink ReadFault
+  call_read_fault sink more once = record {
+    output = keeps sink.taken;
+    handed = λ _. keeps sink.handed;
+    read = record { failed = λ _. more; unfailed = λ other. absurd (other refl) };
+    write = record { failed = λ e. let clash : ReadFault ≡ WriteFault = e in cc; unfailed = λ _. refl };
+    one_end = once;
+    end = λ all. absurd all;
+  }
+
+  -- want of memory
+  pub call_no_memory : (sink : SinkState) → left.faults ≡ had.faults → EndsOnce had.reach left.reach → Call words had left sink sink NoMemory
+  call_no_memory sink same once = record {
+    output = keeps sink.taken;
+    handed = λ _. keeps sink.handed;
+    read = record { failed = λ e. let clash : NoMemory ≡ ReadFault = e in cc; unfailed = λ _. same };
+    write = record { failed = λ e. let clash : NoMemory ≡ WriteFault = e in cc; unfailed = λ _. refl };
+    one_end = once;
+    end = λ all. absurd all;
+  }
+
+  module _ (old new : SinkState) (text : List ℕ) (status result : Status) (wrote : Writes old new text status result) where
+    -- what was written whole has its status
+    same_status : result ≢ WriteFault → result ≡ status
+    same_status other =
+        ⊎_elim
+        (λ (w : (result ≡ status) × Appends old.taken new.taken text). w.0)
+        (λ (w : (result ≡ WriteFault) × IsCutShort old.taken new.taken text). absurd (other w.0))
+        wrote.written
+
+    not_read : status ≢ ReadFault → result ≢ ReadFault
+    not_read other e = other (sym (same_status (λ w. let clash : ReadFault ≡ WriteFault = sym e ∙ w in cc)) ∙ e)
+
+    reads_as : ReadsAll result → ReadsAll status
+    reads_as all = subst ReadsAll (same_status (λ w. let none : ReadsAll WriteFault = subst ReadsAll w all in absurd none)) all
+
+    -- what a command answers
+    pub call_command : (c : Command) (bytes : List ℕ) → IsInput had.rest left.rest bytes → AllowedTo c bytes text status → left.faults ≡ had.faults → EndsOnce had.reach left.reach → (length bytes ≤ limit → EndsThere had.reach left.reach) → IsCommand c words → Call words had left old new result
+    call_command c bytes input allowed same once there command = record {
+      output = answered_command words had.rest left.rest old.taken new.taken c bytes text status result input allowed wrote.written command;
+      handed = λ other. answered_command words had.rest left.rest old.handed new.handed c bytes text status result input allowed (inl (same_status other, wrote.handed other)) command;
+      read = record { failed = λ e. absurd (not_read (not_a_read_fault c bytes text status allowed) e); unfailed = λ _. same };
+      write = wrote.faults;
+      one_end = once;
+      end = λ all. there (reads_small bytes status (command_status c bytes text status allowed) (reads_as all));
+    }
+
+-- usage
+pub call_usage : (words : List (List ℕ)) (source : SourceState) (old new : SinkState) (result : Status) → (HasCommand words → ⊥) → Writes old new usage_line Usage result → Call words source source old new result
+call_usage words source old new result none wrote = record {
+  output = answered_usage words source.rest source.rest old.taken new.taken result none wrote.written;
+  handed = λ other. answered_usage words source.rest source.rest old.handed new.handed result none (inl (same_status words source source old new usage_line Usage result wrote other, wrote.handed other));
+  read = record { failed = λ e. absurd (not_read words source source old new usage_line Usage result wrote (λ u. let clash : Usage ≡ ReadFault = u in cc) e); unfailed = λ _. refl };
+  write = wrote.faults;
+  one_end = none_read source.reach;
+  end = λ all. let usage : ReadsAll Usage = reads_as words source source old new usage_line Usage result wrote all in absurd usage;
+}
