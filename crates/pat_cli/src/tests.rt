@@ -2,10 +2,10 @@ ghost use Rattle.std.specs.Prelude.{◌<◌};
 
 use super::pat;
 use super::texts::TEXTS;
+use pat_answers::Status;
 use pat_front::Verdict;
 use pat_ports::{MemSink, MemSource, OpenGate};
 use pat_resolver_answers::ResolveKind;
-use pat_session::Status;
 use pat_syntax::Span;
 use std::alloc::{AllocError, Global};
 use std::process::Abort;
