@@ -1,6 +1,5 @@
 -- The canonical text of a tree is that of the tree without its places.
-use Rattle.std.proofs.Common.{◌≡◌, ℕ, Bool, true, false, List, [], ◌∷◌, map, Option, Some, None, refl, sym, ap, ◌∙◌, subst}
-use Rattle.std.specs.Prelude.{option_map}
+use Rattle.std.proofs.Common.{◌≡◌, ℕ, Bool, true, false, List, [], ◌∷◌, map, Some, None, refl, sym, ap, ◌∙◌, subst}
 use Rattle.pat_lexical.specs.Words as word
 use Rattle.pat_lexical.specs.Marks as mark
 use Rattle.pat_lexical.specs.Tokens.{Mark, Spanned}

@@ -7,7 +7,8 @@ use Rattle.std.proofs.lemmas.Option.{slice_get_within}
 use Rattle.pat_words.specs.Patterns.{is_closed}
 use Rattle.pat_model.specs.Values.{Base, BaseUnit, BaseBool, BaseInt, BaseText, Kind, Plain, MailboxOf, Op, Add, Sub, Mul, Equal, Less, occurs}
 use Rattle.pat_model.specs.Programs.{is_among}
-use Rattle.pat_model.specs.WellFormed.{op_kind, expr_kind, HaveKinds, IsPrintable, tags_below}
+use Rattle.pat_model.specs.WellFormed.{op_kind, expr_kind, HaveKinds, IsPrintable}
+use Rattle.pat_words.specs.Tags.{tags_below}
 use Rattle.pat_grammar.specs.Trees as tree
 use Rattle.pat_names.specs.Scopes.{first_named, itself, number_found, Variable, Scope, variable_of, known_kind, op_gives, kind_of_expr, expr_at, base_eq, kind_eq, is_shown}
 use Rattle.pat_names.specs.Heads.{pattern_of}

@@ -5,7 +5,7 @@
 ghost use Rattle.std.specs.Prelude.{◌≡◌, ℕ, List, ◌++◌, ◌∷◌, [], length, slice_index_or, IsTrue, IfOk, OnOk};
 ghost use Rattle.std.specs.Fmt.{decimal};
 ghost use Rattle.pat_words.specs.Patterns.{Pat, is_closed};
-ghost use Rattle.pat_model.specs.WellFormed.{tags_below};
+ghost use Rattle.pat_words.specs.Tags.{tags_below};
 ghost use Rattle.pat_patterns.specs.Views.{pattern_view};
 ghost use Rattle.pat_core.specs.Views.{interface_view};
 ghost use Rattle.pat_canonical.specs.Canonical.{pattern_onto};

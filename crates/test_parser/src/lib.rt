@@ -36,13 +36,14 @@ def client(): Unit {
 def main(): Unit { client() }
 ";
 
-/// Parts one behind the other, each so many times over.
-pub fn text_of(alloc: Global, parts: &[(&str, usize)]) -> Result<Vec<u8>, AllocError> {
-    let mut text = Vec::new(alloc);
-    for (part, times) in parts {
-        append(&mut text, part, *times)?;
-    }
-    Ok(text)
+/// Puts a beginning behind a text, a part so many times, a middle, another part as often, and an end.
+pub fn grow(text: &mut Vec<u8>, parts: [&str; 5], times: usize) -> Result<(), AllocError> {
+    let [begin, part, middle, closing, end] = parts;
+    append(text, begin, 1)?;
+    append(text, part, times)?;
+    append(text, middle, 1)?;
+    append(text, closing, times)?;
+    append(text, end, 1)
 }
 
 /// Puts a part behind a text, so many times over.

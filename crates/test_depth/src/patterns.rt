@@ -1,10 +1,15 @@
-//! Runs each call on patterns at the greatest depth and size that any may have, on main's own stack.
-#![tactic(auto)]
+// Patterns of 16,384 levels: each call on them, and their texts.
+ghost use Rattle.std.specs.Prelude.{◌≡◌, length, IsTrue, IfOk};
+ghost use Rattle.pat_words.specs.Tags.{tags_below};
+ghost use Rattle.pat_patterns.specs.Views.{pattern_view};
 
 use pat_bags::Bag;
+use pat_core::{Interface, TagDecl};
 use pat_membership::member;
 use pat_patterns::{Pattern, has_values, levels, size, subst};
+use pat_print_patterns::pattern_text;
 use pat_residuals::{covers, degree, inhabited, is_flat, nullable, residual};
+use pat_sequences::{Sequence, Text};
 use std::alloc::{AllocError, Global};
 use std::io;
 
@@ -20,16 +25,22 @@ enum Shape {
 }
 
 /// A pattern that goes on in the same way so many times, down to the last part.
-fn deep(alloc: Global, shape: Shape, times: u32, last: Pattern) -> Result<Pattern, AllocError> {
+fn deep(alloc: Global, shape: Shape, times: u32, last: Pattern) -> Result<Pattern, AllocError>
+    requires { IsTrue (tags_below 2 (pattern_view last)) }
+    ensures { IfOk result (λ p. IsTrue (tags_below 2 (pattern_view p))) }
+{
     let mut p = last;
-    for _ in 0..times {
+    'levels: for _ in 0..times {
         p = grown(alloc, shape, p)?;
     }
     Ok(p)
 }
 
 /// The pattern at one level more.
-fn grown(alloc: Global, shape: Shape, p: Pattern) -> Result<Pattern, AllocError> {
+fn grown(alloc: Global, shape: Shape, p: Pattern) -> Result<Pattern, AllocError>
+    requires { IsTrue (tags_below 2 (pattern_view p)) }
+    ensures { IfOk result (λ q. IsTrue (tags_below 2 (pattern_view q))) }
+{
     let one = Box::new(alloc, Pattern::One)?;
     let tag = Box::new(alloc, Pattern::Tag(1))?;
     let part = Box::new(alloc, p)?;
@@ -68,8 +79,33 @@ fn subst_all(
     Ok(Some(closed))
 }
 
-/// What each call says of a deep pattern.
-fn show(rt: &impl Print, alloc: Global, shape: Shape, times: u32) -> io::Result<()> {
+/// An interface of two tags.
+fn two_tags(alloc: Global) -> Result<Interface, AllocError>
+    ensures { IfOk result (λ i. length i.tags ≡ 2) }
+{
+    let mut tags = Sequence::new(alloc);
+    for name in [b"a", b"b"] {
+        tags.push(TagDecl {
+            name: Text::from_slice(alloc, name)?,
+            payloads: Sequence::new(alloc),
+        })?;
+    }
+    Ok(Interface {
+        name: Text::from_slice(alloc, b"I")?,
+        tags,
+    })
+}
+
+/// What each call says of a deep pattern, and how long its text is.
+fn show(
+    rt: &impl Print,
+    alloc: Global,
+    interface: &Interface,
+    shape: Shape,
+    times: u32,
+) -> io::Result<()>
+    requires { length interface.now.tags ≡ 2 }
+{
     let p = deep(alloc, shape, times, Pattern::Tag(0))?;
     println!(rt;
         "size {} levels {} degree {}",
@@ -89,6 +125,8 @@ fn show(rt: &impl Print, alloc: Global, shape: Shape, times: u32) -> io::Result<
     let rest = residual(alloc, &p, rest_tag(shape))?;
     println!(rt; "residual size {} levels {}", size(&rest), levels(&rest))?;
     println!(rt; "member {}", member(alloc, &p, &Bag::one(0))?)?;
+    let text = pattern_text(alloc, &p, interface)?;
+    println!(rt; "text {} bytes", text.len())?;
     show_subst(rt, alloc, shape, times)
 }
 
@@ -114,8 +152,9 @@ fn rest_tag(shape: Shape) -> u8 {
     }
 }
 
-fn main(rt: HostRuntime) -> io::Result<()> {
-    show(&rt, rt.alloc(), Shape::Products, 16382)?;
-    show(&rt, rt.alloc(), Shape::Sums, 16382)?;
-    show(&rt, rt.alloc(), Shape::Stars, 16383)
+pub fn show_all(rt: &impl Print, alloc: Global) -> io::Result<()> {
+    let interface = two_tags(alloc)?;
+    show(rt, alloc, &interface, Shape::Products, 16382)?;
+    show(rt, alloc, &interface, Shape::Sums, 16382)?;
+    show(rt, alloc, &interface, Shape::Stars, 16383)
 }

@@ -1,0 +1,12 @@
+//! Programs and patterns at the greatest depth and length that any may have, and a step beyond, on main's own stack.
+#![tactic(auto)]
+
+mod patterns;
+mod texts;
+
+use std::io;
+
+fn main(rt: HostRuntime) -> io::Result<()> {
+    texts::show_all(&rt, rt.alloc())?;
+    patterns::show_all(&rt, rt.alloc())
+}
