@@ -1,6 +1,5 @@
 mod Spellings
 mod ByClass
-
 -- for the crates above
 pub mod Runs
 pub mod Numbers
