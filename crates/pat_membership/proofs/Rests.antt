@@ -7,7 +7,8 @@ use Rattle.pat_words.specs.Patterns.{Language}
 use Rattle.pat_words.proofs.WordLaws.{word_ext, count_eq, none_plus}
 use Rattle.pat_bags.specs.declared.Bag.{Bag}
 use Rattle.pat_bags.specs.Views.{word_of}
-use Rattle.pat_membership.specs.Listings.{HasWord, Only, SumOf, Within, multiple, Reached, EitherOf}
+use Rattle.pat_membership.specs.Listings.{HasWord, Only, Within, multiple, Reached}
+use Rattle.pat_words.specs.Languages.{SumOf, EitherOf}
 
 -- the two sets have the same words
 abbrev pub Same : Language → Language → Type 0

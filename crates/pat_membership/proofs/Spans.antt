@@ -7,7 +7,8 @@ use Rattle.pat_words.proofs.WordLaws.{count_eq, plus_assoc, none_plus, plus_swap
 use Rattle.pat_words.proofs.FormLaws.{times_mono}
 use Rattle.pat_bags.specs.declared.Bag.{Bag}
 use Rattle.pat_bags.specs.Views.{word_of}
-use Rattle.pat_membership.specs.Listings.{HasWord, Only, Within, multiple, Reached, FiniteSum, ListsWords, PutsWords, JoinsOne}
+use Rattle.pat_membership.specs.Listings.{HasWord, Only, Within, multiple, Reached, ListsWords, PutsWords, JoinsOne}
+use Rattle.pat_words.specs.Languages.{StarOf}
 use Rattle.pat_membership.proofs.Rests.{Same}
 
 -- w is a word of the set and a multiple of each bag's word
@@ -64,17 +65,17 @@ turn_empty limit words b bs T none inv w = (
       (h.0, subst (Spanned (HasWord words) bs) (sym same) s.2),
 )
 
-more_times : (L : Language) (u : Word) → L u → (k n : ℕ) (w : Word) → Times n L w → FiniteSum L (plus (multiple k u) w)
+more_times : (L : Language) (u : Word) → L u → (k n : ℕ) (w : Word) → Times n L w → StarOf L (plus (multiple k u) w)
 more_times L u h zero n w t = (n, subst (Times n L) (sym (none_plus w)) t)
 more_times L u h (suc k) n w t =
     let r = more_times L u h k n w t in (suc r.0, (u, plus (multiple k u) w, h, r.1, plus_assoc u (multiple k u) w))
 
 -- sums of multiples are finite sums
-pub span_sum : (bs : List Bag) (w : Word) → Spanned (Only no_word) bs w → FiniteSum (HasWord bs) w
+pub span_sum : (bs : List Bag) (w : Word) → Spanned (Only no_word) bs w → StarOf (HasWord bs) w
 span_sum [] w h = (0, sym h)
 span_sum (b ∷ bs) w h =
     let r = span_sum bs h.1 h.2 in
-    subst (FiniteSum (HasWord (b ∷ bs))) (sym h.3)
+    subst (StarOf (HasWord (b ∷ bs))) (sym h.3)
     (more_times (HasWord (b ∷ bs)) (word_of b) (inl refl) h.0 r.0 h.1
     (times_mono (HasWord bs) (HasWord (b ∷ bs)) (λ x k. inr k) r.0 h.1 r.1))
 
@@ -96,7 +97,7 @@ sum_times bs (suc n) w h =
     subst (Spanned (Only no_word) bs) (sym h.4) (span_add (Only no_word) bs h.0 h.1 h.2 (sum_times bs n h.1 h.3))
 
 -- before the first turn
-pub span_begun : (limit : Word) (words bs : List Bag) → Same (HasWord words) (Only no_word) → Same (Within limit (Spanned (HasWord words) bs)) (Within limit (FiniteSum (HasWord bs)))
+pub span_begun : (limit : Word) (words bs : List Bag) → Same (HasWord words) (Only no_word) → Same (Within limit (Spanned (HasWord words) bs)) (Within limit (StarOf (HasWord bs)))
 span_begun limit words bs first w = (
   λ h. (h.0, span_sum bs w (span_mono (HasWord words) (Only no_word) (λ x. (first x).0) bs w h.1)),
   λ h. (h.0, span_mono (Only no_word) (HasWord words) (λ x. (first x).1) bs w (sum_times bs h.1.0 w h.1.1)),
@@ -114,7 +115,7 @@ times_inside limit e part l (suc n) w lies h = (
   h.4,
 )
 
-pub lists_star : (e : Pat) (limit : Word) (part words : List Bag) → ListsWords part e limit → Same (HasWord words) (Within limit (FiniteSum (HasWord part))) → ListsWords words (Star e) limit
+pub lists_star : (e : Pat) (limit : Word) (part words : List Bag) → ListsWords part e limit → Same (HasWord words) (Within limit (StarOf (HasWord part))) → ListsWords words (Star e) limit
 lists_star e limit part words l all w = (
   λ h. let p = (all w).0 h in
       (p.0, (p.1.0, times_mono (HasWord part) (In e) (λ x k. ((l x).0 k).1) p.1.0 w p.1.1)),
@@ -123,9 +124,9 @@ lists_star e limit part words l all w = (
 
 -- ---- lists on a stack
 
-pub puts_star : (e : Pat) (limit : Word) (old d1 new : List (List Bag)) → PutsWords old d1 e limit → JoinsOne (λ L. Within limit (FiniteSum L)) d1 new → PutsWords old new (Star e) limit
+pub puts_star : (e : Pat) (limit : Word) (old d1 new : List (List Bag)) → PutsWords old d1 e limit → JoinsOne (λ L. Within limit (StarOf L)) d1 new → PutsWords old new (Star e) limit
 puts_star e limit old d1 new a j =
-    let k = subst (λ d. JoinsOne (λ L. Within limit (FiniteSum L)) d new) a.1 j in
+    let k = subst (λ d. JoinsOne (λ L. Within limit (StarOf L)) d new) a.1 j in
     (k.0, k.1, lists_star e limit a.0 k.0 a.2 k.2)
 
 -- ---- the beginning and the end of the loop over the steps

@@ -1,7 +1,8 @@
 -- Lists of bags, seen as sets of words.
 use Rattle.std.specs.Prelude.{◌≡◌, ℕ, zero, suc, List, [], ◌∷◌, ◌⊎◌, ◌↔◌}
 use Rattle.pat_words.specs.Words.{Word, no_word, plus, LiesIn}
-use Rattle.pat_words.specs.Patterns.{Pat, Sum, Prod, Star, Language, Times, In}
+use Rattle.pat_words.specs.Patterns.{Pat, Sum, Prod, Star, Language, In}
+use Rattle.pat_words.specs.Languages.{EitherOf, SumOf, StarOf}
 use Rattle.pat_bags.specs.declared.Bag.{Bag}
 use Rattle.pat_bags.specs.Views.{word_of}
 
@@ -13,10 +14,6 @@ HasWord (b ∷ bs) w = (word_of b ≡ w) ⊎ HasWord bs w
 -- just this word
 abbrev pub Only : Word → Language
 Only u w = u ≡ w
-
--- w is a word of the one set and a word of the other together
-abbrev pub SumOf : Language → Language → Word → Type 0
-SumOf L M w = (u v : Word) × L u × M v × (w ≡ plus u v)
 
 -- a word that lies in the limit, and is in the set
 abbrev pub Within : Word → Language → Word → Type 0
@@ -30,10 +27,6 @@ multiple (suc n) u = plus u (multiple n u)
 -- w is a word of the set and some times the step
 abbrev pub Reached : Language → Word → Word → Type 0
 Reached L step w = (n : ℕ) × (s : Word) × L s × (w ≡ plus (multiple n step) s)
-
--- a finite sum of words of the set
-abbrev pub FiniteSum : Language → Word → Type 0
-FiniteSum L w = (n : ℕ) × Times n L w
 
 -- the list has just the words of the pattern that lie in the limit
 abbrev pub ListsWords : List Bag → Pat → Word → Type 0
@@ -55,10 +48,6 @@ JoinsOne make (part ∷ rest) new =
     (words : List Bag) × (new ≡ words ∷ rest) × ((w : Word) → HasWord words w ↔ make (HasWord part) w)
 JoinsOne make _ new = ⊥
 
--- the words of either set
-abbrev pub EitherOf : Language → Language → Language
-EitherOf L M w = L w ⊎ M w
-
 -- how many parts the pattern has
 abbrev pub parts_of : Pat → ℕ
 parts_of (Sum e f) = 2
@@ -70,5 +59,5 @@ parts_of _ = 0
 abbrev pub JoinsParts : Pat → Word → List (List Bag) → List (List Bag) → Type 0
 JoinsParts (Sum e f) limit old new = JoinsTwo EitherOf old new
 JoinsParts (Prod e f) limit old new = JoinsTwo (λ L M. Within limit (SumOf L M)) old new
-JoinsParts (Star e) limit old new = JoinsOne (λ L. Within limit (FiniteSum L)) old new
+JoinsParts (Star e) limit old new = JoinsOne (λ L. Within limit (StarOf L)) old new
 JoinsParts e limit old new = PutsWords old new e limit

@@ -4,7 +4,8 @@ ghost use Rattle.pat_words.specs.Words.{Word};
 ghost use Rattle.pat_words.specs.Patterns.{In, Pat};
 ghost use Rattle.pat_bags.specs.Views.{word_of};
 ghost use Rattle.pat_patterns.specs.Views.{pattern_view};
-ghost use Rattle.pat_membership.specs.Listings.{ListsWords, PutsWords, JoinsTwo, JoinsOne, JoinsParts, parts_of, EitherOf, SumOf, Within, FiniteSum};
+ghost use Rattle.pat_membership.specs.Listings.{ListsWords, PutsWords, JoinsTwo, JoinsOne, JoinsParts, parts_of, Within};
+ghost use Rattle.pat_words.specs.Languages.{EitherOf, SumOf, StarOf};
 
 use crate::word_lists::{finite_sums, holds, push_all, sums};
 use pat_bags::Bag;
@@ -143,7 +144,7 @@ fn join_product(
 
 fn join_star(alloc: Global, limit: &Bag, done: &mut Stack<Sequence<Bag>>) -> Result<(), AllocError>
     requires { 1 ≤ length done.old }
-    ensures { OnOk result (JoinsOne (λ L. Within (word_of limit.now) (FiniteSum L)) done.old done.new) }
+    ensures { OnOk result (JoinsOne (λ L. Within (word_of limit.now) (StarOf L)) done.old done.new) }
 {
     let part = take_words(done);
     let words = finite_sums(alloc, part.as_slice(), limit)?;

@@ -2,7 +2,8 @@
 ghost use Rattle.std.specs.Prelude.{◌≢◌, ◌≡◌, ◌⊎◌, ◌↔◌, IsTrue, IfOk, OnOk};
 ghost use Rattle.pat_words.specs.Words.{Word, no_word, LiesIn};
 ghost use Rattle.pat_bags.specs.Views.{word_of};
-ghost use Rattle.pat_membership.specs.Listings.{HasWord, Only, SumOf, Within, Reached, FiniteSum};
+ghost use Rattle.pat_membership.specs.Listings.{HasWord, Only, Within, Reached};
+ghost use Rattle.pat_words.specs.Languages.{SumOf, StarOf};
 
 use pat_bags::Bag;
 use pat_sequences::Sequence;
@@ -117,7 +118,7 @@ fn with_steps(
 
 /// The finite sums of words of the list that lie in the limit.
 pub fn finite_sums(alloc: Global, steps: &[Bag], limit: &Bag) -> Result<Sequence<Bag>, AllocError>
-    ensures { IfOk result (λ words. (w : Word) → HasWord words w ↔ Within (word_of limit.now) (FiniteSum (HasWord steps.now)) w) }
+    ensures { IfOk result (λ words. (w : Word) → HasWord words w ↔ Within (word_of limit.now) (StarOf (HasWord steps.now)) w) }
 {
     let mut words = Sequence::new(alloc);
     words.push(Bag::empty())?;

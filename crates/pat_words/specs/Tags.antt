@@ -1,6 +1,11 @@
--- Which tags a pattern has.
-use Rattle.std.specs.Prelude.{ℕ, Bool, true, ◌&&◌, nat_lt}
+-- Which tags words and patterns have.
+use Rattle.std.specs.Prelude.{◌≡◌, ℕ, ◌≤◌, Bool, true, ◌&&◌, nat_lt}
+use Rattle.pat_words.specs.Words.{Word}
 use Rattle.pat_words.specs.Patterns.{Pat, Tag, Sum, Prod, Star}
+
+-- the word has none of the tags from n on
+abbrev pub HasTagsBelow : ℕ → Word → Type 0
+HasTagsBelow n w = (t : ℕ) → n ≤ t → w t ≡ 0
 
 -- the tags in the pattern are below this number
 abbrev pub tags_below : ℕ → Pat → Bool

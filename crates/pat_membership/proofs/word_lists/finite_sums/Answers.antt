@@ -1,6 +1,7 @@
 use Rattle.std.proofs.Common.{◌+◌, drop, get_or, sym, subst}
 use Rattle.pat_bags.specs.Views.{word_of}
-use Rattle.pat_membership.specs.Listings.{HasWord, FiniteSum, Reached, Within}
+use Rattle.pat_membership.specs.Listings.{HasWord, Reached, Within}
+use Rattle.pat_words.specs.Languages.{StarOf}
 use Rattle.pat_membership.proofs.Rests.{Same, drop_more, nowhere}
 use Rattle.pat_membership.proofs.Spans.{Spanned, span_begun, turn_step, turn_empty, single, none_lies, spans_left}
 use Rattle.pat_membership.proofs.word_lists.finite_sums.Goals as goal
@@ -24,7 +25,7 @@ loop-step-preserved c =
     let i = c.loop-step.step-index in
     let b = get_or steps i nowhere in
     let rest = drop (i + 1) steps in
-    let all = Within limit (FiniteSum (HasWord steps)) in
+    let all = Within limit (StarOf (HasWord steps)) in
     let inv = subst (λ l. Same (Within limit (Spanned (HasWord c.loop-step.words) l)) all) (drop_more steps i nowhere c.loop-step-test.true) c.loop-step.invariant.same in
     elim c.if-not-is_empty.branch [
       | then-not-is_empty+in_ok-words w ↦ let new = subst (λ l. Same (HasWord w.in_ok-words.words) (Within limit (Reached (HasWord l) (word_of b)))) w.as_slice.ensures w.in_ok-words.ensures in
@@ -41,4 +42,4 @@ loop-step-preserved c =
     ]
 
 pub returns : goal.returns
-returns c = spans_left (word_of c.args.limit.now) c.loop-step.words c.args.steps.now c.loop-step.step-index (Within (word_of c.args.limit.now) (FiniteSum (HasWord c.args.steps.now))) c.loop-step-test.false c.loop-step.invariant.lies c.loop-step.invariant.same
+returns c = spans_left (word_of c.args.limit.now) c.loop-step.words c.args.steps.now c.loop-step.step-index (Within (word_of c.args.limit.now) (StarOf (HasWord c.args.steps.now))) c.loop-step-test.false c.loop-step.invariant.lies c.loop-step.invariant.same

@@ -1,7 +1,8 @@
 use Rattle.std.proofs.Common.{drop, ℕ}
 use Rattle.pat_words.specs.Words.{LiesIn}
 use Rattle.pat_bags.specs.Views.{word_of}
-use Rattle.pat_membership.specs.Listings.{HasWord, FiniteSum, Within}
+use Rattle.pat_membership.specs.Listings.{HasWord, Within}
+use Rattle.pat_words.specs.Languages.{StarOf}
 use Rattle.pat_membership.proofs.Rests.{Same}
 use Rattle.pat_membership.proofs.Spans.{Spanned}
 use Rattle.pat_membership.proofs.word_lists.finite_sums.Given as goal
@@ -9,5 +10,5 @@ use Rattle.pat_membership.proofs.word_lists.finite_sums.Given as goal
 abbrev pub invariant-loop-step : goal.invariant-loop-step
 invariant-loop-step l = record {
   lies : (w : ℕ → ℕ) → HasWord l.words w → LiesIn w (word_of l.limit);
-  same : Same (Within (word_of l.limit) (Spanned (HasWord l.words) (drop l.step-index l.steps))) (Within (word_of l.limit) (FiniteSum (HasWord l.steps)));
+  same : Same (Within (word_of l.limit) (Spanned (HasWord l.words) (drop l.step-index l.steps))) (Within (word_of l.limit) (StarOf (HasWord l.steps)));
 }

@@ -1,6 +1,7 @@
 use Rattle.std.proofs.Common.{drop}
 use Rattle.pat_membership.proofs.Rests.{done, none_left}
-use Rattle.pat_membership.specs.Listings.{HasWord, EitherOf}
+use Rattle.pat_membership.specs.Listings.{HasWord}
+use Rattle.pat_words.specs.Languages.{EitherOf}
 use Rattle.pat_membership.proofs.word_lists.push_all.Goals as goal
 
 pub returns : goal.returns

@@ -1,5 +1,6 @@
 use Rattle.std.proofs.Common.{drop}
-use Rattle.pat_membership.specs.Listings.{HasWord, EitherOf}
+use Rattle.pat_membership.specs.Listings.{HasWord}
+use Rattle.pat_words.specs.Languages.{EitherOf}
 use Rattle.pat_membership.proofs.Rests.{Same}
 use Rattle.pat_membership.proofs.word_lists.push_all.Given as goal
 

@@ -1,6 +1,7 @@
 use Rattle.std.proofs.Common.{subst, sym}
 use Rattle.pat_membership.proofs.Rests.{Same, has_last}
-use Rattle.pat_membership.specs.Listings.{HasWord, Only, EitherOf}
+use Rattle.pat_membership.specs.Listings.{HasWord, Only}
+use Rattle.pat_words.specs.Languages.{EitherOf}
 use Rattle.pat_bags.specs.Views.{word_of}
 use Rattle.pat_membership.proofs.word_lists.push_new.Goals as goal
 

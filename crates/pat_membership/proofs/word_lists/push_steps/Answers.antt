@@ -1,7 +1,8 @@
 use Rattle.std.proofs.Common.{◌≡◌, true, false, refl, sym, subst}
 use Rattle.pat_words.specs.Words.{plus, LiesIn}
 use Rattle.pat_bags.specs.Views.{word_of}
-use Rattle.pat_membership.specs.Listings.{HasWord, Only, EitherOf, Reached, Within}
+use Rattle.pat_membership.specs.Listings.{HasWord, Only, Reached, Within}
+use Rattle.pat_words.specs.Languages.{EitherOf}
 use Rattle.pat_membership.proofs.Rests.{Same, turn, done, reach_more, reach_none}
 use Rattle.pat_membership.proofs.Totals.{nearer}
 use Rattle.pat_membership.proofs.word_lists.push_steps.Goals as goal

@@ -1,7 +1,8 @@
 use Rattle.std.proofs.Common.{◌-◌, length}
 use Rattle.pat_words.specs.Words.{LiesIn}
 use Rattle.pat_bags.specs.Views.{word_of}
-use Rattle.pat_membership.specs.Listings.{HasWord, Only, EitherOf, Reached, Within}
+use Rattle.pat_membership.specs.Listings.{HasWord, Only, Reached, Within}
+use Rattle.pat_words.specs.Languages.{EitherOf}
 use Rattle.pat_membership.proofs.Rests.{Same}
 use Rattle.pat_membership.proofs.Totals.{total}
 use Rattle.pat_membership.proofs.word_lists.push_steps.Given as goal

@@ -1,7 +1,8 @@
 use Rattle.std.proofs.Common.{◌≡◌, ◌+◌, drop, get_or, true, false, refl, sym, subst}
 use Rattle.pat_words.specs.Words.{plus, LiesIn}
 use Rattle.pat_bags.specs.Views.{word_of}
-use Rattle.pat_membership.specs.Listings.{HasWord, Only, EitherOf, SumOf, Within}
+use Rattle.pat_membership.specs.Listings.{HasWord, Only, Within}
+use Rattle.pat_words.specs.Languages.{EitherOf, SumOf}
 use Rattle.pat_membership.proofs.Rests.{Same, turn, turn_none, through, none_first, has_more, sums_more, sum_inside, sum_outside, nowhere}
 use Rattle.pat_membership.proofs.word_lists.push_sums.Goals as goal
 use Rattle.pat_membership.proofs.word_lists.push_sums.Goals.{in-Some+in_ok-push_new-in-Some, in-None}

@@ -1,6 +1,7 @@
 use Rattle.std.proofs.Common.{◌+◌, drop, get_or}
 use Rattle.pat_bags.specs.Views.{word_of}
-use Rattle.pat_membership.specs.Listings.{HasWord, Only, SumOf, Within}
+use Rattle.pat_membership.specs.Listings.{HasWord, Only, Within}
+use Rattle.pat_words.specs.Languages.{SumOf}
 use Rattle.pat_membership.proofs.Rests.{turn, has_more, sums_first, nowhere}
 use Rattle.pat_membership.proofs.word_lists.sums.Goals as goal
 

@@ -1,6 +1,7 @@
 use Rattle.std.proofs.Common.{drop}
 use Rattle.pat_bags.specs.Views.{word_of}
-use Rattle.pat_membership.specs.Listings.{HasWord, EitherOf, SumOf, Within}
+use Rattle.pat_membership.specs.Listings.{HasWord, Within}
+use Rattle.pat_words.specs.Languages.{EitherOf, SumOf}
 use Rattle.pat_membership.proofs.Rests.{Same}
 use Rattle.pat_membership.proofs.word_lists.sums.Given as goal
 

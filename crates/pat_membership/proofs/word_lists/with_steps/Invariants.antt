@@ -1,6 +1,7 @@
 use Rattle.std.proofs.Common.{drop}
 use Rattle.pat_bags.specs.Views.{word_of}
-use Rattle.pat_membership.specs.Listings.{HasWord, EitherOf, Reached, Within}
+use Rattle.pat_membership.specs.Listings.{HasWord, Reached, Within}
+use Rattle.pat_words.specs.Languages.{EitherOf}
 use Rattle.pat_membership.proofs.Rests.{Same}
 use Rattle.pat_membership.proofs.word_lists.with_steps.Given as goal
 
