@@ -1,0 +1,17 @@
+mod TreeLaws
+mod AssignmentLaws
+mod CutSetLaws
+mod FlatLaws
+mod TableLaws
+mod SearchLaws
+mod GridLaws
+mod LayoutLaws
+mod NumberLaws
+mod AnswerLaws
+mod ClosedLaws
+mod ByTable
+mod Order
+mod Ends
+mod Total
+mod GridPoints
+mod InBounds
