@@ -1,0 +1,6 @@
+pub mod SameWords
+mod Room
+mod Lengths
+mod Standing
+mod StarSteps
+mod Meaning

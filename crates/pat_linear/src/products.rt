@@ -1,0 +1,77 @@
+// Products of linear sets.
+ghost use Rattle.std.specs.Prelude.{◌≡◌, ◌++◌, ℕ, ◌<◌, ◌≤◌, ◌+◌, ◌^◌, map, length, IfOk, OnOk};
+ghost use Rattle.pat_bags.specs.Views.{word_of};
+ghost use Rattle.pat_inclusions.specs.Counts.{most_tags};
+ghost use Rattle.pat_inclusions.specs.ClosedForms.{is_short, set_product as set_product_of, products as products_of};
+ghost use Rattle.pat_linear.specs.Views.{set_view, sets_view};
+ghost use Rattle.pat_linear.specs.Rooms.{HasRoom, HaveRoom};
+ghost use Rattle.pat_linear.specs.Forms.{GivesSets};
+
+use crate::comparing::{add_periods, copied};
+use crate::error::FormError;
+use crate::set::LinearSet;
+use pat_sequences::Sequence;
+use std::alloc::{AllocError, Global};
+
+/// The most sets that a list may have.
+pub const MOST_SETS: usize = 4096;
+
+/// The sums of a word of each.
+fn set_product(alloc: Global, a: &LinearSet, b: &LinearSet) -> Result<LinearSet, AllocError>
+    requires { (t : ℕ) → t < 32 → word_of a.now.base t + word_of b.now.base t < 2 ^ 32 }
+    ensures { IfOk result (λ both. set_view both ≡ set_product_of most_tags (set_view a.now) (set_view b.now)) }
+{
+    let mut periods = copied(alloc, a.periods.as_slice())?;
+    add_periods(&mut periods, b.periods.as_slice())?;
+    let base = a.base.add(&b.base);
+    Ok(LinearSet { base, periods })
+}
+
+/// Appends the products of a set with each of the others.
+fn push_row(
+    alloc: Global,
+    a: &LinearSet,
+    bs: &[LinearSet],
+    done: &mut Sequence<LinearSet>,
+) -> Result<(), AllocError>
+    requires { HasRoom (set_view a.now) (sets_view bs.now) }
+    ensures { OnOk result (sets_view done.new ≡ sets_view done.old ++ map (set_product_of most_tags (set_view a.now)) (sets_view bs.now)) }
+{
+    for b in bs {
+        let both = set_product(alloc, a, b)?;
+        done.push(both)?;
+    }
+    Ok(())
+}
+
+/// The products of each set of the first list with each of the second.
+fn all_products(
+    alloc: Global,
+    sets: &[LinearSet],
+    others: &[LinearSet],
+) -> Result<Sequence<LinearSet>, AllocError>
+    requires { HaveRoom (sets_view sets.now) (sets_view others.now) }
+    ensures { IfOk result (λ done. sets_view done ≡ products_of most_tags (sets_view sets.now) (sets_view others.now)) }
+{
+    let mut done = Sequence::new(alloc);
+    for a in sets {
+        push_row(alloc, a, others, &mut done)?;
+    }
+    Ok(done)
+}
+
+/// The products of each set of the first list with each of the second, if they are not too many.
+pub fn products(
+    alloc: Global,
+    sets: &[LinearSet],
+    others: &[LinearSet],
+) -> Result<Sequence<LinearSet>, FormError>
+    requires { HaveRoom (sets_view sets.now) (sets_view others.now) }
+    ensures { let made = products_of most_tags (sets_view sets.now) (sets_view others.now) in GivesSets result (is_short made) made }
+{
+    if sets.len().saturating_mul(others.len()) > MOST_SETS {
+        return Err(FormError::TooLarge);
+    }
+    let done = all_products(alloc, sets, others)?;
+    Ok(done)
+}

@@ -1,0 +1,73 @@
+// Stars of linear sets.
+ghost use Rattle.std.specs.Prelude.{◌≡◌, ◌∷◌, [], ◌^◌, IfOk};
+ghost use Rattle.pat_bags.specs.Views.{word_of};
+ghost use Rattle.pat_inclusions.specs.Counts.{most_tags};
+ghost use Rattle.pat_inclusions.specs.LinearSets.{SetsWithin};
+ghost use Rattle.pat_inclusions.specs.ClosedForms.{only_empty as only_empty_set, set_star as set_star_of, star_by, times_stars as times_stars_of, stars_are_short, SetsClean};
+ghost use Rattle.pat_linear.specs.Views.{set_view, sets_view};
+ghost use Rattle.pat_linear.specs.Forms.{GivesSets};
+
+use crate::comparing::{add_period, copied};
+use crate::error::FormError;
+use crate::products::products;
+use crate::set::LinearSet;
+use pat_bags::Bag;
+use pat_sequences::Sequence;
+use std::alloc::{AllocError, Global};
+
+/// The list of the empty word alone.
+pub fn only_empty(alloc: Global) -> Result<Sequence<LinearSet>, AllocError>
+    ensures { IfOk result (λ sets. sets_view sets ≡ only_empty_set ∷ []) }
+{
+    let mut sets = Sequence::new(alloc);
+    sets.push(LinearSet {
+        base: Bag::empty(),
+        periods: Sequence::new(alloc),
+    })?;
+    Ok(sets)
+}
+
+/// The finite sums of words of the set.
+fn set_star(alloc: Global, set: &LinearSet) -> Result<Sequence<LinearSet>, AllocError>
+    ensures { IfOk result (λ sets. sets_view sets ≡ set_star_of most_tags (set_view set.now)) }
+{
+    if set.periods.is_empty() {
+        return star_of_base(alloc, &set.base);
+    }
+    let mut periods = copied(alloc, set.periods.as_slice())?;
+    add_period(&mut periods, &set.base)?;
+    let mut sets = only_empty(alloc)?;
+    sets.push(LinearSet {
+        base: set.base,
+        periods,
+    })?;
+    Ok(sets)
+}
+
+/// The sums of any number of the word.
+fn star_of_base(alloc: Global, base: &Bag) -> Result<Sequence<LinearSet>, AllocError>
+    ensures { IfOk result (λ sets. sets_view sets ≡ star_by most_tags (word_of base.now) []) }
+{
+    let mut periods = Sequence::new(alloc);
+    add_period(&mut periods, base)?;
+    let mut sets = Sequence::new(alloc);
+    sets.push(LinearSet {
+        base: Bag::empty(),
+        periods,
+    })?;
+    Ok(sets)
+}
+
+/// The finite sums of words of the sets: what was made so far, times the star of each further set in turn.
+pub fn star(alloc: Global, sets: &[LinearSet]) -> Result<Sequence<LinearSet>, FormError>
+    requires within { SetsWithin (2 ^ 27) (2 ^ 27) (sets_view sets.now) }
+    requires clean { SetsClean most_tags (sets_view sets.now) }
+    ensures { GivesSets result (stars_are_short most_tags (only_empty_set ∷ []) (sets_view sets.now)) (times_stars_of most_tags (only_empty_set ∷ []) (sets_view sets.now)) }
+{
+    let mut made = only_empty(alloc)?;
+    for set in sets {
+        let factor = set_star(alloc, set)?;
+        made = products(alloc, made.as_slice(), factor.as_slice())?;
+    }
+    Ok(made)
+}
