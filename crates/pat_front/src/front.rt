@@ -11,9 +11,9 @@ ghost use Rattle.pat_names.specs.Resolved.{IsResolved};
 ghost use Rattle.pat_resolver_answers.specs.Views.{places_view};
 ghost use Rattle.pat_lexical.specs.Tokens.{Spanned};
 ghost use Rattle.pat_lexical.specs.Divisions.{Divides};
-ghost use Rattle.pat_parser.specs.Answers.{Explained};
+ghost use Rattle.pat_parser.specs.Answers.{Explains as ExplainsTokens};
 ghost use Rattle.pat_resolver.specs.Answers.{Explains as ExplainsTree};
-ghost use Rattle.pat_lexer.specs.Reads.{IsAnswer};
+ghost use Rattle.pat_lexer.specs.Explains.{Explains as ExplainsText};
 ghost use Rattle.pat_input.specs.Inputs.{IsRead, limit};
 ghost use Rattle.pat_front.specs.Texts.{IsTreeText, IsProgramText, Explains};
 
@@ -88,7 +88,7 @@ fn of_resolver(refusal: ResolveError) -> FrontError
 }
 
 fn of_lexer(refusal: LexError) -> FrontError
-    ensures { (bytes : List ℕ) → length bytes ≤ limit → IsAnswer bytes refusal → Explains bytes result }
+    ensures { (bytes : List ℕ) → length bytes ≤ limit → ExplainsText bytes refusal → Explains bytes result }
 {
     match refusal {
         LexError::BadToken(offset) => FrontError::Refused(Verdict::Syntax(offset)),
@@ -98,7 +98,7 @@ fn of_lexer(refusal: LexError) -> FrontError
 }
 
 fn of_parser(refusal: ParseError) -> FrontError
-    ensures { (bytes : List ℕ) (tokens : List Spanned) → length bytes ≤ limit → Divides bytes tokens → Explained (length bytes) tokens refusal → Explains bytes result }
+    ensures { (bytes : List ℕ) (tokens : List Spanned) → length bytes ≤ limit → Divides bytes tokens → ExplainsTokens (length bytes) tokens refusal → Explains bytes result }
 {
     match refusal {
         ParseError::Unexpected(offset) => FrontError::Refused(Verdict::Syntax(offset)),

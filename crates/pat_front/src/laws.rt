@@ -2,8 +2,8 @@
 ghost use Rattle.std.specs.Prelude.{ℕ, List};
 ghost use Rattle.pat_front.specs.Laws.{OneAnswer};
 
-/// A text is that of one program, or it is refused, in one way, and not both: so each answer comes exactly where it is said
-/// to come.
+/// A text is that of one program at most, is refused in one way at most, and not both: so each answer comes exactly where it
+/// is said to come.
 pub fn verdict_law()
     ensures { (bytes : List ℕ) → OneAnswer bytes }
 {}

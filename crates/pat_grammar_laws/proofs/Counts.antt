@@ -1,4 +1,4 @@
--- A tree has at most four times as many terms, expressions, patterns and names together as tokens.
+-- For each token a tree has four parts at most, counting its terms, expressions, patterns and names.
 use Rattle.std.proofs.Common.{◌≡◌, ℕ, suc, ◌+◌, ◌*◌, ◌≤◌, Bool, true, false, List, [], ◌∷◌, ◌++◌, length, map, Some, None, refl, sym, ap, arith}
 use Rattle.std.specs.Prelude.{ℤ, pos, cond}
 use Rattle.std.specs.Ordering.{int_eq}

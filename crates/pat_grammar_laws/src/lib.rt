@@ -21,7 +21,7 @@ pub fn exact_answer_law()
     ensures { (lim : Limits) (end : ℕ) (ts : List Spanned) → ExactAnswer lim end ts }
 {}
 
-/// A tree has at most four times as many terms, expressions, patterns and names together as there are tokens.
+/// For each token a tree has four parts at most, counting its terms, expressions, patterns and names.
 pub fn size_law()
     ensures { (lim : Limits) (ts : List Spanned) (m : Tree) → SpellsTree lim ts m → tree_size m ≤ 4 * length ts }
 {}

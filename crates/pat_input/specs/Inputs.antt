@@ -7,7 +7,7 @@ use Rattle.pat_ports.specs.Causes.{Raised}
 use Rattle.pat_lexical.specs.Divisions.{Divides}
 use Rattle.pat_syntax.specs.Views.{token_view}
 use Rattle.pat_lexer.specs.Lexed.{Lexed, HasRead}
-use Rattle.pat_lexer.specs.Reads.{IsAnswer}
+use Rattle.pat_lexer.specs.Explains.{Explains}
 use Rattle.pat_lexer.specs.declared.error.LexError.TheVariants.{NoMemory}
 use Rattle.pat_input.specs.declared.reading.Input.{Input}
 use Rattle.pat_input.specs.declared.reading.InputError.{InputError}
@@ -27,7 +27,7 @@ pub record IsInput (had left : Option (List ℕ)) (bytes : List ℕ) : Type 0 wh
 -- the bytes are too many, are refused, or divide into the tokens
 abbrev pub IsRead : List ℕ → Input → Type 0
 IsRead bytes TooLong = limit < length bytes
-IsRead bytes (Refused e) = (length bytes ≤ limit) × (e ≢ NoMemory) × IsAnswer bytes e
+IsRead bytes (Refused e) = (length bytes ≤ limit) × (e ≢ NoMemory) × Explains bytes e
 IsRead bytes (Tokens ts end) = (length bytes ≤ limit) × Divides bytes (map token_view ts.items) × (end ≡ length bytes)
 
 -- the lexer has read the piece besides

@@ -27,10 +27,6 @@ progress r = record {
   text = r.text.items;
 }
 
--- what an error says of a text, by a name that goes once nothing above names it
-abbrev pub IsAnswer : List ℕ → LexError → Type 0
-IsAnswer text e = Explains text e
-
 -- where a character that doesn't fit is refused: a name is whole before it
 abbrev pub refusal_in : Unfinished → ℕ → ℕ → LexError
 refusal_in Name start character_start = BadToken character_start

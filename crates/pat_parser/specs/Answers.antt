@@ -30,7 +30,3 @@ abbrev pub Explains : ℕ → List Spanned → ParseError → Type 0
 Explains end ts errors.NoMemory = Unit {0}
 Explains end ts (errors.Unexpected o) = IsUnexpected limits end ts o
 Explains end ts (errors.TooDeep o) = IsTooDeep limits ts o
-
--- the same, by a name that goes once nothing above names it
-abbrev pub Explained : ℕ → List Spanned → ParseError → Type 0
-Explained end ts e = Explains end ts e

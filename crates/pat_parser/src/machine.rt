@@ -281,7 +281,7 @@ pub fn parse(alloc: Global, tokens: Vec<Token>, end: u32) -> Result<Tree, ParseE
     ensures unexpected { (o : ℕ) → IsUnexpected limits end (map token_view tokens.items) o → GivesAt tree_view result (Err (m.Unexpected, o)) }
     // So is a token that is too deep.
     ensures too_deep { (o : ℕ) → IsTooDeep limits (map token_view tokens.items) o → GivesAt tree_view result (Err (m.TooDeep, o)) }
-    // A tree has at most four times as many terms, expressions, patterns and names together as there are tokens.
+    // For each token a tree has four parts at most, counting its terms, expressions, patterns and names.
     ensures size { IfOk result (λ t. tree_size (tree_view t) ≤ 4 * length tokens.items) }
     // Where bytes spell the tokens, every name of the tree is a name, and every string one that a string stands for.
     ensures named { AreSpelled (map token_view tokens.items) → IfOk result (λ t. TreeNamed (tree_view t)) }

@@ -2,7 +2,7 @@
 use Rattle.std.proofs.Common.{◌≡◌, ◌+◌, ◌≤◌, ◌<◌, ℕ, List, length, Option, Some, None, refl, sym, ap, ◌∙◌, subst, inl, inr, ⊎_elim, ◌⊎◌, arith}
 use Rattle.std.specs.Prelude.{◌≢◌}
 use Rattle.std.specs.Io.KnownBytes.{Appends, Keeps}
-use Rattle.pat_ports.specs.Causes.{Raised, Rose}
+use Rattle.pat_ports.specs.Causes.{Raised}
 use Rattle.pat_ports.specs.Ends.{EndsOnce, EndsThere}
 use Rattle.pat_ports.specs.declared.reach.Reach.{Reach}
 use Rattle.pat_ports.specs.declared.reach.Reach.TheVariants.{Before, Past}
@@ -17,9 +17,6 @@ use Rattle.pat_session.specs.Allowed.{IsCommand, HasCommand, AllowedTo, usage_li
 use Rattle.pat_session.specs.Answers.{Answers}
 use Rattle.pat_session.specs.Calls.{Call, ReadsAll}
 use Rattle.pat_session.proofs.Allows.{command_status, not_a_read_fault, reads_small, answered_command, answered_usage}
-
-pub raised_rose : (before now : ℕ) → Raised before now → Rose before now
-raised_rose before now r = ⊎_elim (λ (more : now ≡ before + 1). inl (omega (arith, more))) (λ full. inr full.0) r
 
 keeps : (o : Option (List ℕ)) → Keeps o o
 keeps None = tt

@@ -1,6 +1,6 @@
 // The top call.
 ghost use Rattle.std.specs.Prelude.{◌≡◌, ◌≢◌, ◌⊎◌, ℕ, List, map, string_bytes};
-ghost use Rattle.pat_ports.specs.Causes.{Rose};
+ghost use Rattle.pat_ports.specs.Causes.{Raised};
 ghost use Rattle.pat_ports.specs.Ends.{EndsOnce, EndsThere};
 ghost use Rattle.pat_front.specs.declared.verdict.Verdict.{Verdict};
 ghost use Rattle.pat_session.specs.Allowed.{IsCommand, HasCommand};
@@ -31,9 +31,9 @@ pub fn pat<S: Source, K: Sink, G: Gate>(
     ensures usage { result ≡ Status.Usage → HasCommand (map string_bytes words.now) → ⊥ }
     ensures no_command { (HasCommand (map string_bytes words.now) → ⊥) → ((result ≡ Status.Usage) ⊎ (result ≡ Status.WriteFault)) × (source.new ≡ source.old) }
 
-    // A fault comes only where its count rose in this call, and no other answer where one was counted.
-    ensures read_fault { result ≡ Status.ReadFault → Rose (S.faults source.old) (S.faults source.new) }
-    ensures write_fault { result ≡ Status.WriteFault → Rose (K.faults sink.old) (K.faults sink.new) }
+    // A fault comes only where just one was counted in this call, and no other answer where one was.
+    ensures read_fault { result ≡ Status.ReadFault → Raised (S.faults source.old) (S.faults source.new) }
+    ensures write_fault { result ≡ Status.WriteFault → Raised (K.faults sink.old) (K.faults sink.new) }
     ensures no_read_fault { result ≢ Status.ReadFault → S.faults source.new ≡ S.faults source.old }
     ensures no_write_fault { result ≢ Status.WriteFault → K.faults sink.new ≡ K.faults sink.old }
 

@@ -1,13 +1,12 @@
 use Rattle.std.proofs.Common.{map, string_bytes}
 use Rattle.pat_session.proofs.Allows.{usage_only, accepts_safe, shows_run, shows_tree, shows_verdict}
-use Rattle.pat_session.proofs.Calls.{raised_rose}
 use Rattle.pat_session.proofs.session.pat.Goals as goal
 
 pub returns-clause-read_fault : goal.returns-clause-read_fault
-returns-clause-read_fault g c = λ e. raised_rose (g.S.Source.faults c.args.source.now) (g.S.Source.faults c.respond.new.source) (c.respond.ensures.call.read.failed e)
+returns-clause-read_fault g c = λ e. c.respond.ensures.call.read.failed e
 
 pub returns-clause-write_fault : goal.returns-clause-write_fault
-returns-clause-write_fault g c = λ e. raised_rose (g.K.Sink.faults c.args.sink.now) (g.K.Sink.faults c.respond.new.sink) (c.respond.ensures.call.write.failed e)
+returns-clause-write_fault g c = λ e. c.respond.ensures.call.write.failed e
 
 pub returns-clause-usage : goal.returns-clause-usage
 returns-clause-usage g c = usage_only (map string_bytes c.args.words.now) (g.S.Source.rest c.args.source.now) (g.S.Source.rest c.respond.new.source) (g.K.Sink.taken c.args.sink.now) (g.K.Sink.taken c.respond.new.sink) c.respond.result c.respond.ensures.call.output
