@@ -1,5 +1,4 @@
 mod Chains
-mod Earlier
 mod Forms
 mod Order
 mod Places

@@ -1,5 +1,5 @@
 // Names that must not repeat, and the clauses of a guard so far.
-ghost use Rattle.std.specs.Prelude.{◌≡◌, [], ◌∷◌, ◌++◌, true, not, map, reverse, OnOk};
+ghost use Rattle.std.specs.Prelude.{◌≡◌, [], ◌∷◌, ◌++◌, true, not, map, OnOk};
 ghost use Rattle.pat_names.specs.Scopes.{is_one_of};
 ghost use Rattle.pat_names.specs.Findings.{Twice, unless, no_earlier, names_findings};
 ghost use Rattle.pat_tree.specs.Views.{span_view, name_view, clause_view};
@@ -9,7 +9,7 @@ ghost use Rattle.pat_resolver_bodies.specs.Steps.{twice_findings, with_earlier};
 
 use crate::kinds::broken;
 use pat_resolver_answers::{ResolveError, ResolveKind};
-use pat_resolver_tables::NameTable;
+use pat_resolver_tables::EarlierNames;
 use pat_sequences::Text;
 use pat_syntax::Span;
 use pat_tree::{Name, TreeClause};
@@ -18,7 +18,7 @@ use std::alloc::Global;
 /// The clauses of a guard so far: tags, and whether there are a free clause and a fail clause.
 #[derive(Drop)]
 pub struct Seen {
-    tags: NameTable,
+    tags: EarlierNames,
     free: bool,
     fail: bool,
 }
@@ -29,7 +29,7 @@ impl Seen {
         ensures { seen_view result ≡ no_earlier }
     {
         Seen {
-            tags: NameTable::new(alloc),
+            tags: EarlierNames::new(alloc),
             free: false,
             fail: false,
         }
@@ -65,19 +65,17 @@ fn mark(seen: &mut bool, span: Span) -> Result<(), ResolveError>
 // Adds a name to those before it, if it is none of them. Otherwise the place is answered.
 fn add_name(
     alloc: Global,
-    earlier: &mut NameTable,
+    earlier: &mut EarlierNames,
     name: &Text,
     span: Span,
 ) -> Result<(), ResolveError>
-    ensures found { Meets result (unless (not (is_one_of name.now (reverse earlier.old))) Twice (span_view span)) }
-    ensures after { OnOk result (earlier.new ≡ earlier.old ++ name.now ∷ []) }
+    ensures found { Meets result (unless (not (is_one_of name.now earlier.old)) Twice (span_view span)) }
+    ensures after { OnOk result (earlier.new ≡ name.now ∷ earlier.old) }
 {
-    match earlier.find(name) {
-        Some(_) => Err(broken(ResolveKind::Twice, span)),
-        None => {
-            earlier.push(alloc, name)?;
-            Ok(())
-        }
+    if earlier.add(alloc, name)? {
+        Ok(())
+    } else {
+        Err(broken(ResolveKind::Twice, span))
     }
 }
 
@@ -85,7 +83,7 @@ fn add_name(
 pub fn check_names(alloc: Global, names: &[Name], from: &Name) -> Result<(), ResolveError>
     ensures { Meets result (names_findings [] (map name_view names.now ++ name_view from.now ∷ [])) }
 {
-    let mut earlier = NameTable::new(alloc);
+    let mut earlier = EarlierNames::new(alloc);
     for name in names {
         add_name(alloc, &mut earlier, &name.text, name.span)?;
     }

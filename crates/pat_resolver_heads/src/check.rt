@@ -1,5 +1,5 @@
 // The rules of heads, declaration by declaration.
-ghost use Rattle.std.specs.Prelude.{◌≡◌, ◌∷◌, ◌++◌, [], map, reverse, option_map, OnOk, true, false};
+ghost use Rattle.std.specs.Prelude.{◌≡◌, ◌∷◌, ◌++◌, [], map, option_map, OnOk, true, false};
 ghost use Rattle.std.specs.List.{flat_map};
 ghost use Rattle.pat_words.specs.Patterns.{is_inhabited};
 ghost use Rattle.pat_names.specs.Heads.{pattern_of};
@@ -14,7 +14,7 @@ use crate::names::Names;
 use crate::patterns::check_pattern;
 use pat_primitives::Polarity;
 use pat_resolver_answers::{ResolveError, ResolveKind};
-use pat_resolver_tables::NameTable;
+use pat_resolver_tables::{EarlierNames, NameTable};
 use pat_syntax::Span;
 use pat_tree::{Decl, Name, Param, TreeMessage, TreePattern, TreeType};
 use std::alloc::Global;
@@ -23,8 +23,8 @@ use std::alloc::Global;
 pub fn check_heads(alloc: Global, names: &Names, decls: &[Decl]) -> Result<(), ResolveError>
     ensures { Meets result (heads_findings (names_view names.now) [] [] (map decl_view decls.now)) }
 {
-    let mut interfaces = NameTable::new(alloc);
-    let mut functions = NameTable::new(alloc);
+    let mut interfaces = EarlierNames::new(alloc);
+    let mut functions = EarlierNames::new(alloc);
     for decl in decls {
         check_decl(alloc, names, &mut interfaces, &mut functions, decl)?;
     }
@@ -35,13 +35,13 @@ pub fn check_heads(alloc: Global, names: &Names, decls: &[Decl]) -> Result<(), R
 fn check_decl(
     alloc: Global,
     names: &Names,
-    interfaces: &mut NameTable,
-    functions: &mut NameTable,
+    interfaces: &mut EarlierNames,
+    functions: &mut EarlierNames,
     decl: &Decl,
 ) -> Result<(), ResolveError>
-    ensures found { Meets result (decl_findings (names_view names.now) (reverse interfaces.old) (reverse functions.old) (decl_view decl.now)) }
-    ensures interfaces { OnOk result (reverse interfaces.new ≡ interfaces_with (decl_view decl.now) (reverse interfaces.old)) }
-    ensures functions { OnOk result (reverse functions.new ≡ functions_with (decl_view decl.now) (reverse functions.old)) }
+    ensures found { Meets result (decl_findings (names_view names.now) interfaces.old functions.old (decl_view decl.now)) }
+    ensures interfaces { OnOk result (interfaces.new ≡ interfaces_with (decl_view decl.now) interfaces.old) }
+    ensures functions { OnOk result (functions.new ≡ functions_with (decl_view decl.now) functions.old) }
 {
     match decl {
         Decl::Interface { name, messages } => {
@@ -62,19 +62,17 @@ fn check_decl(
 }
 
 /// Refuses a name that is one of the earlier ones, and otherwise puts it behind them.
-fn check_new(alloc: Global, earlier: &mut NameTable, name: &Name) -> Result<(), ResolveError>
-    ensures found { Meets result (repeated (reverse earlier.old) (name_view name.now)) }
-    ensures grown { OnOk result (reverse earlier.new ≡ name.now.text ∷ reverse earlier.old) }
+fn check_new(alloc: Global, earlier: &mut EarlierNames, name: &Name) -> Result<(), ResolveError>
+    ensures found { Meets result (repeated earlier.old (name_view name.now)) }
+    ensures grown { OnOk result (earlier.new ≡ name.now.text ∷ earlier.old) }
 {
-    match earlier.find(&name.text) {
-        Some(_) => Err(ResolveError::Broken {
+    if earlier.add(alloc, &name.text)? {
+        Ok(())
+    } else {
+        Err(ResolveError::Broken {
             kind: ResolveKind::Twice,
             span: name.span,
-        }),
-        None => {
-            earlier.push(alloc, &name.text)?;
-            Ok(())
-        }
+        })
     }
 }
 
@@ -86,7 +84,7 @@ fn check_messages(
 ) -> Result<(), ResolveError>
     ensures { Meets result (messages_findings (names_view names.now) [] (map message_view messages.now)) }
 {
-    let mut earlier = NameTable::new(alloc);
+    let mut earlier = EarlierNames::new(alloc);
     for message in messages {
         check_message(alloc, names, &mut earlier, message)?;
     }
@@ -97,11 +95,11 @@ fn check_messages(
 fn check_message(
     alloc: Global,
     names: &Names,
-    earlier: &mut NameTable,
+    earlier: &mut EarlierNames,
     message: &TreeMessage,
 ) -> Result<(), ResolveError>
-    ensures found { Meets result (message_findings (names_view names.now) (reverse earlier.old) (message_view message.now)) }
-    ensures grown { OnOk result (reverse earlier.new ≡ message.now.name.text ∷ reverse earlier.old) }
+    ensures found { Meets result (message_findings (names_view names.now) earlier.old (message_view message.now)) }
+    ensures grown { OnOk result (earlier.new ≡ message.now.name.text ∷ earlier.old) }
 {
     let count = earlier.len();
     check_new(alloc, earlier, &message.name)?;
@@ -128,7 +126,7 @@ fn check_payloads(names: &Names, types: &[TreeType]) -> Result<(), ResolveError>
 fn check_params(alloc: Global, names: &Names, params: &[Param]) -> Result<(), ResolveError>
     ensures { Meets result (params_findings (names_view names.now) [] (map param_view params.now)) }
 {
-    let mut earlier = NameTable::new(alloc);
+    let mut earlier = EarlierNames::new(alloc);
     for param in params {
         check_param(alloc, names, &mut earlier, param)?;
     }
@@ -139,11 +137,11 @@ fn check_params(alloc: Global, names: &Names, params: &[Param]) -> Result<(), Re
 fn check_param(
     alloc: Global,
     names: &Names,
-    earlier: &mut NameTable,
+    earlier: &mut EarlierNames,
     param: &Param,
 ) -> Result<(), ResolveError>
-    ensures found { Meets result (param_findings (names_view names.now) (reverse earlier.old) (param_view param.now)) }
-    ensures grown { OnOk result (reverse earlier.new ≡ param.now.name.text ∷ reverse earlier.old) }
+    ensures found { Meets result (param_findings (names_view names.now) earlier.old (param_view param.now)) }
+    ensures grown { OnOk result (earlier.new ≡ param.now.name.text ∷ earlier.old) }
 {
     check_new(alloc, earlier, &param.name)?;
     check_type(names, &param.of)

@@ -1,2 +1,4 @@
+mod Differing
+mod Keys
 mod Places
 mod Tops

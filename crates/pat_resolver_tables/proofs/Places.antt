@@ -1,20 +1,18 @@
 -- First places of names, in a list and in a table.
 use Rattle.std.proofs.Common.{◌≡◌, ℕ, zero, suc, ◌<◌, Bool, true, false, cond, List, [], ◌∷◌, ◌++◌, length, Option, Some, None, option_map, refl, ap, sym, ◌∙◌, arith, Vec, Global}
-use Rattle.std.specs.Prelude.{bytes_eq, is_some, IfSome, Result, Ok, Err, OnOk, OnErr}
+use Rattle.std.specs.Prelude.{bytes_eq, is_some, IfSome}
 use Rattle.std.proofs.lemmas.Slice.Eq.{bytes_eq-Decides}
 use Rattle.std.proofs.lemmas.Bool.Decides.{same_from_decides}
+use Rattle.std.specs.Map.{set_value}
 use Rattle.indexmap.specs.IndexMap.{insert_entry}
 use Rattle.pat_names.specs.Scopes.{first_named, itself}
 use Rattle.pat_resolver_tables.specs.Places.{place_of, known_place}
+use Rattle.pat_resolver_tables.proofs.Keys.{Entries, same_key, had_inserted, had_set, there_inserted, twice_tested}
 
 -- the first, or else the second
 abbrev pub or_else : Option ℕ → Option ℕ → Option ℕ
 or_else None o = o
 or_else (Some i) o = Some i
-
--- keys are compared by their bytes
-abbrev pub same_key : Vec ℕ Global → Vec ℕ Global → Bool
-same_key a b = bytes_eq a.items b.items
 
 -- ---- in a table
 
@@ -88,7 +86,7 @@ pushed_new x y names new es fs key v tied absent own last table list =
     ∙ ap (place_of x) (sym list)
 
 -- one more name, which was there
-pub pushed_known : (x y : List ℕ) (names new : List (List ℕ)) (es : List (Vec ℕ Global × ℕ))
+pushed_known : (x y : List ℕ) (names new : List (List ℕ)) (es : List (Vec ℕ Global × ℕ))
     → ((z : List ℕ) → known_place z es ≡ place_of z names) → true ≡ is_some (known_place y es) → new ≡ names ++ y ∷ [] → known_place x es ≡ place_of x new
 pushed_known x y names new es tied there list = tied x ∙ go (place_of x names) (bytes_eq y x) refl refl ∙ sym (place_pushed x names y) ∙ ap (place_of x) (sym list)
   where
@@ -100,12 +98,23 @@ pushed_known x y names new es tied there list = tied x ∙ go (place_of x names)
         let none : known_place y es ≡ None = tied y ∙ ap (λ (z : List ℕ). place_of z names) same ∙ e in
         let no : true ≡ false = there ∙ ap is_some none in cc
 
--- the same, where the push may have failed
-pub pushed_or_not : {A E : Type 0} (r : Result A E) (x y : List ℕ) (names new : List (List ℕ)) (es : List (Vec ℕ Global × ℕ))
-    → ((z : List ℕ) → known_place z es ≡ place_of z names) → true ≡ is_some (known_place y es) → OnOk r (new ≡ names ++ y ∷ []) → OnErr r (new ≡ names) → known_place x es ≡ place_of x new
-pushed_or_not (Ok a) x y names new es tied there done undone = pushed_known x y names new es tied there done
-pushed_or_not (Err a) x y names new es tied there done undone = tied x ∙ ap (place_of x) (sym undone)
+-- what is known where a name that was there has its first place again
+known_again : (x y : List ℕ) (first v : ℕ) (es fs gs : Entries ℕ) (key : Vec ℕ Global)
+    → key.items ≡ y → Some first ≡ known_place y es → fs ≡ insert_entry same_key es key v → gs ≡ set_value (λ k. bytes_eq y k.items) fs first
+    → known_place x gs ≡ known_place x es
+known_again x y first v es fs gs key own before table back =
+    ap (known_place x) back ∙ had_set x y fs first (there_inserted y es fs key v own table)
+    ∙ ap (cond (bytes_eq x y) (Some first)) (ap (known_place x) table ∙ had_inserted x es key v)
+    ∙ ap (λ (n : List ℕ). cond (bytes_eq x y) (Some first) (cond (bytes_eq x n) (Some v) (known_place x es))) own
+    ∙ sym (twice_tested (bytes_eq x y) (Some first) (Some v) (known_place x es))
+    ∙ go (bytes_eq x y) refl
+  where
+    go : (s : Bool) → bytes_eq x y ≡ s → cond s (Some first) (known_place x es) ≡ known_place x es
+    go true e = before ∙ ap (λ (n : List ℕ). known_place n es) (sym ((bytes_eq-Decides x y).0 e))
+    go false e = refl
 
-pub absent_so : (o : Option ℕ) → false ≡ is_some o → o ≡ None
-absent_so None e = refl
-absent_so (Some i) e = cc
+pub pushed_again : (x y : List ℕ) (names new : List (List ℕ)) (first v : ℕ) (es fs gs : Entries ℕ) (key : Vec ℕ Global)
+    → ((z : List ℕ) → known_place z es ≡ place_of z names) → key.items ≡ y → Some first ≡ known_place y es → fs ≡ insert_entry same_key es key v
+    → gs ≡ set_value (λ k. bytes_eq y k.items) fs first → new ≡ names ++ y ∷ [] → known_place x gs ≡ place_of x new
+pushed_again x y names new first v es fs gs key tied own before table back list =
+    known_again x y first v es fs gs key own before table back ∙ pushed_known x y names new es tied (ap is_some before) list

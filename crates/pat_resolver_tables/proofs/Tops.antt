@@ -1,7 +1,7 @@
 -- The innermost variable of each name, in the list of variables and in the table.
 use Rattle.std.proofs.Common.{◌≡◌, ℕ, zero, suc, ◌<◌, Bool, true, false, cond, List, [], ◌∷◌, ◌++◌, length, map, reverse, get_or, Option, Some, None, refl, ap, sym, ◌∙◌, arith, Vec, Global, subst}
 use Rattle.std.specs.Prelude.{bytes_eq, is_some}
-use Rattle.std.specs.Map.{lookup, set_value}
+use Rattle.std.specs.Map.{set_value}
 use Rattle.std.specs.Option.{option_flatten}
 use Rattle.std.proofs.lemmas.List.{get_or_append_left, reverse-append, reverse-reverse, length-reverse, length-map, map-append}
 use Rattle.std.proofs.Math.Seq.{get_or-append_seam}
@@ -12,65 +12,11 @@ use Rattle.pat_resolver_tables.specs.Views.{scope_view, variable_view}
 use Rattle.pat_resolver_tables.specs.Innermost.{innermost, shadowed_in, known_top}
 use Rattle.pat_resolver_tables.specs.declared.scope.Variable.{Variable}
 use Rattle.pat_resolver_tables.specs.declared.scope.Entry.{Entry}
-use Rattle.pat_resolver_tables.proofs.Places.{same_key, eq_sym}
+use Rattle.pat_resolver_tables.proofs.Keys.{Entries, had, same_key, had_inserted, had_set, there_inserted, twice_tested}
+use Rattle.pat_resolver_tables.proofs.Places.{eq_sym}
 
 abbrev Keyed : Type 0
-Keyed = List (Vec ℕ Global × Option ℕ)
-
--- what a table has for a name
-abbrev had : List ℕ → Keyed → Option (Option ℕ)
-had x es = lookup (λ k. bytes_eq x k.items) es
-
--- ---- tests of names
-
-same_tests : (x y z : List ℕ) → bytes_eq y z ≡ true → bytes_eq x z ≡ bytes_eq x y
-same_tests x y z e = ap (bytes_eq x) (sym ((bytes_eq-Decides y z).0 e))
-
--- two names that differ are not both the third
-apart : (x y z : List ℕ) → bytes_eq y z ≡ false → bytes_eq x z ≡ true → bytes_eq x y ≡ true → true ≡ false
-apart x y z differ a b =
-    let same : y ≡ z = sym ((bytes_eq-Decides x y).0 b) ∙ (bytes_eq-Decides x z).0 a in
-    sym ((bytes_eq-Decides y z).1 same) ∙ differ
-
-swap_tests : {A : Type 0} (s u : Bool) (a b c : A) → (s ≡ true → u ≡ true → true ≡ false) → cond s a (cond u b c) ≡ cond u b (cond s a c)
-swap_tests true true a b c never = let e = never refl refl in cc
-swap_tests true false a b c never = refl
-swap_tests false u a b c never = refl
-
-twice_tested : {A : Type 0} (s : Bool) (a b c : A) → cond s a c ≡ cond s a (cond s b c)
-twice_tested true a b c = refl
-twice_tested false a b c = refl
-
--- ---- the table
-
-had_inserted : (x : List ℕ) (es : Keyed) (key : Vec ℕ Global) (v : Option ℕ) → had x (insert_entry same_key es key v) ≡ cond (bytes_eq x key.items) (Some v) (had x es)
-had_inserted x [] key v = refl
-had_inserted x (e ∷ es) key v = go (bytes_eq key.items e.0.items) refl (had_inserted x es key v)
-  where
-    go : (t : Bool) → bytes_eq key.items e.0.items ≡ t → had x (insert_entry same_key es key v) ≡ cond (bytes_eq x key.items) (Some v) (had x es)
-        → had x (cond t ((e.0, v) ∷ es) (e ∷ insert_entry same_key es key v)) ≡ cond (bytes_eq x key.items) (Some v) (cond (bytes_eq x e.0.items) (Some e.1) (had x es))
-    go true same deeper =
-        ap (λ (s : Bool). cond s (Some v) (had x es)) (same_tests x key.items e.0.items same)
-        ∙ twice_tested (bytes_eq x key.items) (Some v) (Some e.1) (had x es)
-        ∙ ap (λ (s : Bool). cond (bytes_eq x key.items) (Some v) (cond s (Some e.1) (had x es))) (sym (same_tests x key.items e.0.items same))
-    go false differ deeper =
-        ap (cond (bytes_eq x e.0.items) (Some e.1)) deeper
-        ∙ swap_tests (bytes_eq x e.0.items) (bytes_eq x key.items) (Some e.1) (Some v) (had x es) (apart x key.items e.0.items differ)
-
-had_set : (x y : List ℕ) (es : Keyed) (w : Option ℕ) → is_some (had y es) ≡ true → had x (set_value (λ k. bytes_eq y k.items) es w) ≡ cond (bytes_eq x y) (Some w) (had x es)
-had_set x y [] w there = cc
-had_set x y (e ∷ es) w there = go (bytes_eq y e.0.items) refl there (had_set x y es w)
-  where
-    go : (t : Bool) → bytes_eq y e.0.items ≡ t → is_some (cond t (Some e.1) (had y es)) ≡ true
-        → (is_some (had y es) ≡ true → had x (set_value (λ k. bytes_eq y k.items) es w) ≡ cond (bytes_eq x y) (Some w) (had x es))
-        → had x (cond t ((e.0, w) ∷ es) (e ∷ set_value (λ k. bytes_eq y k.items) es w)) ≡ cond (bytes_eq x y) (Some w) (cond (bytes_eq x e.0.items) (Some e.1) (had x es))
-    go true same h deeper =
-        ap (λ (s : Bool). cond s (Some w) (had x es)) (same_tests x y e.0.items same)
-        ∙ twice_tested (bytes_eq x y) (Some w) (Some e.1) (had x es)
-        ∙ ap (λ (s : Bool). cond (bytes_eq x y) (Some w) (cond s (Some e.1) (had x es))) (sym (same_tests x y e.0.items same))
-    go false differ h deeper =
-        ap (cond (bytes_eq x e.0.items) (Some e.1)) (deeper h)
-        ∙ swap_tests (bytes_eq x e.0.items) (bytes_eq x y) (Some e.1) (Some w) (had x es) (apart x y e.0.items differ)
+Keyed = Entries (Option ℕ)
 
 flat_tested : (s : Bool) (o : Option ℕ) (p : Option (Option ℕ)) → option_flatten (cond s (Some o) p) ≡ cond s o (option_flatten p)
 flat_tested true o p = refl
@@ -129,6 +75,31 @@ pushed entries new e key place es fs fit grows named last outside table =
       ap (λ (o : Option ℕ). o ∷ map (λ (u : Entry). u.shadowed) entries) outside ∙ ap (λ (os : List (Option ℕ)). innermost e.variable.name (map (λ e. e.variable) entries) ∷ os) fit.1,
     ) in
     subst P (sym grows) f
+
+-- what a table knows where the last name has its earlier place again
+restored_top : (x y : List ℕ) (o : Option ℕ) (v : ℕ) (es fs gs : Keyed) (key : Vec ℕ Global)
+    → key.items ≡ y → o ≡ known_top y es → fs ≡ insert_entry same_key es key (Some v) → gs ≡ set_value (λ k. bytes_eq y k.items) fs o
+    → known_top x gs ≡ known_top x es
+restored_top x y o v es fs gs key own before table back =
+    ap (known_top x) back ∙ ap option_flatten (had_set x y fs o (there_inserted y es fs key (Some v) own table))
+    ∙ flat_tested (bytes_eq x y) o (had x fs)
+    ∙ ap (λ (os : Option (Option ℕ)). cond (bytes_eq x y) o (option_flatten os)) (ap (had x) table ∙ had_inserted x es key (Some v))
+    ∙ ap (cond (bytes_eq x y) o) (flat_tested (bytes_eq x key.items) (Some v) (had x es))
+    ∙ ap (λ (n : List ℕ). cond (bytes_eq x y) o (cond (bytes_eq x n) (Some v) (known_top x es))) own
+    ∙ sym (twice_tested (bytes_eq x y) o (Some v) (known_top x es))
+    ∙ go (bytes_eq x y) refl
+  where
+    go : (s : Bool) → bytes_eq x y ≡ s → cond s o (known_top x es) ≡ known_top x es
+    go true e = before ∙ ap (λ (n : List ℕ). known_top n es) (sym ((bytes_eq-Decides x y).0 e))
+    go false e = refl
+
+pub restored : (entries same : List Entry) (y : List ℕ) (o : Option ℕ) (v : ℕ) (es fs gs : Keyed) (key : Vec ℕ Global)
+    → Fits entries es → same ≡ entries → key.items ≡ y → o ≡ known_top y es → fs ≡ insert_entry same_key es key (Some v) → gs ≡ set_value (λ k. bytes_eq y k.items) fs o
+    → Fits same gs
+restored entries same y o v es fs gs key fit stays own before table back =
+    let P : List Entry → Type 0 = λ us. Fits us gs in
+    let f : Fits entries gs = (λ x. restored_top x y o v es fs gs key own before table back ∙ fit.0 x, fit.1) in
+    subst P (sym stays) f
 
 -- ---- the variable at the place
 

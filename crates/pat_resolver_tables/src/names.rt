@@ -3,6 +3,7 @@ ghost use Rattle.std.specs.Prelude.{◌≡◌, ◌∷◌, ◌++◌, ◌<◌, [],
 ghost use Rattle.pat_names.specs.Scopes.{first_named, itself};
 ghost use Rattle.pat_resolver_tables.specs.Places.{place_of, known_place};
 
+use crate::known::set_known;
 use indexmap::IndexMap;
 use pat_sequences::{Sequence, Text};
 use std::alloc::{AllocError, Global};
@@ -47,14 +48,16 @@ impl NameTable {
         ensures kept { OnErr result (self.new ≡ self.old) }
     {
         let own = name.copy(alloc)?;
-        if self.places.contains_key(name.as_bytes()) {
-            return self.names.push(own);
-        }
         let key = Vec::from_slice(alloc, name.as_bytes())?;
         let place = self.names.len();
         self.names.push(own)?;
         match self.places.insert(key, place) {
-            Ok(_) => Ok(()),
+            Ok(None) => Ok(()),
+            // A name that stood there before keeps its first place.
+            Ok(Some(first)) => {
+                set_known(&mut self.places, name, first);
+                Ok(())
+            }
             Err(_) => {
                 let _ = self.names.pop();
                 Err(AllocError)

@@ -5,6 +5,7 @@ ghost use Rattle.pat_resolver_tables.specs.Views.{scope_view, variable_view};
 ghost use Rattle.pat_resolver_tables.specs.Innermost.{innermost, shadowed_in, known_top};
 ghost use Rattle.pat_resolver_tables.specs.declared.scope.Variable.{Variable};
 
+use crate::known::set_known;
 use indexmap::IndexMap;
 use pat_core::Kind;
 use pat_sequences::{Stack, Text};
@@ -74,18 +75,17 @@ impl ScopeTable {
     {
         let own = name.copy(alloc)?;
         let key = Vec::from_slice(alloc, name.as_bytes())?;
-        let shadowed = self.place_of(name);
+        let place = self.entries.len();
+        let shadowed = self.places.insert(key, Some(place))?.flatten();
         let variable = Variable {
             name: own,
             number,
             kind,
         };
-        let place = self.entries.len();
-        self.entries.push(Entry { variable, shadowed })?;
-        match self.places.insert(key, Some(place)) {
-            Ok(_) => Ok(()),
+        match self.entries.push(Entry { variable, shadowed }) {
+            Ok(()) => Ok(()),
             Err(_) => {
-                let _ = self.entries.pop();
+                set_known(&mut self.places, name, shadowed);
                 Err(AllocError)
             }
         }

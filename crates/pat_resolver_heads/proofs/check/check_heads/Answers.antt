@@ -1,5 +1,5 @@
 use Rattle.std.proofs.lemmas.Result.{err_from_is_err_and}
-use Rattle.std.proofs.Common.{ℕ, List, map, drop, reverse, [], ◌+◌, ◌∙◌, sym, ap}
+use Rattle.std.proofs.Common.{ℕ, List, map, drop, [], ◌+◌, ◌∙◌, sym, ap}
 use Rattle.pat_names.specs.Findings.{heads_findings}
 use Rattle.pat_tree.specs.Views.{decl_view}
 use Rattle.pat_resolver_answers.specs.Results.{first_of}
@@ -13,8 +13,8 @@ pub returns-in_err-check_decl : goal.returns-in_err-check_decl
 returns-in_err-check_decl c =
     let p = err_from_is_err_and c.from_residual.result c.from_residual.ensures.1 in
     let names = names_view c.args.names.now in
-    let interfaces = reverse c.loop-decl.interfaces in
-    let functions = reverse c.loop-decl.functions in
+    let interfaces = c.loop-decl.interfaces in
+    let functions = c.loop-decl.functions in
     let decls = c.args.decls.now in
     let i = c.loop-decl.decl-index in
     let x = c.decl-item.result in
@@ -27,8 +27,8 @@ returns-in_err-check_decl c =
 pub loop-decl-preserved : goal.loop-decl-preserved
 loop-decl-preserved c =
     let names = names_view c.args.names.now in
-    let interfaces = reverse c.loop-decl.interfaces in
-    let functions = reverse c.loop-decl.functions in
+    let interfaces = c.loop-decl.interfaces in
+    let functions = c.loop-decl.functions in
     let decls = c.args.decls.now in
     let i = c.loop-decl.decl-index in
     let x = c.decl-item.result in
@@ -36,7 +36,7 @@ loop-decl-preserved c =
     let whole = heads_findings names [] [] (map decl_view decls) in
     let front = decl_findings names interfaces functions (decl_view x) in
     let rest = heads_findings names (interfaces_with (decl_view x) interfaces) (functions_with (decl_view x) functions) left in
-    ap (λ (e : List (List ℕ)). first_of (heads_findings names e (reverse c.check_decl.new.functions) left)) c.in_ok-check_decl.ensures.interfaces
+    ap (λ (e : List (List ℕ)). first_of (heads_findings names e c.check_decl.new.functions left)) c.in_ok-check_decl.ensures.interfaces
     ∙ ap (λ (e : List (List ℕ)). first_of (heads_findings names (interfaces_with (decl_view x) interfaces) e left)) c.in_ok-check_decl.ensures.functions
     ∙ passed front rest whole c.in_ok-check_decl.ensures.found
     (sym (ap first_of (heads_item names interfaces functions (decl_view x) left)) ∙ at_item (λ ds. heads_findings names interfaces functions (map decl_view ds)) decls i x whole c.loop-decl-test.true c.decl-item.is c.loop-decl.invariant)

@@ -1,4 +1,4 @@
-use Rattle.std.proofs.Common.{◌≡◌, map, drop, reverse, []}
+use Rattle.std.proofs.Common.{◌≡◌, map, drop, []}
 use Rattle.pat_names.specs.Findings.{heads_findings}
 use Rattle.pat_tree.specs.Views.{decl_view}
 use Rattle.pat_resolver_answers.specs.Results.{first_of}
@@ -6,4 +6,4 @@ use Rattle.pat_resolver_heads.specs.Names.{names_view}
 use Rattle.pat_resolver_heads.proofs.check.check_heads.Given as goal
 
 abbrev pub invariant-loop-decl : goal.invariant-loop-decl
-invariant-loop-decl l = first_of (heads_findings (names_view l.names) (reverse l.interfaces) (reverse l.functions) (map decl_view (drop l.decl-index l.decls))) ≡ first_of (heads_findings (names_view l.names) [] [] (map decl_view l.decls))
+invariant-loop-decl l = first_of (heads_findings (names_view l.names) l.interfaces l.functions (map decl_view (drop l.decl-index l.decls))) ≡ first_of (heads_findings (names_view l.names) [] [] (map decl_view l.decls))

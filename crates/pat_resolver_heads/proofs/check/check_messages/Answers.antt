@@ -1,5 +1,5 @@
 use Rattle.std.proofs.lemmas.Result.{err_from_is_err_and}
-use Rattle.std.proofs.Common.{ℕ, List, map, drop, reverse, [], ◌∷◌, ◌+◌, ap, ◌∙◌}
+use Rattle.std.proofs.Common.{ℕ, List, map, drop, [], ◌∷◌, ◌+◌, ap, ◌∙◌}
 use Rattle.pat_names.specs.Findings.{messages_findings}
 use Rattle.pat_tree.specs.Views.{message_view}
 use Rattle.pat_resolver_answers.specs.Results.{first_of}
@@ -12,7 +12,7 @@ pub returns-in_err-check_message : goal.returns-in_err-check_message
 returns-in_err-check_message c =
     let p = err_from_is_err_and c.from_residual.result c.from_residual.ensures.1 in
     let names = names_view c.args.names.now in
-    let earlier = reverse c.loop-message.earlier in
+    let earlier = c.loop-message.earlier in
     let messages = c.args.messages.now in
     let i = c.loop-message.message-index in
     let x = c.message-item.result in
@@ -25,7 +25,7 @@ returns-in_err-check_message c =
 pub loop-message-preserved : goal.loop-message-preserved
 loop-message-preserved c =
     let names = names_view c.args.names.now in
-    let earlier = reverse c.loop-message.earlier in
+    let earlier = c.loop-message.earlier in
     let messages = c.args.messages.now in
     let i = c.loop-message.message-index in
     let x = c.message-item.result in

@@ -1,4 +1,4 @@
-use Rattle.std.proofs.Common.{◌≡◌, map, drop, reverse, []}
+use Rattle.std.proofs.Common.{◌≡◌, map, drop, []}
 use Rattle.pat_names.specs.Findings.{messages_findings}
 use Rattle.pat_tree.specs.Views.{message_view}
 use Rattle.pat_resolver_answers.specs.Results.{first_of}
@@ -6,4 +6,4 @@ use Rattle.pat_resolver_heads.specs.Names.{names_view}
 use Rattle.pat_resolver_heads.proofs.check.check_messages.Given as goal
 
 abbrev pub invariant-loop-message : goal.invariant-loop-message
-invariant-loop-message l = first_of (messages_findings (names_view l.names) (reverse l.earlier) (map message_view (drop l.message-index l.messages))) ≡ first_of (messages_findings (names_view l.names) [] (map message_view l.messages))
+invariant-loop-message l = first_of (messages_findings (names_view l.names) l.earlier (map message_view (drop l.message-index l.messages))) ≡ first_of (messages_findings (names_view l.names) [] (map message_view l.messages))

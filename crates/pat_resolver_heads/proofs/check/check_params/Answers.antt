@@ -1,5 +1,5 @@
 use Rattle.std.proofs.lemmas.Result.{err_from_is_err_and}
-use Rattle.std.proofs.Common.{ℕ, List, map, drop, reverse, [], ◌∷◌, ◌+◌, ap, ◌∙◌}
+use Rattle.std.proofs.Common.{ℕ, List, map, drop, [], ◌∷◌, ◌+◌, ap, ◌∙◌}
 use Rattle.pat_names.specs.Findings.{params_findings}
 use Rattle.pat_tree.specs.Views.{param_view}
 use Rattle.pat_resolver_answers.specs.Results.{first_of}
@@ -12,7 +12,7 @@ pub returns-in_err-check_param : goal.returns-in_err-check_param
 returns-in_err-check_param c =
     let p = err_from_is_err_and c.from_residual.result c.from_residual.ensures.1 in
     let names = names_view c.args.names.now in
-    let earlier = reverse c.loop-param.earlier in
+    let earlier = c.loop-param.earlier in
     let params = c.args.params.now in
     let i = c.loop-param.param-index in
     let x = c.param-item.result in
@@ -25,7 +25,7 @@ returns-in_err-check_param c =
 pub loop-param-preserved : goal.loop-param-preserved
 loop-param-preserved c =
     let names = names_view c.args.names.now in
-    let earlier = reverse c.loop-param.earlier in
+    let earlier = c.loop-param.earlier in
     let params = c.args.params.now in
     let i = c.loop-param.param-index in
     let x = c.param-item.result in

@@ -1,4 +1,4 @@
-use Rattle.std.proofs.Common.{◌≡◌, map, drop, reverse, []}
+use Rattle.std.proofs.Common.{◌≡◌, map, drop, []}
 use Rattle.pat_names.specs.Findings.{params_findings}
 use Rattle.pat_tree.specs.Views.{param_view}
 use Rattle.pat_resolver_answers.specs.Results.{first_of}
@@ -6,4 +6,4 @@ use Rattle.pat_resolver_heads.specs.Names.{names_view}
 use Rattle.pat_resolver_heads.proofs.check.check_params.Given as goal
 
 abbrev pub invariant-loop-param : goal.invariant-loop-param
-invariant-loop-param l = first_of (params_findings (names_view l.names) (reverse l.earlier) (map param_view (drop l.param-index l.params))) ≡ first_of (params_findings (names_view l.names) [] (map param_view l.params))
+invariant-loop-param l = first_of (params_findings (names_view l.names) l.earlier (map param_view (drop l.param-index l.params))) ≡ first_of (params_findings (names_view l.names) [] (map param_view l.params))
