@@ -79,17 +79,21 @@ fn subst_all(
     Ok(Some(closed))
 }
 
+/// A tag without payloads.
+fn tag(alloc: Global, name: &[u8]) -> Result<TagDecl, AllocError> {
+    Ok(TagDecl {
+        name: Text::from_slice(alloc, name)?,
+        payloads: Sequence::new(alloc),
+    })
+}
+
 /// An interface of two tags.
 fn two_tags(alloc: Global) -> Result<Interface, AllocError>
     ensures { IfOk result (λ i. length i.tags ≡ 2) }
 {
     let mut tags = Sequence::new(alloc);
-    for name in [b"a", b"b"] {
-        tags.push(TagDecl {
-            name: Text::from_slice(alloc, name)?,
-            payloads: Sequence::new(alloc),
-        })?;
-    }
+    tags.push(tag(alloc, b"a")?)?;
+    tags.push(tag(alloc, b"b")?)?;
     Ok(Interface {
         name: Text::from_slice(alloc, b"I")?,
         tags,

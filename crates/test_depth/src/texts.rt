@@ -65,7 +65,7 @@ const ROWS: &[(&str, [&str; 5], usize)] = &[
     (
         "spawns",
         ["def f(): Unit { ", "spawn { ", "()", " }", " }"],
-        254,
+        253,
     ),
     (
         "branches",
@@ -81,7 +81,7 @@ const ROWS: &[(&str, [&str; 5], usize)] = &[
             "} else { () }",
             " }",
         ],
-        254,
+        253,
     ),
     (
         "guards",
