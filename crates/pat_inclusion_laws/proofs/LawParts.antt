@@ -4,13 +4,13 @@ use Rattle.std.specs.Prelude.{◌&&◌}
 use Rattle.std.specs.List.{list_all, list_any}
 use Rattle.std.proofs.lemmas.Bool.{and_parts}
 use Rattle.pat_words.specs.Words.{Word}
-use Rattle.pat_words.specs.Patterns.{Pat, In, Included}
+use Rattle.pat_words.specs.Patterns.{Pat, In, Included, subst_of}
 use Rattle.pat_words.specs.Cuts.{cut_at}
 use Rattle.pat_words.specs.Tags.{HasTagsBelow}
 use Rattle.pat_inclusions.specs.Counts.{same_below, counted}
 use Rattle.pat_inclusions.specs.Points.{grid_fits, point_fits, points_ascend, points_fit, points_pattern}
 use Rattle.pat_inclusions.specs.CutWords.{cuts_lie}
-use Rattle.pat_inclusions.specs.Values.{Scope, replaced, is_formed}
+use Rattle.pat_inclusions.specs.Values.{Scope, pattern_of, is_formed}
 use Rattle.pat_inclusions.specs.Certificates.{is_large_enough}
 use Rattle.pat_inclusion_laws.proofs.CutLaws.{cuts_include}
 use Rattle.pat_inclusion_laws.proofs.PointLaws.{points_to, points_from}
@@ -23,11 +23,11 @@ points_words k n points w h =
     let b = and_parts (list_all (point_fits k n) points) (points_ascend points) a.1 in
     (λ i. any_to k n points w b.0 (points_to k n points w i), λ t. points_from k n points w (any_from k n points w t.0 t.1))
 
-pub grid_law : (s : Scope) (k i : ℕ) (e f : Pat) → ValuesFit s → is_formed s i e ≡ true → is_formed s i f ≡ true → 1 ≤ k → is_large_enough s k f ≡ true → (cuts_lie k (s.tags i) (replaced s e) (replaced s f) ≡ true) ↔ Included (replaced s e) (replaced s f)
+pub grid_law : (s : Scope) (k i : ℕ) (e f : Pat) → ValuesFit s → is_formed s i e ≡ true → is_formed s i f ≡ true → 1 ≤ k → is_large_enough s k f ≡ true → (cuts_lie k (s.tags i) (subst_of (pattern_of s) e) (subst_of (pattern_of s) f) ≡ true) ↔ Included (subst_of (pattern_of s) e) (subst_of (pattern_of s) f)
 grid_law s k i e f fit fe ff l large =
     let n = s.tags i in
     let te = replaced_tags s i e fit fe in
     let tf = replaced_tags s i f fit ff in (
-      λ h w j. let r = cuts_include k n (replaced s e) (replaced s f) te tf h w j in large_enough s k f l large r.0 w r.1 r.2,
-      λ h. included_cuts k n (replaced s e) (replaced s f) te tf (λ w j. (w, h w j, refl)),
+      λ h w j. let r = cuts_include k n (subst_of (pattern_of s) e) (subst_of (pattern_of s) f) te tf h w j in large_enough s k f l large r.0 w r.1 r.2,
+      λ h. included_cuts k n (subst_of (pattern_of s) e) (subst_of (pattern_of s) f) te tf (λ w j. (w, h w j, refl)),
     )

@@ -4,7 +4,7 @@ use Rattle.std.specs.Prelude.{slice_get, nat_lt, nat_le, ◌^◌, ◌+◌}
 use Rattle.std.specs.List.{list_all}
 use Rattle.std.proofs.lemmas.Bool.{and_parts, and_from, or_cases, eqb-true, ltb-true, leb-true}
 use Rattle.pat_words.specs.Words.{Word}
-use Rattle.pat_words.specs.Patterns.{Pat, Zero, One, Tag, Sum, Prod, Star, Var, Language, InUnder, In, Included, no_values, pat_eq, is_closed}
+use Rattle.pat_words.specs.Patterns.{Pat, Zero, One, Tag, Sum, Prod, Star, Var, Language, InUnder, In, Included, no_values, pat_eq, is_closed, subst_of}
 use Rattle.pat_words.specs.Flats.{is_flat, degree_of, is_choice}
 use Rattle.pat_words.specs.Cuts.{cut_at}
 use Rattle.pat_words.proofs.PatternLaws.{pat_eq_same}
@@ -12,7 +12,7 @@ use Rattle.pat_words.proofs.FormLaws.{times_mono, subst_to, subst_from}
 use Rattle.pat_words.specs.Tags.{tags_below}
 use Rattle.pat_inclusions.specs.Points.{grid_fits, points_pattern}
 use Rattle.pat_inclusions.specs.CutWords.{cuts_lie}
-use Rattle.pat_inclusions.specs.Values.{VarValue, PatternForm, GridForm, VarLine, Scope, var_at, value_pattern, line_pattern, pattern_of, replaced, plain_or_var, plainly_replaced, has_interface, is_formed, value_fits, values_fit}
+use Rattle.pat_inclusions.specs.Values.{VarValue, PatternForm, GridForm, VarLine, Scope, var_at, value_pattern, line_pattern, pattern_of, plain_or_var, plainly_replaced, has_interface, is_formed, value_fits, values_fit}
 use Rattle.pat_inclusions.specs.Certificates.{Cert, CoverCert, GridCert, is_arm, is_trivial, has_bound, is_large_enough, grid_shows, cert_shows, shows, is_shown_in}
 use Rattle.pat_inclusion_laws.proofs.CoverLaws.{cover_includes}
 use Rattle.pat_inclusion_laws.proofs.Pumping.{flat_by_cut}
@@ -61,10 +61,10 @@ under_closed ls ms (Star a) c w h = (h.0, times_mono (InUnder ls a) (InUnder ms 
 under_closed ls ms (Var k) c w h = cc
 
 -- replacing does nothing to the words of a pattern without variables
-pub closed_to : (s : Scope) (e : Pat) → is_closed e ≡ true → (w : Word) → In (replaced s e) w → In e w
+pub closed_to : (s : Scope) (e : Pat) → is_closed e ≡ true → (w : Word) → In (subst_of (pattern_of s) e) w → In e w
 closed_to s e c w h = under_closed (λ k. In (pattern_of s k)) no_values e c w (subst_to (pattern_of s) no_values e w h)
 
-pub closed_from : (s : Scope) (e : Pat) → is_closed e ≡ true → (w : Word) → In e w → In (replaced s e) w
+pub closed_from : (s : Scope) (e : Pat) → is_closed e ≡ true → (w : Word) → In e w → In (subst_of (pattern_of s) e) w
 closed_from s e c w h = subst_from (pattern_of s) no_values e w (under_closed no_values (λ k. In (pattern_of s k)) e c w h)
 
 -- ---- trivial inclusions
@@ -111,7 +111,7 @@ plain_from s fit k w h = go (var_at s.vars k) refl
     go None at = h
     go (Some v) at = by v v.value refl at
 
-trivial_includes : (s : Scope) (e f : Pat) → ValuesFit s → is_trivial s e f ≡ true → Included (replaced s e) (replaced s f)
+trivial_includes : (s : Scope) (e f : Pat) → ValuesFit s → is_trivial s e f ≡ true → Included (subst_of (pattern_of s) e) (subst_of (pattern_of s) f)
 trivial_includes s e f fit h w i =
     let half : ℕ → Pat = λ k. plain_or_var k (var_at s.vars k) in
     let L = ValueWords s in
@@ -127,17 +127,17 @@ value_tags n (PatternForm e) h =
     (and_parts (is_closed e) (tags_below n e) (and_parts (nat_lt 0 n) (is_closed e && tags_below n e) h).1).1
 value_tags n (GridForm k points) h = points_tags n k points
 
-pub replaced_tags : (s : Scope) (i : ℕ) (e : Pat) → ValuesFit s → is_formed s i e ≡ true → tags_below (s.tags i) (replaced s e) ≡ true
+pub replaced_tags : (s : Scope) (i : ℕ) (e : Pat) → ValuesFit s → is_formed s i e ≡ true → tags_below (s.tags i) (subst_of (pattern_of s) e) ≡ true
 replaced_tags s i Zero fit h = refl
 replaced_tags s i One fit h = refl
 replaced_tags s i (Tag m) fit h = h
 replaced_tags s i (Sum a b) fit h =
     let both = and_parts (is_formed s i a) (is_formed s i b) h in
-    sum_tags (s.tags i) (replaced s a) (replaced s b) (replaced_tags s i a fit both.0) (replaced_tags s i b fit both.1)
+    sum_tags (s.tags i) (subst_of (pattern_of s) a) (subst_of (pattern_of s) b) (replaced_tags s i a fit both.0) (replaced_tags s i b fit both.1)
 replaced_tags s i (Prod a b) fit h =
     let both = and_parts (is_formed s i a) (is_formed s i b) h in
-    prod_tags (s.tags i) (replaced s a) (replaced s b) (replaced_tags s i a fit both.0) (replaced_tags s i b fit both.1)
-replaced_tags s i (Star a) fit h = star_tags (s.tags i) (replaced s a) (replaced_tags s i a fit h)
+    prod_tags (s.tags i) (subst_of (pattern_of s) a) (subst_of (pattern_of s) b) (replaced_tags s i a fit both.0) (replaced_tags s i b fit both.1)
+replaced_tags s i (Star a) fit h = star_tags (s.tags i) (subst_of (pattern_of s) a) (replaced_tags s i a fit h)
 replaced_tags s i (Var k) fit h = go (var_at s.vars k) refl h
   where
     go : (o : Option VarLine) → var_at s.vars k ≡ o → has_interface i o ≡ true → tags_below (s.tags i) (line_pattern s.tags (var_at s.vars k)) ≡ true
@@ -172,13 +172,13 @@ flat_closed (Var k) h = cc
 abbrev ByCut : ℕ → Pat → Type 0
 ByCut k e = (v w : Word) → In e v → cut_at k v ≡ cut_at k w → In e w
 
-flat_large : (s : Scope) (k : ℕ) (f : Pat) → (is_flat f && nat_lt (degree_of f) k) ≡ true → ByCut k (replaced s f)
+flat_large : (s : Scope) (k : ℕ) (f : Pat) → (is_flat f && nat_lt (degree_of f) k) ≡ true → ByCut k (subst_of (pattern_of s) f)
 flat_large s k f h v w i c =
     let both = and_parts (is_flat f) (nat_lt (degree_of f) k) h in
     let closed = flat_closed f both.0 in
     closed_from s f closed w (flat_by_cut f k v w both.0 (ltb-true (degree_of f) k both.1) (closed_to s f closed v i) c)
 
-pub large_enough : (s : Scope) (k : ℕ) (f : Pat) → 1 ≤ k → is_large_enough s k f ≡ true → ByCut k (replaced s f)
+pub large_enough : (s : Scope) (k : ℕ) (f : Pat) → 1 ≤ k → is_large_enough s k f ≡ true → ByCut k (subst_of (pattern_of s) f)
 large_enough s k (Var m) l h = go (var_at s.vars m) refl h
   where
     by : (v : VarLine) (x : VarValue) → v.value ≡ x → var_at s.vars m ≡ Some v → has_bound k (Some (record { interface = v.interface; value = x })) ≡ true → ByCut k (pattern_of s m)
@@ -194,29 +194,29 @@ large_enough s k (Var m) l h = go (var_at s.vars m) refl h
     go (Some v) at b = by v v.value refl at b
 large_enough s k f l h = flat_large s k f h
 
-grid_includes : (s : Scope) (k i : ℕ) (e f : Pat) → ValuesFit s → is_formed s i e ≡ true → is_formed s i f ≡ true → grid_shows s k (s.tags i) e f ≡ true → Included (replaced s e) (replaced s f)
+grid_includes : (s : Scope) (k i : ℕ) (e f : Pat) → ValuesFit s → is_formed s i e ≡ true → is_formed s i f ≡ true → grid_shows s k (s.tags i) e f ≡ true → Included (subst_of (pattern_of s) e) (subst_of (pattern_of s) f)
 grid_includes s k i e f fit fe ff h w j =
     let n = s.tags i in
-    let a = and_parts (grid_fits k n) (is_large_enough s k f && cuts_lie k n (replaced s e) (replaced s f)) h in
-    let b = and_parts (is_large_enough s k f) (cuts_lie k n (replaced s e) (replaced s f)) a.1 in
+    let a = and_parts (grid_fits k n) (is_large_enough s k f && cuts_lie k n (subst_of (pattern_of s) e) (subst_of (pattern_of s) f)) h in
+    let b = and_parts (is_large_enough s k f) (cuts_lie k n (subst_of (pattern_of s) e) (subst_of (pattern_of s) f)) a.1 in
     let l = leb-true 1 k (and_parts (nat_le 1 k) (nat_le ((k + 1) ^ n) 65536) a.0).0 in
-    let r = cuts_include k n (replaced s e) (replaced s f) (replaced_tags s i e fit fe) (replaced_tags s i f fit ff) b.1 w j in
+    let r = cuts_include k n (subst_of (pattern_of s) e) (subst_of (pattern_of s) f) (replaced_tags s i e fit fe) (replaced_tags s i f fit ff) b.1 w j in
     large_enough s k f l b.0 r.0 w r.1 r.2
 
 -- ---- all together
 
-cert_includes : (s : Scope) (i : ℕ) (e f : Pat) (cert : Cert) → ValuesFit s → is_formed s i e ≡ true → is_formed s i f ≡ true → cert_shows s i e f cert ≡ true → Included (replaced s e) (replaced s f)
+cert_includes : (s : Scope) (i : ℕ) (e f : Pat) (cert : Cert) → ValuesFit s → is_formed s i e ≡ true → is_formed s i f ≡ true → cert_shows s i e f cert ≡ true → Included (subst_of (pattern_of s) e) (subst_of (pattern_of s) f)
 cert_includes s i e f (CoverCert entries) fit fe ff h =
-    cover_includes (s.tags i) entries (replaced s e) (replaced s f) (replaced_tags s i e fit fe) (replaced_tags s i f fit ff) h
+    cover_includes (s.tags i) entries (subst_of (pattern_of s) e) (subst_of (pattern_of s) f) (replaced_tags s i e fit fe) (replaced_tags s i f fit ff) h
 cert_includes s i e f (GridCert k) fit fe ff h = grid_includes s k i e f fit fe ff h
 
-shows_includes : (s : Scope) (i : ℕ) (e f : Pat) (cert : Option Cert) → ValuesFit s → is_formed s i e ≡ true → is_formed s i f ≡ true → shows s i e f cert ≡ true → Included (replaced s e) (replaced s f)
+shows_includes : (s : Scope) (i : ℕ) (e f : Pat) (cert : Option Cert) → ValuesFit s → is_formed s i e ≡ true → is_formed s i f ≡ true → shows s i e f cert ≡ true → Included (subst_of (pattern_of s) e) (subst_of (pattern_of s) f)
 shows_includes s i e f None fit fe ff h = trivial_includes s e f fit h
 shows_includes s i e f (Some cert) fit fe ff h =
     cert_includes s i e f cert fit fe ff (and_parts (not (is_trivial s e f)) (cert_shows s i e f cert) h).1
 
 -- what is shown is an inclusion
-pub shown_includes : (s : Scope) (q : Option ℕ) (e f : Pat) (cert : Option Cert) → ValuesFit s → is_shown_in s q e f cert ≡ true → Included (replaced s e) (replaced s f)
+pub shown_includes : (s : Scope) (q : Option ℕ) (e f : Pat) (cert : Option Cert) → ValuesFit s → is_shown_in s q e f cert ≡ true → Included (subst_of (pattern_of s) e) (subst_of (pattern_of s) f)
 shown_includes s None e f cert fit h = cc
 shown_includes s (Some i) e f cert fit h =
     let a = and_parts (is_formed s i e && is_formed s i f) (shows s i e f cert) h in

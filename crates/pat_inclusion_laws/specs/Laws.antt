@@ -12,7 +12,7 @@ use Rattle.pat_inclusions.specs.ClosedForms.{only_empty, times_stars, sets_of, i
 use Rattle.pat_inclusions.specs.Covers.{CoverEntry, is_cover, IsDirectlyCovered}
 use Rattle.pat_inclusions.specs.Points.{points_fit, points_pattern}
 use Rattle.pat_inclusions.specs.CutWords.{cuts_of, cuts_lie}
-use Rattle.pat_inclusions.specs.Values.{Scope, replaced, is_formed, values_fit}
+use Rattle.pat_inclusions.specs.Values.{Scope, pattern_of, is_formed, values_fit}
 use Rattle.pat_inclusions.specs.Certificates.{Cert, Inclusion, cover_shows, is_trivial, is_large_enough, is_shown, are_shown}
 use Rattle.pat_inclusions.specs.Under.{nullable_under, inhabited_under}
 
@@ -107,7 +107,7 @@ LargeLaw =
     → 1 ≤ k
     → IsTrue (is_large_enough s k f)
     → cut_at k v ≡ cut_at k w
-    → In (replaced s f) v ↔ In (replaced s f) w
+    → In (subst_of (pattern_of s) f) v ↔ In (subst_of (pattern_of s) f) w
 
 -- where the bound is large enough, the cuts lie in one another just where the words do
 abbrev pub GridLaw : Type 0
@@ -118,7 +118,7 @@ GridLaw =
     → IsTrue (is_formed s i f)
     → 1 ≤ k
     → IsTrue (is_large_enough s k f)
-    → IsTrue (cuts_lie k (s.tags i) (replaced s e) (replaced s f)) ↔ Included (replaced s e) (replaced s f)
+    → IsTrue (cuts_lie k (s.tags i) (subst_of (pattern_of s) e) (subst_of (pattern_of s) f)) ↔ Included (subst_of (pattern_of s) e) (subst_of (pattern_of s) f)
 
 -- ---- all together
 
@@ -128,7 +128,7 @@ ShownLaw =
     (s : Scope) (q : Inclusion) (cert : Option Cert)
     → IsTrue (values_fit s)
     → IsTrue (is_shown s q cert)
-    → Included (replaced s q.left) (replaced s q.right)
+    → Included (subst_of (pattern_of s) q.left) (subst_of (pattern_of s) q.right)
 
 -- an inclusion that is trivial takes no certificate
 abbrev pub TrivialLaw : Type 0

@@ -1,7 +1,7 @@
 -- Values of pattern variables: a pattern, or a set of points of a grid.
 use Rattle.std.specs.Prelude.{ℕ, zero, suc, Bool, true, false, ◌&&◌, nat_eq, nat_lt, List, Option, Some, None, slice_get}
 use Rattle.std.specs.List.{list_all}
-use Rattle.pat_words.specs.Patterns.{Pat, Zero, Tag, Sum, Prod, Star, Var, is_closed, subst_of}
+use Rattle.pat_words.specs.Patterns.{Pat, Zero, One, Tag, Sum, Prod, Star, Var, is_closed, subst_of}
 use Rattle.pat_words.specs.Tags.{tags_below}
 use Rattle.pat_inclusions.specs.Points.{points_fit, points_pattern}
 
@@ -39,17 +39,20 @@ line_pattern tags (Some v) = value_pattern (tags v.interface) v.value
 abbrev pub pattern_of : Scope → ℕ → Pat
 pattern_of s k = line_pattern s.tags (var_at s.vars k)
 
--- the pattern in which each variable is replaced by its pattern
-abbrev pub replaced : Scope → Pat → Pat
-replaced s e = subst_of (pattern_of s) e
+-- the pattern in which each variable is replaced, and nothing simplified: a pattern without variables stays as it is. `subst_of`
+-- replaces by the simplifying forms
+abbrev pub replaced : (ℕ → Pat) → Pat → Pat
+replaced values Zero = Zero
+replaced values One = One
+replaced values (Tag m) = Tag m
+replaced values (Sum e f) = Sum (replaced values e) (replaced values f)
+replaced values (Prod e f) = Prod (replaced values e) (replaced values f)
+replaced values (Star e) = Star (replaced values e)
+replaced values (Var k) = values k
 
--- the same with nothing simplified: a pattern without variables stays as it is
+-- the pattern in which each variable is replaced by its pattern, and nothing simplified
 abbrev pub filled : Scope → Pat → Pat
-filled s (Sum e f) = Sum (filled s e) (filled s f)
-filled s (Prod e f) = Prod (filled s e) (filled s f)
-filled s (Star e) = Star (filled s e)
-filled s (Var k) = pattern_of s k
-filled s e = e
+filled s e = replaced (pattern_of s) e
 
 -- the pattern of variable k where its value is a pattern, and otherwise the variable
 abbrev pub plain_or_var : ℕ → Option VarLine → Pat

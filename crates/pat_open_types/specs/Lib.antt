@@ -1,0 +1,4 @@
+pub mod Compared
+pub mod NodeTypes
+pub mod Signatures
+pub mod Typings
