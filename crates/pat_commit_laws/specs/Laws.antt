@@ -1,0 +1,73 @@
+-- Laws of open steps, of turns, of commits, and of what a machine keeps.
+use Rattle.std.specs.Prelude.{◌≡◌, ℕ, ◌+◌, ◌-◌, ◌<◌, ◌≤◌, List, [], length, Option, Some, None, slice_set, IsTrue, ◌↔◌}
+use Rattle.pat_model.specs.Programs.{Program}
+use Rattle.pat_model.specs.WellFormed.{WellFormed}
+use Rattle.pat_model.specs.Configs.{Config, start}
+use Rattle.pat_model.specs.Orders.{IsOrdered}
+use Rattle.pat_model.specs.Steps.{Act}
+use Rattle.pat_model.specs.Runs.{Entry, IsSharedOrNone, run_from, entry_steps}
+use Rattle.pat_typing.specs.Typings.{IsTypable}
+use Rattle.pat_commits.specs.Opens.{IsOpen, IsStill, can_go_on}
+use Rattle.pat_commits.specs.Commits.{IsCommit, noted}
+use Rattle.pat_commits.specs.Lendings.{Out, all_in, allowance_of, allowances, committed_out}
+use Rattle.pat_commits.specs.Turns.{IsReady, IsTurn, turn}
+use Rattle.pat_commits.specs.Machines.{MachineInvariant, HasRoom}
+
+-- the test of a thread says yes exactly where a step of it is open
+abbrev pub OpenTestIsExact : Type 0
+OpenTestIsExact =
+    (p : Program) (c : Config) (limit t : ℕ) → IsTrue (can_go_on p c limit t) ↔ ((a : Act) × IsOpen p c limit (record { thread = t; act = a }))
+
+-- in order, the thread that is found is the one whose turn it is
+abbrev pub FoundIsTurn : Type 0
+FoundIsTurn =
+    (p : Program) (c : Config) (limit : ℕ) (out : Out) (last : Option ℕ) (t : ℕ) → IsOrdered c → turn p c limit out last ≡ Some t → IsTurn p c limit out last t
+
+-- and where none is found, none is ready
+abbrev pub NoneFoundIsNone : Type 0
+NoneFoundIsNone =
+    (p : Program) (c : Config) (limit : ℕ) (out : Out) (last : Option ℕ) → turn p c limit out last ≡ None → (t : ℕ) → IsReady p c limit out t → ⊥
+
+-- a commit takes just the steps of its entry, within the allowance, and its entry may stand in a history
+abbrev pub CommitRuns : Type 0
+CommitRuns =
+    (p : Program) (allowance limit : ℕ) (c d : Config) (e : Entry) → IsCommit p allowance limit c e d → (run_from p c (entry_steps e) ≡ Some d) × (length (entry_steps e) ≤ allowance) × IsSharedOrNone e.shared
+
+-- its entry has no step exactly where no step of its thread was open
+abbrev pub IdleCommitIsStill : Type 0
+IdleCommitIsStill =
+    (p : Program) (allowance limit : ℕ) (c d : Config) (e : Entry) → IsCommit p allowance limit c e d → 0 < allowance → (length (entry_steps e) ≡ 0) ↔ IsStill p c limit e.thread
+
+-- what a machine keeps is true at the start of a typable program
+abbrev pub StartKeeps : Type 0
+StartKeeps =
+    (p : Program) (budget limit : ℕ) → WellFormed p → IsTypable p → budget ≤ 1000000 → 0 < limit → MachineInvariant p budget limit (start p) [] budget (all_in (start p).next_thread)
+
+-- it stays true where a ready thread is taken,
+abbrev pub TakeKeeps : Type 0
+TakeKeeps =
+    (p : Program) (budget limit : ℕ) (c : Config) (es : List Entry) (left : ℕ) (out : Out) (t n : ℕ) → MachineInvariant p budget limit c es left out → IsReady p c limit out t → 0 < n → n ≤ left
+    → MachineInvariant p budget limit c es (left - n) (slice_set out t (Some n))
+
+-- where a thread is given back,
+abbrev pub GiveBackKeeps : Type 0
+GiveBackKeeps =
+    (p : Program) (budget limit : ℕ) (c : Config) (es : List Entry) (left : ℕ) (out : Out) (t n : ℕ) → MachineInvariant p budget limit c es left out → allowance_of out t ≡ Some n
+    → MachineInvariant p budget limit c es (left + n) (slice_set out t None)
+
+-- where all are,
+abbrev pub GiveAllBackKeeps : Type 0
+GiveAllBackKeeps =
+    (p : Program) (budget limit : ℕ) (c : Config) (es : List Entry) (left : ℕ) (out : Out) → MachineInvariant p budget limit c es left out → MachineInvariant p budget limit c es (left + allowances out) (all_in (length out))
+
+-- and where a thread that is out is committed
+abbrev pub CommitKeeps : Type 0
+CommitKeeps =
+    (p : Program) (budget limit allowance : ℕ) (c d : Config) (es : List Entry) (left : ℕ) (out : Out) (e : Entry)
+    → MachineInvariant p budget limit c es left out → allowance_of out e.thread ≡ Some allowance → IsCommit p allowance limit c e d
+    → MachineInvariant p budget limit d (noted es e) (left + (allowance - length (entry_steps e))) (committed_out out e.thread e.shared)
+
+-- and there is always a further number of each kind
+abbrev pub NumbersAreLeft : Type 0
+NumbersAreLeft =
+    (p : Program) (budget limit : ℕ) (c : Config) (es : List Entry) (left : ℕ) (out : Out) → MachineInvariant p budget limit c es left out → HasRoom c

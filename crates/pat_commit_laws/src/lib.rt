@@ -1,0 +1,27 @@
+//! Laws of open steps, turns, commits, and of what a machine keeps. No code of the product.
+#![tactic(auto)]
+
+ghost use Rattle.pat_commit_laws.specs.Laws.{OpenTestIsExact, FoundIsTurn, NoneFoundIsNone, CommitRuns, IdleCommitIsStill, StartKeeps, TakeKeeps, GiveBackKeeps, GiveAllBackKeeps, CommitKeeps, NumbersAreLeft};
+
+/// The test of an open step is exact, and the thread that is found first is the one whose turn it is.
+pub fn turn_laws()
+    ensures opens { OpenTestIsExact }
+    ensures turns { FoundIsTurn }
+    ensures none { NoneFoundIsNone }
+{}
+
+/// A commit takes just the steps of its entry, and has none only where none was open.
+pub fn commit_laws()
+    ensures runs { CommitRuns }
+    ensures idle { IdleCommitIsStill }
+{}
+
+/// What a machine keeps is true at the start, and stays true where jobs are taken, given back and committed.
+pub fn machine_laws()
+    ensures start { StartKeeps }
+    ensures take { TakeKeeps }
+    ensures give_back { GiveBackKeeps }
+    ensures give_back_all { GiveAllBackKeeps }
+    ensures commit { CommitKeeps }
+    ensures numbers { NumbersAreLeft }
+{}

@@ -1,0 +1,5 @@
+pub mod Opens
+pub mod Commits
+pub mod Lendings
+pub mod Turns
+pub mod Machines
