@@ -1,7 +1,7 @@
-mod Tests
-mod Inclusion
+pub mod Tests
+pub mod Inclusion
 mod KindTests
-mod FitTests
+pub mod FitTests
 mod TypeTests
 mod SafePrograms
 mod Histories

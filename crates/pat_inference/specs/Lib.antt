@@ -1,0 +1,10 @@
+pub mod Constraints
+pub mod Needs
+pub mod Binders
+pub mod BothParts
+pub mod Branches
+pub mod Walk
+pub mod Solutions
+pub mod Laws
+pub mod Shapes
+pub mod Inclusions
