@@ -1,5 +1,5 @@
 -- Sets of words: sums of a word of each, and finite sums of words of one.
-use Rattle.std.proofs.Common.{◌≡◌, ℕ, zero, suc, ◌⊎◌, inl, inr, ⊎_elim, refl, sym, ap, ◌∙◌, subst, arith, suc-mul, zero-mul}
+use Rattle.std.proofs.Common.{◌≡◌, ℕ, zero, suc, inl, inr, ⊎_elim, refl, sym, ap, ◌∙◌, subst, arith, suc-mul, zero-mul}
 use Rattle.pat_words.specs.Words.{Word, no_word, plus}
 use Rattle.pat_words.specs.Patterns.{Language, Times}
 use Rattle.pat_words.proofs.WordLaws.{word_ext, plus_comm, plus_assoc, plus_none, none_plus}

@@ -5,9 +5,9 @@ pub mod CoverLaws
 pub mod Pumping
 pub mod CutLaws
 pub mod PointLaws
-mod Shown
+pub mod Shown
 pub mod Exact
 pub mod LawParts
-mod Taking
-mod UnderLaws
+pub mod Taking
+pub mod UnderLaws
 pub mod FormCounts

@@ -1,0 +1,10 @@
+mod Filled
+mod DemandsMet
+mod Unbroken
+mod Names
+mod Signatures
+mod Terms
+mod Guards
+mod Valid
+mod ScopeLaws
+mod ReadingLaws
