@@ -8,3 +8,4 @@ mod Guards
 mod Valid
 mod ScopeLaws
 mod ReadingLaws
+mod Tested
