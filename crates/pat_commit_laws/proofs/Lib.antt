@@ -1,8 +1,7 @@
+-- for others: lemmas on local steps and open ones
+pub mod Locals
+pub mod Opens
 -- the crate's own
-mod LookUps
-mod Locals
-mod Moves
-mod Opens
 mod Tables
 mod Runs
 mod Ready
@@ -11,3 +10,6 @@ mod Takings
 mod Endings
 mod Idle
 mod Rooms
+mod LookUps
+mod Moves
+mod Refused

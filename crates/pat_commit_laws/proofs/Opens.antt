@@ -58,7 +58,7 @@ send_alone p c t a d e h g =
     let same : o.thread ≡ w.thread = cc in
     only_send p c t o.thread d (send_step p c t o.thread d (redex p o.thread.control) refl o.gives) a e (ap (λ s. thread_step p c t s a) same ∙ w.gives)
 
-some_of : {A : Type 0} (o : Option A) → is_some o ≡ true → (x : A) × (o ≡ Some x)
+pub some_of : {A : Type 0} (o : Option A) → is_some o ≡ true → (x : A) × (o ≡ Some x)
 some_of None h = cc
 some_of (Some x) h = (x, refl)
 

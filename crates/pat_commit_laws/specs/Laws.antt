@@ -1,16 +1,17 @@
--- Laws of open steps, of turns, of commits, and of what a machine keeps.
+-- Laws of open steps, of turns, of commits, of what a machine keeps, and of histories that are refused.
 use Rattle.std.specs.Prelude.{◌≡◌, ℕ, ◌+◌, ◌-◌, ◌<◌, ◌≤◌, List, [], length, Option, Some, None, slice_set, IsTrue, ◌↔◌}
 use Rattle.pat_model.specs.Programs.{Program}
 use Rattle.pat_model.specs.WellFormed.{WellFormed}
 use Rattle.pat_model.specs.Configs.{Config, start}
 use Rattle.pat_model.specs.Orders.{IsOrdered}
 use Rattle.pat_model.specs.Steps.{Act}
-use Rattle.pat_model.specs.Runs.{Entry, IsSharedOrNone, run_from, entry_steps}
+use Rattle.pat_model.specs.Runs.{Entry, IsSharedOrNone, run_from, entry_steps, replay_from}
 use Rattle.pat_typing.specs.Typings.{IsTypable}
 use Rattle.pat_commits.specs.Opens.{IsOpen, IsStill, can_go_on}
 use Rattle.pat_commits.specs.Commits.{IsCommit, noted}
 use Rattle.pat_commits.specs.Lendings.{Out, all_in, allowance_of, allowances, committed_out}
 use Rattle.pat_commits.specs.Turns.{IsReady, IsTurn, turn}
+use Rattle.pat_commits.specs.Refusals.{IsRefusedAt}
 use Rattle.pat_commits.specs.Machines.{MachineInvariant, HasRoom}
 
 -- the test of a thread says yes exactly where a step of it is open
@@ -71,3 +72,11 @@ CommitKeeps =
 abbrev pub NumbersAreLeft : Type 0
 NumbersAreLeft =
     (p : Program) (budget limit : ℕ) (c : Config) (es : List Entry) (left : ℕ) (out : Out) → MachineInvariant p budget limit c es left out → HasRoom c
+
+-- a history has no replay exactly where an entry of it is refused
+abbrev pub NoReplayIsRefused : Type 0
+NoReplayIsRefused = (p : Program) (c : Config) (es : List Entry) → (replay_from p c es ≡ None) ↔ ((i : ℕ) × IsRefusedAt p c es i)
+
+-- and that is one entry
+abbrev pub OneEntryIsRefused : Type 0
+OneEntryIsRefused = (p : Program) (c : Config) (es : List Entry) (i j : ℕ) → IsRefusedAt p c es i → IsRefusedAt p c es j → i ≡ j

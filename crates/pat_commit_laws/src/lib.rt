@@ -1,7 +1,7 @@
 //! Laws of open steps, turns, commits, and of what a machine keeps. No code of the product.
 #![tactic(auto)]
 
-ghost use Rattle.pat_commit_laws.specs.Laws.{OpenTestIsExact, FoundIsTurn, NoneFoundIsNone, CommitRuns, IdleCommitIsStill, StartKeeps, TakeKeeps, GiveBackKeeps, GiveAllBackKeeps, CommitKeeps, NumbersAreLeft};
+ghost use Rattle.pat_commit_laws.specs.Laws.{OpenTestIsExact, FoundIsTurn, NoneFoundIsNone, CommitRuns, IdleCommitIsStill, StartKeeps, TakeKeeps, GiveBackKeeps, GiveAllBackKeeps, CommitKeeps, NumbersAreLeft, NoReplayIsRefused, OneEntryIsRefused};
 
 /// The test of an open step is exact, and the thread that is found first is the one whose turn it is.
 pub fn turn_laws()
@@ -24,4 +24,10 @@ pub fn machine_laws()
     ensures give_back_all { GiveAllBackKeeps }
     ensures commit { CommitKeeps }
     ensures numbers { NumbersAreLeft }
+{}
+
+/// A history has a replay, or one entry of it is refused.
+pub fn refusal_laws()
+    ensures refused { NoReplayIsRefused }
+    ensures one { OneEntryIsRefused }
 {}

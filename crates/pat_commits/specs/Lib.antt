@@ -3,3 +3,4 @@ pub mod Commits
 pub mod Lendings
 pub mod Turns
 pub mod Machines
+pub mod Refusals

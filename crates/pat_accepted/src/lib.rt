@@ -1,0 +1,6 @@
+//! Programs that may run.
+#![tactic(auto)]
+
+mod accepted;
+
+pub use accepted::Accepted;

@@ -1,0 +1,44 @@
+// The act of a thread that is open.
+ghost use Rattle.std.specs.Prelude.{◌≡◌, ◌&&◌, not, option_map};
+ghost use Rattle.pat_core.specs.Views.{program_view};
+ghost use Rattle.pat_reduce.specs.Views.{act_view};
+ghost use Rattle.pat_commits.specs.Opens.{has_space};
+ghost use Rattle.pat_machine_states.specs.Opening.{OpenAct, is_sending};
+
+use crate::State;
+use pat_executable::Executable;
+use pat_reduce::Act;
+
+impl State {
+    // The act of the thread that is open, if one is. A guard receives the first message that it takes.
+    pub(crate) fn open_act(&self, code: &Executable, limit: u32, thread: u32) -> Option<Act>
+        ensures { OpenAct (program_view code.now.program) self.now limit thread (option_map act_view result) }
+    {
+        let act = self.config.enabled_act(code, thread);
+        if self.is_held_back(limit, act) {
+            None
+        } else {
+            act
+        }
+    }
+
+    // Whether the act is a send for which there is no space.
+    fn is_held_back(&self, limit: u32, act: Option<Act>) -> bool
+        ensures { result ≡ (is_sending (option_map act_view act) && not (has_space self.now limit)) }
+    {
+        is_sending(act) && !self.has_space(limit)
+    }
+
+    // Whether one more message may be pending.
+    fn has_space(&self, limit: u32) -> bool
+        ensures { result ≡ has_space self.now limit }
+    {
+        self.config.messages.len() < limit as usize
+    }
+}
+
+fn is_sending(act: Option<Act>) -> bool
+    ensures { result ≡ is_sending (option_map act_view act) }
+{
+    matches!(act, Some(Act::Send))
+}

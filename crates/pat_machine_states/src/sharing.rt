@@ -1,0 +1,70 @@
+// The shared step that ends a commit.
+ghost use Rattle.std.specs.Prelude.{◌≡◌, ℕ, ◌<◌, Some, option_map, IfOk, OnErr};
+ghost use Rattle.pat_model.specs.Orders.{IsOrdered};
+ghost use Rattle.pat_model.specs.Configs.{Thread as ThreadOf, thread_at, with_thread};
+ghost use Rattle.pat_core.specs.Views.{program_view};
+ghost use Rattle.pat_reduce_threads.specs.ThreadViews.{thread_view};
+ghost use Rattle.pat_reduce.specs.Views.{act_view};
+ghost use Rattle.pat_commits.specs.Commits.{Shares};
+ghost use Rattle.pat_commits.specs.Machines.{HasRoom, IsTypedBySome};
+
+use crate::State;
+use crate::places::let_go;
+use pat_executable::Executable;
+use pat_reduce::{Act, Step, StepError, ThreadState};
+use std::alloc::{AllocError, Global};
+
+impl State {
+    /// Puts a state in the place of a thread's, and takes the shared step that is open then, if one is.
+    /// An error changes nothing.
+    pub fn share(
+        &mut self,
+        alloc: Global,
+        code: &Executable,
+        limit: u32,
+        thread: u32,
+        state: ThreadState,
+    ) -> Result<Option<Act>, AllocError>
+        requires there { (s : ThreadOf) × (thread_at self.old thread ≡ Some s) }
+        requires room { HasRoom self.old }
+        requires typed { IsTypedBySome (program_view code.now.program) (with_thread self.old thread (thread_view state)) }
+        ensures ok { IfOk result (λ a. Shares (program_view code.now.program) limit (with_thread self.old thread (thread_view state)) thread (option_map act_view a) self.new) }
+        ensures err { OnErr result (self.new ≡ self.old) }
+    {
+        let kept = self.swap(thread, state);
+        match self.take_open(alloc, code, limit, thread) {
+            Ok(act) => {
+                let_go(kept);
+                Ok(act)
+            }
+            Err(AllocError) => {
+                self.put(thread, kept);
+                Err(AllocError)
+            }
+        }
+    }
+
+    // Takes the step of the thread that is open, if one is. An error changes nothing.
+    fn take_open(
+        &mut self,
+        alloc: Global,
+        code: &Executable,
+        limit: u32,
+        thread: u32,
+    ) -> Result<Option<Act>, AllocError>
+        requires room { HasRoom self.old }
+        requires ordered { IsOrdered self.old }
+        ensures ok { IfOk result (λ a. Shares (program_view code.now.program) limit self.old thread (option_map act_view a) self.new) }
+        ensures err { OnErr result (self.new ≡ self.old) }
+    {
+        let Some(act) = self.open_act(code, limit, thread) else {
+            return Ok(None);
+        };
+        match self.config.step(alloc, code, &Step { thread, act }) {
+            Ok(()) => Ok(Some(act)),
+            // The act is enabled.
+            Err(StepError::Disabled) => unreachable!(),
+            Err(StepError::NoMemory) => Err(AllocError),
+        }
+    }
+}

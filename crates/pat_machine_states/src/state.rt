@@ -1,0 +1,79 @@
+// The kept configuration and the states of its threads.
+ghost use Rattle.std.specs.Prelude.{◌≡◌, ℕ, ◌<◌, Some, None, length, option_copied, option_map, IfOk, slice_get, slice_set};
+ghost use Rattle.pat_model.specs.Configs.{Thread as ThreadOf, start, thread_at, with_thread};
+ghost use Rattle.pat_core.specs.Views.{program_view};
+ghost use Rattle.pat_reduce_threads.specs.ThreadViews.{thread_view};
+
+use crate::places::{let_go, place_of, state_of, swap_at};
+use pat_executable::Executable;
+use pat_reduce::{Config, ThreadState};
+use pat_sequences::Text;
+use std::alloc::{AllocError, Global};
+use std::marker::Model;
+
+/// A configuration, kept as plain lists. Contracts see the configuration of the definitions, however it is kept.
+#[derive(Drop)]
+pub struct State {
+    pub(crate) config: Config,
+}
+
+impl Model for State {
+    ghost use Rattle.pat_model.specs.Configs.{Config};
+    ghost use Rattle.pat_reduce.specs.Views.{config_view};
+
+    ghost Value = { Config };
+
+    ghost view = { λ s. config_view s.config };
+}
+
+impl State {
+    /// The start of the program.
+    pub fn start(alloc: Global, code: &Executable) -> Result<State, AllocError>
+        ensures { IfOk result (λ s. s ≡ start (program_view code.now.program)) }
+    {
+        let config = Config::start(alloc, code)?;
+        Ok(State { config })
+    }
+
+    /// The state of a thread.
+    pub fn thread(&self, thread: u32) -> Option<&ThreadState>
+        ensures { option_map thread_view (option_copied result) ≡ thread_at self.now thread }
+    {
+        state_of(self.config.threads.as_slice(), thread)
+    }
+
+    /// Puts a state in the place of a thread's, which it gives back. It takes no memory.
+    pub fn swap(&mut self, thread: u32, state: ThreadState) -> ThreadState
+        requires { (s : ThreadOf) × (thread_at self.old thread ≡ Some s) }
+        ensures before { thread_at self.old thread ≡ Some (thread_view result) }
+        ensures after { self.new ≡ with_thread self.old thread (thread_view state) }
+    {
+        match place_of(self.config.threads.as_slice(), thread) {
+            Some(place) => swap_at(&mut self.config.threads, thread, place, state),
+            // The thread is there.
+            None => unreachable!(),
+        }
+    }
+
+    /// Puts a state in the place of a thread's. It takes no memory.
+    pub fn put(&mut self, thread: u32, state: ThreadState)
+        requires { (s : ThreadOf) × (thread_at self.old thread ≡ Some s) }
+        ensures { self.new ≡ with_thread self.old thread (thread_view state) }
+    {
+        let_go(self.swap(thread, state));
+    }
+
+    /// How many threads were made.
+    pub fn threads_made(&self) -> u32
+        ensures { result ≡ self.now.next_thread }
+    {
+        self.config.next_thread
+    }
+
+    /// The printed lines.
+    pub fn printed(&self) -> &[Text]
+        ensures { result.now ≡ self.now.printed }
+    {
+        self.config.printed.as_slice()
+    }
+}

@@ -1,0 +1,43 @@
+-- States that are the same, part by part.
+use Rattle.std.proofs.Common.{◌≡◌, ℕ, zero, suc, ◌<◌, List, [], ◌∷◌, length, map, get_or, reverse, refl, sym, ap, ◌∙◌, arith}
+use Rattle.std.proofs.lemmas.List.{length-map, reverse-reverse}
+use Rattle.pat_model.specs.Configs.{Control, Frame, Thread}
+use Rattle.pat_reduce_threads.specs.declared.state.ThreadState.{ThreadState}
+use Rattle.pat_reduce_threads.specs.ThreadViews.{control_view, frame_view, thread_view}
+use mathlib.Core.List.{reverse_aux}
+
+-- what is seen as the same is as long
+pub same_length : {A B : Type 0} (view : A → B) (xs ys : List A) → map view xs ≡ map view ys → length xs ≡ length ys
+same_length view xs ys same = sym (length-map xs view) ∙ ap length same ∙ length-map ys view
+
+-- and the same at each place
+pub same_at : {A B : Type 0} (view : A → B) (xs ys : List A) (i : ℕ) (x y : A) → map view xs ≡ map view ys → i < length xs → x ≡ get_or xs i x → y ≡ get_or ys i y → view x ≡ view y
+same_at view [] ys i x y same within is at = absurd (omega arith)
+same_at view (a ∷ xs) [] i x y same within is at = cc
+same_at {B} view (a ∷ xs) (b ∷ ys) zero x y same within is at = let both : view a ≡ view b = cc in ap view is ∙ both ∙ ap view (sym at)
+same_at {B} view (a ∷ xs) (b ∷ ys) (suc i) x y same within is at =
+    let rest : map view xs ≡ map view ys = cc in
+    same_at view xs ys i x y rest (omega arith) is at
+
+map-onto : {A B : Type 0} (view : A → B) (xs ys : List A) → map view (reverse_aux xs ys) ≡ reverse_aux (map view xs) (map view ys)
+map-onto view [] ys = refl
+map-onto view (x ∷ xs) ys = map-onto view xs (x ∷ ys)
+
+map-reverse : {A B : Type 0} (view : A → B) (xs : List A) → map view (reverse xs) ≡ reverse (map view xs)
+map-reverse view xs = map-onto view xs []
+
+-- what is the same from the bottom up is the same from the top down
+pub same_reversed : {A B : Type 0} (view : A → B) (xs ys fs gs : List A) → reverse xs ≡ fs → reverse ys ≡ gs → map view xs ≡ map view ys → map view fs ≡ map view gs
+same_reversed view xs ys fs gs first second same =
+    ap (map view) (sym first) ∙ map-reverse view xs ∙ ap reverse same ∙ sym (map-reverse view ys) ∙ ap (map view) second
+
+-- and back
+pub same_upright : {A B : Type 0} (view : A → B) (xs ys fs gs : List A) → reverse xs ≡ fs → reverse ys ≡ gs → map view fs ≡ map view gs → map view xs ≡ map view ys
+same_upright view xs ys fs gs first second same =
+    same_reversed view fs gs xs ys (ap reverse (sym first) ∙ reverse-reverse xs) (ap reverse (sym second) ∙ reverse-reverse ys) same
+
+-- the same control and the same frames
+pub same_thread : (s t : ThreadState) → control_view s.control ≡ control_view t.control → map frame_view s.frames ≡ map frame_view t.frames → thread_view s ≡ thread_view t
+same_thread s t control frames =
+    let by : Control → List Frame → Thread = λ k fs. record { control = k; frames = fs } in
+    ap (λ k. by k (map frame_view s.frames)) control ∙ ap (by (control_view t.control)) frames

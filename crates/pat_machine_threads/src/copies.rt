@@ -1,0 +1,60 @@
+// Copies of the states of threads.
+ghost use Rattle.std.specs.Prelude.{◌≡◌, map, IfOk};
+ghost use Rattle.pat_reduce_threads.specs.ThreadViews.{control_view, frame_view, thread_view};
+ghost use Rattle.pat_reduce_values.specs.ValueViews.{env_view};
+
+use pat_reduce::{Control, Frame, ThreadState, Value};
+use pat_sequences::{Sequence, Stack};
+use std::alloc::{AllocError, Global};
+
+/// A second state, the same.
+pub fn copy_state(alloc: Global, state: &ThreadState) -> Result<ThreadState, AllocError>
+    ensures { IfOk result (λ s. thread_view s ≡ thread_view state.now) }
+{
+    let control = copy_control(alloc, &state.control)?;
+    let frames = copy_frames(alloc, &state.frames)?;
+    Ok(ThreadState { control, frames })
+}
+
+fn copy_control(alloc: Global, control: &Control) -> Result<Control, AllocError>
+    ensures { IfOk result (λ k. control_view k ≡ control_view control.now) }
+{
+    match control {
+        Control::Node { node, env } => {
+            let env = copy_env(alloc, env.as_slice())?;
+            Ok(Control::Node { node: *node, env })
+        }
+        Control::Returned(value) => Ok(Control::Returned(value.copy(alloc)?)),
+    }
+}
+
+fn copy_frames(alloc: Global, frames: &Stack<Frame>) -> Result<Stack<Frame>, AllocError>
+    ensures { IfOk result (λ own. map frame_view own ≡ map frame_view frames.now) }
+{
+    let mut own = Stack::new(alloc);
+    for frame in frames.as_slice() {
+        own.push(copy_frame(alloc, frame)?)?;
+    }
+    Ok(own)
+}
+
+fn copy_frame(alloc: Global, frame: &Frame) -> Result<Frame, AllocError>
+    ensures { IfOk result (λ f. frame_view f ≡ frame_view frame.now) }
+{
+    let env = copy_env(alloc, frame.env.as_slice())?;
+    Ok(Frame {
+        var: frame.var,
+        body: frame.body,
+        env,
+    })
+}
+
+fn copy_env(alloc: Global, env: &[(u32, Value)]) -> Result<Sequence<(u32, Value)>, AllocError>
+    ensures { IfOk result (λ own. env_view own ≡ env_view env.now) }
+{
+    let mut own = Sequence::new(alloc);
+    for entry in env {
+        own.push((entry.0, entry.1.copy(alloc)?))?;
+    }
+    Ok(own)
+}
