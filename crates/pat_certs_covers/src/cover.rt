@@ -3,12 +3,13 @@ ghost use Rattle.std.specs.Prelude.{◌≡◌, Some, slice_get, IsTrue};
 ghost use Rattle.pat_words.specs.Words.{Word};
 ghost use Rattle.pat_bags.specs.Views.{word_of};
 ghost use Rattle.pat_inclusions.specs.Counts.{most_tags};
-ghost use Rattle.pat_inclusions.specs.LinearSets.{InSets, SetsBelow};
+ghost use Rattle.pat_inclusions.specs.LinearSets.{InSets};
 ghost use Rattle.pat_inclusions.specs.Covers.{make_each as make_each_of, entry_covers as entry_covers_of, is_cover};
 ghost use Rattle.pat_linear.specs.Views.{words_of, set_view, sets_view};
 ghost use Rattle.pat_certs_covers.specs.Views.{entry_view, entries_view};
 
 use crate::combining::{makes, makes_from};
+use crate::few_tags::sets_are_few;
 use pat_bags::Bag;
 use pat_linear::LinearSet;
 use pat_sequences::Sequence;
@@ -25,8 +26,10 @@ pub struct CoverEntry {
 /// the right. Takes no memory.
 pub fn check_cover(left: &[LinearSet], right: &[LinearSet], cover: &[CoverEntry]) -> bool
     ensures value { result ≡ is_cover most_tags (sets_view left.now) (sets_view right.now) (entries_view cover.now) }
-    ensures words { IsTrue result → SetsBelow most_tags (sets_view left.now) → SetsBelow most_tags (sets_view right.now) → (w : Word) → InSets (sets_view left.now) w → InSets (sets_view right.now) w }
+    ensures words { IsTrue result → (w : Word) → InSets (sets_view left.now) w → InSets (sets_view right.now) w }
 {
+    sets_are_few(left);
+    sets_are_few(right);
     covers_each(left, right, cover)
 }
 

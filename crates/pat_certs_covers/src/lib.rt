@@ -1,7 +1,10 @@
-//! Direct covers: certificates that one list of linear sets lies in another, and the check of one.
+//! Direct covers: certificates that one list of linear sets lies in another, the search for one, and its check.
 #![tactic(auto)]
 
 mod combining;
 mod cover;
+mod few_tags;
+mod finding;
 
 pub use cover::{CoverEntry, check_cover};
+pub use finding::find_cover;

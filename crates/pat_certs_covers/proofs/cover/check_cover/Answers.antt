@@ -6,7 +6,7 @@ use Rattle.pat_certs_covers.specs.Views.{entries_view}
 use Rattle.pat_certs_covers.proofs.cover.check_cover.Goals as goal
 
 pub returns-clause-words : goal.returns-clause-words
-returns-clause-words c = λ h a b.
+returns-clause-words c = λ h.
     let left = sets_view c.args.left.now in
     let right = sets_view c.args.right.now in
-    direct_into left right (cover_direct most_tags left right (entries_view c.args.cover.now) a b (sym c.covers_each.ensures ∙ h))
+    direct_into left right (cover_direct most_tags left right (entries_view c.args.cover.now) c.sets_are_few.ensures c.sets_are_few-2.ensures (sym c.covers_each.ensures ∙ h))

@@ -1,0 +1,19 @@
+use Rattle.std.proofs.Common.{◌≡◌, ◌++◌, ◌≤◌, List, length}
+use Rattle.pat_bags.specs.Views.{word_of}
+use Rattle.pat_inclusions.specs.Counts.{most_tags}
+use Rattle.pat_linear.specs.Views.{words_of}
+use Rattle.pat_certs_numbers.specs.declared.frames.Frame.{Frame}
+use Rattle.pat_certs_numbers.specs.Numbers.{NoNumbers}
+use Rattle.pat_certs_numbers.specs.Frames.{left_of, to_come, Stands}
+use Rattle.pat_certs_numbers.proofs.frames.advance.Given as goal
+
+abbrev pub invariant-loop-frame : goal.invariant-loop-frame
+invariant-loop-frame l = record {
+  stands : Stands most_tags (words_of l.periods) (word_of l.word) l.frames;
+  none : NoNumbers most_tags (to_come (words_of l.periods) l.frames) (left_of (word_of l.word) l.frames);
+  few : length l.frames ≤ length l.periods;
+  front : (gone : List Frame) × (l.initial.frames ≡ l.frames ++ gone);
+}
+
+abbrev pub decreases-loop-frame : goal.decreases-loop-frame
+decreases-loop-frame l = length l.frames

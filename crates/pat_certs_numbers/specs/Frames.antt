@@ -1,0 +1,59 @@
+-- A search for numbers, as far as it has come.
+use Rattle.std.specs.Prelude.{◌≡◌, ℕ, zero, suc, ◌+◌, ◌*◌, ◌-◌, ◌^◌, ◌<◌, ◌≤◌, ◌⊎◌, List, [], ◌∷◌, length, map, Option, Some, None, IsTrue}
+use Rattle.pat_words.specs.Words.{Word, no_word, plus}
+use Rattle.pat_bags.specs.declared.Bag.{Bag}
+use Rattle.pat_bags.specs.Views.{word_of}
+use Rattle.pat_inclusions.specs.Counts.{most_tags, scaled}
+use Rattle.pat_inclusions.specs.Covers.{makes}
+use Rattle.pat_certs_numbers.specs.declared.frames.Frame.{Frame}
+use Rattle.pat_certs_numbers.specs.Numbers.{NoNumbers}
+
+-- the numbers so far
+abbrev pub numbers_of : List Frame → List ℕ
+numbers_of fs = map (λ f. f.number) fs
+
+-- what is left of the word
+abbrev pub left_of : Word → List Frame → Word
+left_of w [] = w
+left_of w (f ∷ fs) = left_of (word_of f.left) fs
+
+-- the periods still to come
+abbrev pub to_come : List Word → List Frame → List Word
+to_come ps [] = ps
+to_come [] (f ∷ fs) = []
+to_come (p ∷ ps) (f ∷ fs) = to_come ps fs
+
+-- each frame has what is left once its period is taken so often, and by no lower number do the periods from there on make what was
+-- left before
+abbrev pub Stands : ℕ → List Word → Word → List Frame → Type 0
+Stands n ps w [] = Unit {0}
+Stands n [] w (f ∷ fs) = ⊥
+Stands n (p ∷ ps) w (f ∷ fs) =
+    (plus (word_of f.left) (scaled f.number p) ≡ w)
+    × ((m : ℕ) → m < f.number → (cs : List ℕ) → IsTrue (makes n (p ∷ ps) (m ∷ cs) w) → ⊥)
+    × Stands n ps (word_of f.left) fs
+
+-- one more of the period is taken, or it is empty, or not so much is left
+abbrev pub TakesOne : Frame → Word → Option Frame → Type 0
+TakesOne f p (Some g) =
+    (g.number ≡ f.number + 1) × (g.number < 2 ^ 32) × (plus (word_of g.left) p ≡ word_of f.left)
+TakesOne f p None = (p ≡ no_word) ⊎ (((t : ℕ) → t < most_tags → p t ≤ word_of f.left t) → ⊥)
+
+-- ---- how much is still to be searched, at most
+
+-- the lists of at most so many numbers
+abbrev pub lists_of : ℕ → ℕ
+lists_of zero = 1
+lists_of (suc k) = 1 + 4294967296 * lists_of k
+
+-- those that don't come before the numbers so far
+abbrev pub lists_left : List Word → List Frame → ℕ
+lists_left ps [] = lists_of (length ps)
+lists_left [] (f ∷ fs) = 1
+lists_left (p ∷ ps) (f ∷ fs) = (4294967295 - f.number) * lists_of (length ps) + lists_left ps fs
+
+-- what comes of going on to the next numbers: what is left then, or none are left
+abbrev pub Advances : ℕ → List Word → Word → List Frame → List Frame → Option Bag → Type 0
+Advances n ps w old new (Some left) =
+    Stands n ps w new × (word_of left ≡ left_of w new) × (lists_left ps new < lists_left ps old)
+Advances n ps w old new None = NoNumbers n ps w

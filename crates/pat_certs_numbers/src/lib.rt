@@ -1,0 +1,9 @@
+//! Numbers by which periods make a word: the first list of them in the order of lists.
+#![tactic(auto)]
+
+mod frames;
+mod numbers;
+mod tags;
+
+pub use numbers::find_numbers;
+pub use tags::tags_are_few;
