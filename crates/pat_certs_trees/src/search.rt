@@ -1,0 +1,21 @@
+// What a search for a word that refutes an inclusion may answer.
+use crate::bound::Bound;
+use pat_bags::Bag;
+
+/// A word that refutes an inclusion, and the tree that shows it for the left side.
+#[derive(Debug, Drop)]
+pub struct Refutation {
+    pub word: Bag,
+    pub tree: Bound,
+}
+
+/// What a search for a refutation finds.
+#[derive(Debug, Drop)]
+pub enum Search {
+    /// No word refutes: each derivable word of the left is one of the right.
+    Inside,
+    /// A refutation, whose tree is within the limit.
+    Found(Refutation),
+    /// Some word refutes, and each tree of each such word has more nodes than the limit.
+    Large,
+}
