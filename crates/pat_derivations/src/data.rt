@@ -1,0 +1,35 @@
+// Derivations: their data.
+use pat_bags::Bag;
+use pat_certs_covers::CoverEntry;
+use pat_patterns::Pattern;
+use pat_sequences::Sequence;
+use pat_types::NodeType;
+
+/// What shows an inclusion: a direct cover of closed forms, or the bound of a grid.
+#[derive(Drop)]
+pub enum Cert {
+    Cover(Sequence<CoverEntry>),
+    Grid(u32),
+}
+
+/// The value of a pattern variable: a pattern without variables, or the words that are cut at `k` to one of the points.
+#[derive(Drop)]
+pub enum VarValue {
+    Pattern(Pattern),
+    Grid { k: u32, points: Sequence<Bag> },
+}
+
+/// What stands at a node: its type, those of the variables that it names, and the certificates of the inclusions that it needs.
+#[derive(Drop)]
+pub struct DerivedNode {
+    pub of: NodeType,
+    pub certs: Sequence<Cert>,
+}
+
+/// A derivation of a program: an interface and a value for each pattern variable, the variables of signatures first, numbered
+/// from 1; and what stands at each node, numbered from 0.
+#[derive(Drop)]
+pub struct Derivation {
+    pub vars: Sequence<(u32, VarValue)>,
+    pub nodes: Sequence<DerivedNode>,
+}
