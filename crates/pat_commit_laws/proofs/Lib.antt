@@ -1,15 +1,15 @@
--- for others: lemmas on local steps and open ones
+-- for others: lemmas on jobs, commits and what a machine keeps
 pub mod Locals
 pub mod Opens
+pub mod Tables
+pub mod Runs
+pub mod Ready
+pub mod Firsts
+pub mod Takings
+pub mod Endings
+pub mod Idle
+pub mod Rooms
 -- the crate's own
-mod Tables
-mod Runs
-mod Ready
-mod Firsts
-mod Takings
-mod Endings
-mod Idle
-mod Rooms
 mod LookUps
 mod Moves
 mod Refused

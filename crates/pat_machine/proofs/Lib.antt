@@ -1,0 +1,4 @@
+mod Lending
+mod Ending
+mod Finishing
+mod Rounds

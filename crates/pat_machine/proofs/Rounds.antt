@@ -1,0 +1,132 @@
+-- One round of a drive: a job leaves and is committed.
+use Rattle.std.proofs.Common.{◌≡◌, ℕ, ◌+◌, ◌-◌, ◌<◌, ◌≤◌, min, Bool, true, false, cond, nat_eq, List, [], ◌∷◌, ◌++◌, length, map, Option, Some, None, refl, sym, ap, ◌∙◌, subst, arith, slice_set, length-append, append_assoc}
+use Rattle.std.specs.Prelude.{option_map}
+use Rattle.std.proofs.lemmas.List.{map-append, length-map}
+use Rattle.std.proofs.lemmas.Bool.{eqb-false}
+use Rattle.pat_reduce.specs.declared.history.Entry.{Entry as CodeEntry}
+use Rattle.pat_reduce.specs.Views.{act_view, entry_view}
+use Rattle.pat_commits.specs.Lendings.{allowance_of, committed_out}
+use Rattle.pat_commits.specs.Lendings.{NoneOut}
+use Rattle.pat_commit_laws.proofs.Runs.{commit_within}
+use Rattle.pat_commit_laws.proofs.Tables.{set_here, set_elsewhere, committed_still_out}
+use Rattle.pat_commit_laws.proofs.Takings.{thread_within, none_in}
+use Rattle.pat_machine.specs.declared.parts.Parts.{Parts}
+use Rattle.pat_machine.specs.declared.job.Job.{Job}
+use Rattle.pat_machine.specs.declared.job.Receipt.{Receipt}
+use Rattle.pat_machine.specs.Shown.{Shown, program_of, entries_of, steps_in, noted_in}
+use Rattle.pat_machine.specs.Parted.{shown, IsKept}
+use Rattle.pat_machine.specs.Gives.{IsLent, Lends, TakeGives, Committed, GivesBack, all_back}
+use Rattle.pat_machine.specs.Driving.{Rounds, AreInOrder, GoesOnBy}
+use Rattle.pat_commit_laws.proofs.Ready.{ready_there}
+
+-- a job that leaves is out
+pub lent_now : (k : Parts) (j : Job) (new : Shown) → IsKept k → Lends (shown k) j new → IsLent new j
+lent_now k j new kept lends =
+    let m = shown k in
+    let s = ready_there (program_of m) m.config m.named.limit m.out j.thread lends.ready in
+    let within = thread_within (program_of m) m.named.budget m.named.limit m.config (entries_of m) m.left m.out kept.stands j.thread s.0 s.1 in
+    ap (λ (x : Shown). allowance_of x.out j.thread) lends.changes ∙ set_here m.out j.thread (Some j.allowance) within
+
+-- receipts in order, and one more
+in_order : (n worker : ℕ) (rs : List Receipt) (r : Receipt) → AreInOrder n worker rs → r.index ≡ Some (n + length rs) → r.entry.worker ≡ worker → AreInOrder n worker (rs ++ r ∷ [])
+in_order n worker [] r h index is = (index ∙ ap (λ (k : ℕ). Some k) (omega arith), is, tt)
+in_order n worker (x ∷ rs) r h index is = (h.0, h.1, in_order (n + 1) worker rs r h.2 (index ∙ ap (λ (k : ℕ). Some k) (omega arith)) is)
+
+entry_of : Receipt → CodeEntry
+entry_of r = r.entry
+
+some_place : (es : List CodeEntry) (e : CodeEntry) (i : Option ℕ) (b : Bool) → nat_eq (steps_in e) 0 ≡ b → i ≡ cond b None (Some (length es)) → (i ≡ None → ⊥)
+    → (i ≡ Some (length es)) × (0 < steps_in e) × (cond b es (es ++ e ∷ []) ≡ es ++ e ∷ [])
+some_place es e i true is at some = absurd (some at)
+some_place es e i false is at some = (at, (let more = eqb-false (steps_in e) 0 is in omega arith), refl)
+
+module _ (old m0 m1 m2 : Shown) (worker : ℕ) (j : Job) (r : Receipt) (rs : List Receipt) (none : NoneOut m0.out) (lends : Lends m0 j m1) (done : Committed m1 worker j r m2) where
+  same_config : m1.config ≡ m0.config
+  same_config = ap (λ (x : Shown). x.config) lends.changes
+
+  same_named : m1.named ≡ m0.named
+  same_named = ap (λ (x : Shown). x.named) lends.changes
+
+  same_history : m1.history ≡ m0.history
+  same_history = ap (λ (x : Shown). x.history) lends.changes
+
+  -- a step was open, so the entry has one
+  has_step : r.index ≡ None → ⊥
+  has_step h =
+      let may = lends.ready.1 in
+      let still = done.idle.0 h in
+      let there : Rattle.pat_commits.specs.Opens.IsOpen (program_of m1) m1.config m1.named.limit (record { thread = j.thread; act = may.0 }) =
+      subst (λ x. Rattle.pat_commits.specs.Opens.IsOpen (program_of m1) x m1.named.limit (record { thread = j.thread; act = may.0 })) (sym same_config)
+      (subst (λ x. Rattle.pat_commits.specs.Opens.IsOpen (Rattle.pat_core.specs.Views.program_view x.program) m0.config x.limit (record { thread = j.thread; act = may.0 })) (sym same_named) may.1)
+      in
+      still may.0 there
+
+  placed : (r.index ≡ Some (length m1.history)) × (0 < steps_in r.entry) × (noted_in m1.history r.entry ≡ m1.history ++ r.entry ∷ [])
+  placed = some_place m1.history r.entry r.index (nat_eq (steps_in r.entry) 0) refl done.index has_step
+
+  pub round_none_out : NoneOut m2.out
+  round_none_out u = go (allowance_of m2.out u) refl
+    where
+      go : (o : Option ℕ) → allowance_of m2.out u ≡ o → o ≡ None
+      go None is = refl
+      go (Some n) is =
+          let a = option_map act_view r.entry.shared in
+          let at : allowance_of (committed_out m1.out j.thread a) u ≡ Some n = sym (ap (λ (x : Shown). allowance_of x.out u) done.changes) ∙ is in
+          let q = committed_still_out m1.out j.thread u n a at in
+          let out : allowance_of (slice_set m0.out j.thread (Some j.allowance)) u ≡ Some n = sym (ap (λ (x : Shown). allowance_of x.out u) lends.changes) ∙ q.1 in
+          let was : allowance_of m0.out u ≡ Some n = sym (set_elsewhere m0.out j.thread u (Some j.allowance) q.0) ∙ out in
+          let no = none u in
+          cc
+
+  pub round_less : m2.left < m0.left
+  round_less =
+      let after : m2.left ≡ m1.left + (j.allowance - steps_in r.entry) = ap (λ (x : Shown). x.left) done.changes in
+      let before : m1.left ≡ m0.left - j.allowance = ap (λ (x : Shown). x.left) lends.changes in
+      let within : steps_in r.entry ≤ j.allowance = commit_within (program_of m1) j.allowance m1.named.limit m1.config m2.config (entry_view r.entry) done.commit in
+      let allowed : j.allowance ≡ min m0.left 256 = lends.allowance in
+      let some : 0 < steps_in r.entry = placed.1 in
+      omega arith
+
+  pub round_goes_on : GoesOnBy old worker rs m0 → GoesOnBy old worker (rs ++ r ∷ []) m2
+  round_goes_on g =
+      let grown : m2.history ≡ m1.history ++ r.entry ∷ [] = ap (λ (x : Shown). x.history) done.changes ∙ placed.2 in
+      let front : m1.history ≡ old.history ++ map (λ r. r.entry) rs = same_history ∙ g.history in
+      let long : length m1.history ≡ length old.history + length rs =
+      ap length front ∙ length-append old.history (map (λ r. r.entry) rs) ∙ ap (λ n. length old.history + n) (length-map rs (λ (r : Receipt). r.entry))
+      in
+      record {
+        named = ap (λ (x : Shown). x.named) done.changes ∙ same_named ∙ g.named;
+        history =
+            grown
+            ∙ ap (λ l. l ++ r.entry ∷ []) front
+            ∙ append_assoc old.history (map (λ r. r.entry) rs) (r.entry ∷ [])
+            ∙ ap (λ l. old.history ++ l) (sym (map-append (λ (r : Receipt). r.entry) rs (r ∷ [])));
+        places = in_order (length old.history) worker rs r g.places (placed.0 ∙ ap (λ (n : ℕ). Some n) long) done.worker_is;
+      }
+
+-- one more round
+pub rounds_more : (old m0 m1 m2 : Shown) (worker : ℕ) (j : Job) (rs : List Receipt) (r : Receipt) → Rounds old worker rs m0 → TakeGives m0 (Some j) m1 → Committed m1 worker j r m2 → Rounds old worker (rs ++ r ∷ []) m2
+rounds_more old m0 m1 m2 worker j [] r rounds taken done = (m2, record { job = j; lent = m1; taken = subst (λ m. TakeGives m (Some j) m1) rounds taken; committed = done }, refl)
+rounds_more old m0 m1 m2 worker j (x ∷ rs) r (m, first, rounds) taken done = (m, first, rounds_more m m0 m1 m2 worker j rs r rounds taken done)
+
+-- a job that is taken and given back leaves the history
+pub goes_on_back : (old m0 m1 m2 : Shown) (worker : ℕ) (j : Job) (rs : List Receipt) → GoesOnBy old worker rs m0 → Lends m0 j m1 → IsLent m1 j → GivesBack m1 j m2 → GoesOnBy old worker rs m2
+goes_on_back old m0 m1 m2 worker j rs g lends lent back =
+    let is = back.back lent in
+    record {
+      named = ap (λ (x : Shown). x.named) is ∙ ap (λ (x : Shown). x.named) lends.changes ∙ g.named;
+      history = ap (λ (x : Shown). x.history) is ∙ ap (λ (x : Shown). x.history) lends.changes ∙ g.history;
+      places = g.places;
+    }
+
+-- at first no job is out, and no receipt is there
+pub all_back_none : (m new : Shown) → new ≡ all_back m → NoneOut new.out
+all_back_none m new is u = ap (λ (x : Shown). allowance_of x.out u) is ∙ none_in (length m.out) u
+
+pub all_back_goes_on : (m new : Shown) (worker : ℕ) (rs : List Receipt) → new ≡ all_back m → rs ≡ [] → GoesOnBy m worker rs new
+all_back_goes_on m new worker rs is none =
+    subst (λ l. GoesOnBy m worker l new) (sym none) (record {
+      named = ap (λ (x : Shown). x.named) is;
+      history = ap (λ (x : Shown). x.history) is ∙ sym (Rattle.std.proofs.lemmas.List.append-nil m.history);
+      places = tt;
+    })

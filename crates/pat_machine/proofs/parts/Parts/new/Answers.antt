@@ -1,0 +1,26 @@
+use Rattle.std.proofs.Common.{◌≡◌, List, [], map, ap, sym, ◌∙◌, subst}
+use Rattle.pat_model.specs.Configs.{Config, start}
+use Rattle.pat_model.specs.Runs.{Entry}
+use Rattle.pat_core.specs.Views.{program_view}
+use Rattle.pat_reduce.specs.Views.{entry_view}
+use Rattle.pat_commits.specs.Lendings.{Out, all_in, allowances}
+use Rattle.pat_commits.specs.Machines.{MachineInvariant}
+use Rattle.pat_commit_laws.proofs.Takings.{start_stands, nothing_lent}
+use Rattle.pat_machine.proofs.parts.Parts.new.Goals as goal
+
+pub returns-clause-kept : goal.returns-clause-kept
+returns-clause-kept c =
+    let q = c.args.program in
+    let p = program_view q in
+    let same : c.in_ok-code.code.program ≡ q = c.in_ok-code.ensures in
+    let is : c.in_ok-state.state ≡ start p = c.in_ok-state.ensures ∙ ap (λ x. start (program_view x)) same in
+    let outs : c.in_ok-out.out.items ≡ all_in (start p).next_thread = c.in_ok-out.ensures ∙ ap all_in c.threads_made.ensures ∙ ap (λ (d : Config). all_in d.next_thread) is in
+    record {
+      stands =
+          subst (λ x. MachineInvariant (program_view x) c.args.steps c.args.messages c.in_ok-state.state (map entry_view c.new-2.result.items) c.args.steps c.in_ok-out.out.items) (sym same)
+          (subst (λ d. MachineInvariant p c.args.steps c.args.messages d (map entry_view c.new-2.result.items) c.args.steps c.in_ok-out.out.items) (sym is)
+          (subst (λ (es : List Entry). MachineInvariant p c.args.steps c.args.messages (start p) es c.args.steps c.in_ok-out.out.items) (sym (ap (map entry_view) c.new-2.ensures.items))
+          (subst (λ (o : Out). MachineInvariant p c.args.steps c.args.messages (start p) [] c.args.steps o) (sym outs)
+          (start_stands p c.args.steps c.args.messages c.requires.well c.requires.typable c.requires.steps c.requires.messages))));
+      lent = sym (nothing_lent (start p).next_thread) ∙ ap allowances (sym outs);
+    }

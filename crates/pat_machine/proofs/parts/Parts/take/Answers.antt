@@ -1,0 +1,30 @@
+use Rattle.std.proofs.Common.{◌≡◌, Some, None, inr, refl, ap, sym, ◌∙◌, subst}
+use Rattle.pat_core.specs.Views.{program_view}
+use Rattle.pat_commits.specs.Turns.{turn, IsTurn}
+use Rattle.pat_commit_laws.proofs.Ready.{turn_ready, turn_none}
+use Rattle.pat_commit_laws.proofs.Firsts.{turn_is}
+use Rattle.pat_machine.proofs.parts.Parts.take.Goals as goal
+
+pub lend-requires-clause-ready : goal.lend-requires-clause-ready
+lend-requires-clause-ready c =
+    let m = c.args.self.now in
+    let p = program_view m.code.program in
+    let is : turn p m.state m.limit m.out.items m.last ≡ Some c.in-Some.thread = ap (λ o. turn p m.state m.limit o m.last) (sym c.as_slice.ensures.value) ∙ sym c.next_ready.ensures ∙ c.in-Some.is in
+    (turn_ready p m.state m.limit m.out.items m.last c.in-Some.thread is).0
+
+pub returns-in-Some-clause-taken : goal.returns-in-Some-clause-taken
+returns-in-Some-clause-taken c =
+    let m = c.args.self.now in
+    let p = program_view m.code.program in
+    let t = c.in-Some.thread in
+    let is : turn p m.state m.limit m.out.items m.last ≡ Some t = ap (λ o. turn p m.state m.limit o m.last) (sym c.as_slice.ensures.value) ∙ sym c.next_ready.ensures ∙ c.in-Some.is in (
+      subst (IsTurn p m.state m.limit m.out.items m.last) (sym c.lend.ensures.thread) (turn_is p m.state m.limit m.out.items c.requires.stands.facts.typed.typed.numbers.ordered m.last t is),
+      c.lend.ensures.lent,
+    )
+
+pub returns-in-None-clause-taken : goal.returns-in-None-clause-taken
+returns-in-None-clause-taken c =
+    let m = c.args.self.now in
+    let p = program_view m.code.program in
+    let is : turn p m.state m.limit m.out.items m.last ≡ None = ap (λ o. turn p m.state m.limit o m.last) (sym c.as_slice.ensures.value) ∙ sym c.next_ready.ensures ∙ c.in-None.is in
+    (inr (turn_none p m.state m.limit m.out.items m.last is), refl)

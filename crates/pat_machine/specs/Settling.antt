@@ -1,0 +1,20 @@
+-- The state of a job's thread after its local steps, and the end of its commit.
+use Rattle.std.specs.Prelude.{◌≡◌, ℕ, ◌<◌, Option, Some, None}
+use Rattle.pat_model.specs.Programs.{Program}
+use Rattle.pat_model.specs.Configs.{Thread, Config, thread_at}
+use Rattle.pat_model.specs.Steps.{Act}
+use Rattle.pat_reduce_threads.specs.ThreadViews.{thread_view}
+use Rattle.pat_commits.specs.Commits.{IsLocalRun, Shares}
+use Rattle.pat_machine.specs.declared.committing.Settled.{Settled}
+use Rattle.pat_machine.specs.declared.job.Job.{Job}
+
+-- so many local steps of the kept thread within the allowance lead to the state
+pub record IsSettled (p : Program) (c : Config) (j : Job) (s : Settled) : Type 0 where
+  pub kept : Thread
+  pub there : thread_at c j.thread ≡ Some kept
+  pub local : IsLocalRun p j.allowance kept s.steps (thread_view s.end)
+
+-- after k local steps the shared step is taken where a step of the allowance is left
+pub record Finishes (p : Program) (allowance limit : ℕ) (half : Config) (t k : ℕ) (a : Option Act) (d : Config) : Type 0 where
+  pub shared : k < allowance → Shares p limit half t a d
+  pub spent : k ≡ allowance → (a ≡ None) × (d ≡ half)

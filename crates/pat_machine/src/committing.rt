@@ -1,0 +1,164 @@
+// Commits.
+ghost use Rattle.std.specs.Prelude.{◌≡◌, ℕ, ◌<◌, Some, None, option_map, IfOk, OnErr, IfErr};
+ghost use Rattle.pat_model.specs.Configs.{Thread as ThreadOf, thread_at, with_thread};
+ghost use Rattle.pat_core.specs.Views.{program_view};
+ghost use Rattle.pat_reduce_threads.specs.ThreadViews.{thread_view};
+ghost use Rattle.pat_reduce.specs.Views.{act_view};
+ghost use Rattle.pat_commits.specs.Commits.{IsLocalRun};
+ghost use Rattle.pat_commits.specs.Machines.{HasRoom, IsTypedBySome};
+ghost use Rattle.pat_machine.specs.Parted.{shown, IsKept};
+ghost use Rattle.pat_machine.specs.Gives.{IsLent, Committed, CommitGives};
+ghost use Rattle.pat_machine.specs.Settling.{IsSettled, Finishes};
+
+use crate::entry::{note, steps_of, take_back};
+use crate::job::{CommitRefused, Job, Receipt};
+use crate::parts::Parts;
+use pat_executable::Executable;
+use pat_machine_states::State;
+use pat_machine_threads::{LocalRun, copy_state, is_same_state, run_locally};
+use pat_reduce::{Act, Entry, ThreadState};
+use std::alloc::{AllocError, Global};
+
+/// A thread's state after its local steps, and how many they were.
+#[derive(Drop)]
+pub struct Settled {
+    pub end: ThreadState,
+    pub steps: u32,
+}
+
+impl Parts {
+    /// Commits a job: its local steps, and then the shared step that is open.
+    pub fn commit(&mut self, worker: u32, job: Job, run: LocalRun) -> Result<Receipt, CommitRefused>
+        requires kept { IsKept self.old }
+        requires run { IsLocalRun (program_view self.old.code.program) job.allowance (thread_view run.start) run.steps (thread_view run.end) }
+        ensures kept { IsKept self.new }
+        ensures commit { CommitGives (shown self.old) worker job result (shown self.new) }
+    {
+        if !self.is_lent(job) {
+            let_go(run);
+            return Err(CommitRefused::NotOut(job));
+        }
+        match self.settle(job, run) {
+            Ok(settled) => match self.finish(worker, job, settled) {
+                Ok(receipt) => Ok(receipt),
+                Err(AllocError) => Err(CommitRefused::NoMemory(job)),
+            },
+            Err(AllocError) => Err(CommitRefused::NoMemory(job)),
+        }
+    }
+
+    // The worker's end state where it began with the kept one, and else local steps taken inside.
+    fn settle(&self, job: Job, run: LocalRun) -> Result<Settled, AllocError>
+        requires kept { IsKept self.now }
+        requires lent { IsLent (shown self.now) job }
+        requires run { IsLocalRun (program_view self.now.code.program) job.allowance (thread_view run.start) run.steps (thread_view run.end) }
+        ensures { IfOk result (IsSettled (program_view self.now.code.program) self.now.state job) }
+    {
+        match self.state.thread(job.thread) {
+            Some(kept) => {
+                if is_same_state(kept, &run.start) {
+                    Ok(ended(run))
+                } else {
+                    let_go(run);
+                    settle_inside(self.alloc, &self.code, kept, job)
+                }
+            }
+            // A thread that is out is there.
+            None => unreachable!(),
+        }
+    }
+
+    /// Local steps taken inside, from the kept state.
+    pub fn run_inside(&self, job: Job) -> Result<Settled, AllocError>
+        requires kept { IsKept self.now }
+        requires lent { IsLent (shown self.now) job }
+        ensures { IfOk result (IsSettled (program_view self.now.code.program) self.now.state job) }
+    {
+        match self.state.thread(job.thread) {
+            Some(kept) => settle_inside(self.alloc, &self.code, kept, job),
+            // A thread that is out is there.
+            None => unreachable!(),
+        }
+    }
+
+    /// Ends a commit after the local steps. An error changes nothing.
+    pub fn finish(&mut self, worker: u32, job: Job, settled: Settled) -> Result<Receipt, AllocError>
+        requires kept { IsKept self.old }
+        requires lent { IsLent (shown self.old) job }
+        requires settled { IsSettled (program_view self.old.code.program) self.old.state job settled }
+        ensures kept { IsKept self.new }
+        ensures ok { IfOk result (λ r. Committed (shown self.old) worker job r (shown self.new)) }
+        ensures err { OnErr result (shown self.new ≡ shown self.old) }
+    {
+        self.history.reserve(1)?;
+        self.out.reserve(1)?;
+        let steps = settled.steps;
+        let shared = share(
+            self.alloc,
+            &self.code,
+            &mut self.state,
+            self.limit,
+            job,
+            settled,
+        )?;
+        let entry = Entry {
+            worker,
+            thread: job.thread,
+            local: steps,
+            shared,
+        };
+        take_back(&mut self.out, job.thread, shared);
+        self.left += job.allowance as u64 - steps_of(&entry);
+        self.lent -= job.allowance as u64;
+        let index = note(&mut self.history, entry);
+        Ok(Receipt { index, entry })
+    }
+}
+
+fn ended(run: LocalRun) -> Settled
+    ensures { result ≡ record { end = run.end; steps = run.steps } }
+{
+    let LocalRun { start, end, steps } = run;
+    let_go(start);
+    Settled { end, steps }
+}
+
+// Local steps on a copy of the kept state.
+fn settle_inside(
+    alloc: Global,
+    code: &Executable,
+    kept: &ThreadState,
+    job: Job,
+) -> Result<Settled, AllocError>
+    ensures { IfOk result (λ s. IsLocalRun (program_view code.now.program) job.allowance (thread_view kept.now) s.steps (thread_view s.end)) }
+{
+    let mut end = copy_state(alloc, kept)?;
+    let steps = run_locally(alloc, code, &mut end, job.allowance)?;
+    Ok(Settled { end, steps })
+}
+
+// Puts the state after the local steps in its place, and takes the shared step that is open, where a step of the allowance is left.
+fn share(
+    alloc: Global,
+    code: &Executable,
+    state: &mut State,
+    limit: u32,
+    job: Job,
+    settled: Settled,
+) -> Result<Option<Act>, AllocError>
+    requires there { (s : ThreadOf) × (thread_at state.old job.thread ≡ Some s) }
+    requires room { HasRoom state.old }
+    requires typed { IsTypedBySome (program_view code.now.program) (with_thread state.old job.thread (thread_view settled.end)) }
+    ensures ok { IfOk result (λ a. Finishes (program_view code.now.program) job.allowance limit (with_thread state.old job.thread (thread_view settled.end)) job.thread settled.steps (option_map act_view a) state.new) }
+    ensures err { OnErr result (state.new ≡ state.old) }
+{
+    let Settled { end, steps } = settled;
+    if steps < job.allowance {
+        return state.share(alloc, code, limit, job.thread, end);
+    }
+    state.put(job.thread, end);
+    Ok(None)
+}
+
+// Lets a value go. As a call it keeps the drop of a state out of its caller.
+fn let_go<T: Drop>(_value: T) {}

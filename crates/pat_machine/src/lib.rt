@@ -1,0 +1,14 @@
+//! The machine: jobs, commits and the history.
+#![tactic(auto)]
+
+mod committing;
+mod driving;
+mod entry;
+mod job;
+mod machine;
+mod outcome;
+mod parts;
+mod taking;
+
+pub use job::{CommitRefused, Job, Named, Outcome, Receipt, StateRefused, TakeRefused};
+pub use machine::Machine;

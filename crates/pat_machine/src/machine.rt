@@ -1,0 +1,159 @@
+// The machine.
+ghost use Rattle.std.specs.Prelude.{◌≡◌, ℕ, ◌<◌, ◌≤◌, IfOk, OnErr};
+ghost use Rattle.pat_reduce_threads.specs.ThreadViews.{thread_view};
+ghost use Rattle.pat_reduce.specs.Views.{config_view};
+ghost use Rattle.pat_commits.specs.Commits.{IsLocalRun};
+ghost use Rattle.pat_machine.specs.Shown.{program_of, IsMachine, IsNew};
+ghost use Rattle.pat_machine.specs.Gives.{TakeGives, TakeThreadGives, StateGives, CommitGives, GivesBack, OutcomeGives, all_back};
+ghost use Rattle.pat_machine.specs.Driving.{IsDriven, IsStopped};
+
+use crate::job::{CommitRefused, Job, Named, Outcome, Receipt, StateRefused, TakeRefused};
+use crate::parts::Parts;
+use pat_accepted::Accepted;
+use pat_core::Program;
+use pat_kept::Kept;
+use pat_machine_threads::LocalRun;
+use pat_reduce::{Config, Entry, ThreadState};
+use pat_sequences::Text;
+use std::alloc::{AllocError, Global};
+use std::marker::Model;
+
+/// A program that runs by jobs and commits.
+#[derive(Drop)]
+pub struct Machine {
+    parts: Parts,
+}
+
+impl Model for Machine {
+    ghost use Rattle.std.specs.Coded.{codes};
+    ghost use Rattle.pat_patterns.specs.contracts.pattern.Pattern as the_pattern;
+    ghost use Rattle.pat_core.specs.contracts.expression.Expr as the_expression;
+    ghost use Rattle.pat_machine.specs.Shown.{Shown};
+
+    ghost Value = { Shown };
+
+    ghost coded = { Prim.hlevel (codes, the_pattern.the_row.coded, the_expression.the_row.coded) };
+
+    ghost use Rattle.pat_machine.specs.Parted.{shown, IsKept};
+
+    ghost view = { λ m. shown m.parts };
+
+    ghost invariant = { λ m. IsKept m.parts };
+}
+
+impl Kept for Machine {
+    type Name = Named;
+
+    type Entry = Entry;
+
+    ghost name = { λ m. m.named };
+
+    ghost log = { λ m. m.history };
+
+    ghost by = { λ e. e.worker };
+}
+
+impl Machine {
+    /// The start of a program, with so many steps and at most so many pending messages.
+    pub fn new(
+        alloc: Global,
+        accepted: Accepted,
+        steps: u64,
+        messages: u32,
+    ) -> Result<Machine, AllocError>
+        requires steps { steps ≤ 1000000 }
+        requires messages { (0 < messages) × (messages ≤ 1000000) }
+        ensures { IfOk result (IsNew accepted steps messages) }
+    {
+        let parts = Parts::new(alloc, accepted.into_program(), steps, messages)?;
+        Ok(Machine { parts })
+    }
+
+    /// The job of the ready thread whose turn comes first. It takes no memory.
+    pub fn take(&mut self) -> Option<Job>
+        ensures { TakeGives self.old result self.new }
+    {
+        self.parts.take()
+    }
+
+    /// The job of a thread. It takes no memory.
+    pub fn take_thread(&mut self, thread: u32) -> Result<Job, TakeRefused>
+        ensures { TakeThreadGives self.old thread result self.new }
+    {
+        self.parts.take_thread(thread)
+    }
+
+    /// The state that a job begins with.
+    pub fn state_of(&self, job: &Job) -> Result<ThreadState, StateRefused>
+        ensures { StateGives self.now job.now result }
+    {
+        self.parts.state_of(*job)
+    }
+
+    /// Commits a job: its local steps, and then the shared step that is open.
+    pub fn commit(&mut self, worker: u32, job: Job, run: LocalRun) -> Result<Receipt, CommitRefused>
+        requires { IsLocalRun (program_of self.old) job.allowance (thread_view run.start) run.steps (thread_view run.end) }
+        ensures { CommitGives self.old worker job result self.new }
+    {
+        self.parts.commit(worker, job, run)
+    }
+
+    /// Takes a job back, if it is out. It takes no memory.
+    pub fn give_back(&mut self, job: Job)
+        ensures { GivesBack self.old job self.new }
+    {
+        self.parts.give_back(job);
+    }
+
+    /// Takes all jobs back. It takes no memory.
+    pub fn give_back_all(&mut self)
+        ensures { self.new ≡ all_back self.old }
+    {
+        self.parts.give_back_all();
+    }
+
+    /// The outcome, where no thread is out and nothing can be taken. It takes no memory.
+    pub fn outcome(&self) -> Option<Outcome>
+        ensures { OutcomeGives self.now result }
+    {
+        self.parts.outcome()
+    }
+
+    /// Takes all jobs back, and serves one job after another, up to the outcome.
+    pub fn drive(&mut self, worker: u32) -> Result<Vec<Receipt>, AllocError>
+        ensures ok { IfOk result (λ rs. IsDriven self.old worker rs.items self.new) }
+        ensures err { OnErr result (IsStopped self.old worker self.new) }
+    {
+        self.parts.drive(worker)
+    }
+
+    /// The program.
+    pub fn program(&self) -> &Program
+        ensures { result.now ≡ self.now.named.program }
+    {
+        &self.parts.code.program
+    }
+
+    /// The history, and what it is to the configuration.
+    pub fn history(&self) -> &[Entry]
+        ensures history { result.now ≡ self.now.history }
+        ensures facts { IsMachine self.now }
+    {
+        self.parts.history.as_slice()
+    }
+
+    /// The configuration, by itself.
+    pub fn config(&self) -> Result<Config, AllocError>
+        ensures config { IfOk result (λ c. config_view c ≡ self.now.config) }
+        ensures facts { IsMachine self.now }
+    {
+        self.parts.state.copy(self.parts.alloc)
+    }
+
+    /// The printed lines.
+    pub fn printed(&self) -> &[Text]
+        ensures { result.now ≡ self.now.config.printed }
+    {
+        self.parts.state.printed()
+    }
+}

@@ -1,0 +1,136 @@
+// Jobs that are taken and given back.
+ghost use Rattle.std.specs.Prelude.{◌≡◌, ℕ, ◌<◌, length, Some, None, ◌↔◌, IsTrue};
+ghost use Rattle.pat_model.specs.Configs.{Thread as ThreadOf, thread_at};
+ghost use Rattle.pat_commits.specs.Lendings.{all_in, allowance_of};
+ghost use Rattle.pat_machine.specs.Parted.{shown, IsKept};
+ghost use Rattle.pat_machine.specs.Gives.{IsLent, MayTake, Lends, TakeGives, TakeThreadGives, StateGives, GivesBack, all_back};
+
+use crate::job::{Job, StateRefused, TakeRefused};
+use crate::parts::Parts;
+use pat_machine_threads::copy_state;
+use pat_reduce::ThreadState;
+
+// The most steps of a job.
+const ALLOWANCE: u64 = 256;
+
+impl Parts {
+    /// The job of the thread whose turn it is.
+    pub fn take(&mut self) -> Option<Job>
+        requires { IsKept self.old }
+        ensures kept { IsKept self.new }
+        ensures taken { TakeGives (shown self.old) result (shown self.new) }
+    {
+        if self.left == 0 {
+            return None;
+        }
+        match self
+            .state
+            .next_ready(&self.code, self.limit, self.out.as_slice(), self.last)
+        {
+            Some(thread) => Some(self.lend(thread)),
+            None => None,
+        }
+    }
+
+    /// The job of a thread.
+    pub fn take_thread(&mut self, thread: u32) -> Result<Job, TakeRefused>
+        requires { IsKept self.old }
+        ensures kept { IsKept self.new }
+        ensures taken { TakeThreadGives (shown self.old) thread result (shown self.new) }
+    {
+        if !self
+            .state
+            .is_ready(&self.code, self.limit, self.out.as_slice(), thread)
+        {
+            return Err(TakeRefused::NotReady);
+        }
+        if self.left == 0 {
+            return Err(TakeRefused::Spent);
+        }
+        Ok(self.lend(thread))
+    }
+
+    // The job of a ready thread leaves.
+    fn lend(&mut self, thread: u32) -> Job
+        requires kept { IsKept self.old }
+        requires ready { MayTake (shown self.old) thread }
+        requires some { 0 < self.old.left }
+        ensures kept { IsKept self.new }
+        ensures thread { result.thread ≡ thread }
+        ensures lent { Lends (shown self.old) result (shown self.new) }
+    {
+        let allowance = self.left.min(ALLOWANCE);
+        self.out[thread as usize] = Some(allowance as u32);
+        self.left -= allowance;
+        self.lent += allowance;
+        self.last = Some(thread);
+        Job {
+            thread,
+            allowance: allowance as u32,
+        }
+    }
+
+    /// Whether the job's thread is out with the job's allowance.
+    pub fn is_lent(&self, job: Job) -> bool
+        ensures { IsTrue result ↔ IsLent (shown self.now) job }
+    {
+        match self.out.as_slice().get(job.thread as usize) {
+            Some(Some(allowance)) => *allowance == job.allowance,
+            Some(None) => false,
+            None => false,
+        }
+    }
+
+    /// The kept state of a job's thread.
+    pub fn state_of(&self, job: Job) -> Result<ThreadState, StateRefused>
+        requires { IsKept self.now }
+        ensures { StateGives (shown self.now) job result }
+    {
+        if !self.is_lent(job) {
+            return Err(StateRefused::NotOut);
+        }
+        match self.state.thread(job.thread) {
+            Some(kept) => match copy_state(self.alloc, kept) {
+                Ok(state) => Ok(state),
+                Err(_) => Err(StateRefused::NoMemory),
+            },
+            // A thread that is out is there.
+            None => unreachable!(),
+        }
+    }
+
+    /// Takes a job back, if it is out.
+    pub fn give_back(&mut self, job: Job)
+        requires { IsKept self.old }
+        ensures kept { IsKept self.new }
+        ensures back { GivesBack (shown self.old) job (shown self.new) }
+    {
+        if self.is_lent(job) {
+            self.out[job.thread as usize] = None;
+            self.left += job.allowance as u64;
+            self.lent -= job.allowance as u64;
+        }
+    }
+
+    /// Takes all jobs back.
+    pub fn give_back_all(&mut self)
+        requires { IsKept self.old }
+        ensures kept { IsKept self.new }
+        ensures back { shown self.new ≡ all_back (shown self.old) }
+    {
+        if self.lent == 0 {
+            return;
+        }
+        clear(&mut self.out);
+        self.left += self.lent;
+        self.lent = 0;
+    }
+}
+
+fn clear(out: &mut Vec<Option<u32>>)
+    ensures { out.new.items ≡ all_in (length out.old.items) }
+{
+    for i in 0..out.len() {
+        out[i] = None;
+    }
+}

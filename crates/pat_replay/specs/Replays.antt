@@ -1,0 +1,53 @@
+-- What a replay answers.
+use Rattle.std.specs.Prelude.{◌≡◌, ℕ, ◌<◌, ◌≤◌, List, Option, Some, None, Result, replicate}
+use Rattle.std.specs.declared.result.Result.TheVariants.{Ok, Err}
+use Rattle.pat_model.specs.Programs.{Program}
+use Rattle.pat_model.specs.Configs.{Config, start}
+use Rattle.pat_model.specs.Steps.{Act, step}
+use Rattle.pat_model.specs.Runs.{Entry, entry_steps, entry_from, run_from, replay, shared_step}
+use Rattle.pat_commits.specs.Commits.{local_of}
+use Rattle.pat_commits.specs.Refusals.{IsRefusedAt}
+use Rattle.pat_reduce_values.specs.declared.error.StepError.{StepError}
+use Rattle.pat_reduce_values.specs.declared.error.StepError.TheVariants as step_error
+use Rattle.pat_reduce.specs.declared.config.Config.{Config as CodeConfig}
+use Rattle.pat_reduce.specs.Views.{config_view}
+use Rattle.pat_replay.specs.declared.error.ReplayError.{ReplayError}
+use Rattle.pat_replay.specs.declared.error.ReplayError.TheVariants as replay_error
+
+-- the configuration that the history replays to; or the entry that is refused; or memory ran out
+abbrev pub ReplayGives : Program → List Entry → Result CodeConfig ReplayError → Type 0
+ReplayGives p es (Ok c) = replay p es ≡ Some (config_view c)
+ReplayGives p es (Err (replay_error.RefusedAt i)) = IsRefusedAt p (start p) es i
+ReplayGives p es (Err replay_error.NoMemory) = Unit {0}
+
+-- the entry leads from c to d; or it has no step, or one that isn't enabled
+abbrev pub EntryGives : Program → Config → Entry → Config → Result (Unit {0}) StepError → Type 0
+EntryGives p c e d (Ok _) = entry_from p c (entry_steps e) ≡ Some d
+EntryGives p c e d (Err step_error.Disabled) = entry_from p c (entry_steps e) ≡ None
+EntryGives p c e d (Err step_error.NoMemory) = Unit {0}
+
+-- fewer than n local steps of the thread are enabled, one after another
+pub record StopsBefore (p : Program) (c : Config) (t n : ℕ) : Type 0 where
+  pub taken : ℕ
+  pub fewer : taken < n
+  pub last : Config
+  pub run : run_from p c (replicate taken (local_of t)) ≡ Some last
+  pub no_more : step p last (local_of t) ≡ None
+
+-- so many local steps of the thread lead from c to d; or they stop before that
+abbrev pub LocalsGive : Program → Config → (t n : ℕ) → Config → Result (Unit {0}) StepError → Type 0
+LocalsGive p c t n d (Ok _) = run_from p c (replicate n (local_of t)) ≡ Some d
+LocalsGive p c t n d (Err step_error.Disabled) = StopsBefore p c t n
+LocalsGive p c t n d (Err step_error.NoMemory) = Unit {0}
+
+-- the shared step, if there is one, leads from c to d; or it isn't enabled
+abbrev pub SharedGives : Program → Config → ℕ → Option Act → Config → Result (Unit {0}) StepError → Type 0
+SharedGives p c t a d (Ok _) = run_from p c (shared_step t a) ≡ Some d
+SharedGives p c t a d (Err step_error.Disabled) = run_from p c (shared_step t a) ≡ None
+SharedGives p c t a d (Err step_error.NoMemory) = Unit {0}
+
+-- at most so many numbers of each kind are taken
+pub record HasTaken (c : Config) (n : ℕ) : Type 0 where
+  pub threads : c.next_thread ≤ n
+  pub mailboxes : c.next_mailbox ≤ n
+  pub messages : c.next_message ≤ n

@@ -1,0 +1,8 @@
+//! Replays of histories.
+#![tactic(auto)]
+
+mod error;
+mod replaying;
+
+pub use error::ReplayError;
+pub use replaying::replay;

@@ -1,0 +1,94 @@
+// The steps of a history, entry after entry.
+ghost use Rattle.std.specs.Prelude.{◌≡◌, ◌<◌, [], length, map, option_map, IsTrue, IsFalse};
+ghost use Rattle.pat_model.specs.Runs.{entry_steps};
+ghost use Rattle.pat_core.specs.Views.{program_view};
+ghost use Rattle.pat_reduce.specs.Views.{act_view, config_view, entry_view};
+ghost use Rattle.pat_replay.specs.Replays.{HasTaken, ReplayGives, EntryGives, LocalsGive, SharedGives};
+
+use crate::error::ReplayError;
+use pat_executable::Executable;
+use pat_reduce::{Act, Config, Entry, Step, StepError};
+use std::alloc::Global;
+
+/// The configuration that a history leads to, from the start of the program.
+pub fn replay(alloc: Global, code: &Executable, entries: &[Entry]) -> Result<Config, ReplayError>
+    requires { length entries.now < 4294967295 }
+    ensures { ReplayGives (program_view code.now.program) (map entry_view entries.now) result }
+{
+    let mut config = Config::start(alloc, code)?;
+    for i in 0..entries.len() {
+        let entry = entries[i];
+        match take_entry(alloc, code, &mut config, entry) {
+            Ok(()) => {}
+            Err(StepError::Disabled) => return Err(ReplayError::RefusedAt(i as u32)),
+            Err(StepError::NoMemory) => return Err(ReplayError::NoMemory),
+        }
+    }
+    Ok(config)
+}
+
+// The steps of an entry, which has one at least.
+fn take_entry(
+    alloc: Global,
+    code: &Executable,
+    config: &mut Config,
+    entry: Entry,
+) -> Result<(), StepError>
+    requires { HasTaken (config_view config.old) 4294967294 }
+    ensures { EntryGives (program_view code.now.program) (config_view config.old) (entry_view entry) (config_view config.new) result }
+{
+    if !has_step(&entry) {
+        return Err(StepError::Disabled);
+    }
+    match take_locals(alloc, code, config, entry.thread, entry.local) {
+        Ok(()) => take_shared(alloc, code, config, entry.thread, entry.shared),
+        Err(error) => Err(error),
+    }
+}
+
+fn has_step(entry: &Entry) -> bool
+    ensures some { IsTrue result → entry_steps (entry_view entry.now) ≡ [] → ⊥ }
+    ensures none { IsFalse result → entry_steps (entry_view entry.now) ≡ [] }
+{
+    entry.local > 0 || entry.shared.is_some()
+}
+
+// So many local steps of a thread.
+fn take_locals(
+    alloc: Global,
+    code: &Executable,
+    config: &mut Config,
+    thread: u32,
+    count: u32,
+) -> Result<(), StepError>
+    ensures { LocalsGive (program_view code.now.program) (config_view config.old) thread count (config_view config.new) result }
+{
+    let step = Step {
+        thread,
+        act: Act::Local,
+    };
+    for taken in 0..count {
+        match config.step(alloc, code, &step) {
+            Ok(()) => {}
+            Err(error) => return Err(error),
+        }
+    }
+    Ok(())
+}
+
+// The shared step of an entry, if it has one.
+fn take_shared(
+    alloc: Global,
+    code: &Executable,
+    config: &mut Config,
+    thread: u32,
+    shared: Option<Act>,
+) -> Result<(), StepError>
+    requires { HasTaken (config_view config.old) 4294967294 }
+    ensures { SharedGives (program_view code.now.program) (config_view config.old) thread (option_map act_view shared) (config_view config.new) result }
+{
+    match shared {
+        Some(act) => config.step(alloc, code, &Step { thread, act }),
+        None => Ok(()),
+    }
+}
