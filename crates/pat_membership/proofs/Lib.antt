@@ -1,3 +1,4 @@
 mod Rests
 mod Spans
 mod Totals
+mod CutTwice

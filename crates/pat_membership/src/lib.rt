@@ -1,7 +1,8 @@
 //! Whether a word is a word of a pattern.
 #![tactic(auto)]
 
+mod cutting;
 mod membership;
 mod word_lists;
 
-pub use membership::member;
+pub use cutting::member;

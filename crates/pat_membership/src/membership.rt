@@ -15,7 +15,7 @@ use std::alloc::{AllocError, Global};
 
 /// Whether the bag's word is a word of the pattern. The call lists the words of each part that lie in
 /// the word, so time and memory go with their number.
-pub fn member(alloc: Global, p: &Pattern, word: &Bag) -> Result<bool, AllocError>
+pub fn is_listed(alloc: Global, p: &Pattern, word: &Bag) -> Result<bool, AllocError>
     ensures { IfOk result (λ yes. IsTrue yes ↔ In (pattern_view p.now) (word_of word.now)) }
 {
     let mut done = Stack::new(alloc);
