@@ -1,12 +1,12 @@
-mod TreeLaws
+pub mod TreeLaws
 mod AssignmentLaws
 mod CutSetLaws
 mod FlatLaws
-mod TableLaws
-mod SearchLaws
+pub mod TableLaws
+pub mod SearchLaws
 mod GridLaws
-mod LayoutLaws
-mod NumberLaws
+pub mod LayoutLaws
+pub mod NumberLaws
 mod AnswerLaws
 mod ClosedLaws
 mod ByTable

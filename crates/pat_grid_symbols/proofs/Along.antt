@@ -1,11 +1,11 @@
 -- The heads of a pattern lay it out.
-use Rattle.std.proofs.Common.{◌≡◌, ℕ, suc, List, [], ◌∷◌, length, refl, ap, ◌∙◌, arith}
+use Rattle.std.proofs.Common.{◌≡◌, ℕ, suc, List, [], ◌∷◌, ◌++◌, length, refl, sym, ap, ◌∙◌, subst, arith, append_assoc}
 use Rattle.pat_words.specs.Patterns.{Pat, Zero, One, Tag, Sum, Prod, Star, Var}
 use Rattle.pat_postfix.specs.declared.Head.{Head}
 use Rattle.pat_postfix.specs.declared.Head.TheVariants.{Zero as ZeroHead, One as OneHead, Tag as TagHead, Var as VarHead, Sum as SumHead, Prod as ProdHead, Star as StarHead}
 use Rattle.pat_postfix.specs.Postfix.{postfix_onto}
-use Rattle.pat_bounds.specs.Symbols.{Symbol, NoSymbol, OneSymbol, TagSymbol, SumSymbol, ProdSymbol, StarSymbol}
-use Rattle.pat_bounds.specs.Layouts.{last_of, and_one, laid}
+use Rattle.pat_bounds.specs.Symbols.{Symbol, NoSymbol, OneSymbol, TagSymbol, SumSymbol, ProdSymbol, StarSymbol, LowerSymbol}
+use Rattle.pat_bounds.specs.Layouts.{last_of, and_one, laid, laid_all, roots_all}
 use Rattle.pat_grid_symbols.specs.Laying.{HasParts, lay}
 
 last : (xs : List Symbol) (y : Symbol) → length xs ≡ last_of (and_one xs y)
@@ -59,3 +59,25 @@ has_parts var StarHead rest made whole (a ∷ numbers) n e = tt
 pub begun : (var : ℕ → Symbol) (e : Pat) (heads : List Head) (made : List Symbol) (numbers : List ℕ) → heads ≡ postfix_onto e [] → numbers ≡ [] → lay var heads made numbers ≡ (laid var made e, last_of (laid var made e) ∷ [])
 begun var e heads made numbers h n =
     ap (λ x. lay var x made numbers) h ∙ ap (lay var (postfix_onto e []) made) n ∙ lays_onto var e [] made []
+
+-- ---- a system
+
+-- the symbols made so far, and the roots, and what the patterns still to come add to both
+pub record Under (system : List Pat) (made : List Symbol) (roots : List ℕ) (rest : List Pat) : Type 0 where
+  pub symbols : laid_all made rest ≡ laid_all [] system
+  pub numbers : roots ++ roots_all made rest ≡ roots_all [] system
+
+pub under_none : (system : List Pat) (made : List Symbol) (roots : List ℕ) → made ≡ [] → roots ≡ [] → Under system made roots system
+under_none system made roots e f =
+    subst (λ ys. Under system ys roots system) (sym e)
+    (subst (λ ns. Under system [] ns system) (sym f) (record { symbols = refl; numbers = refl }))
+
+pub under_more : (system : List Pat) (made new : List Symbol) (roots grown : List ℕ) (e : Pat) (rest : List Pat) (root : ℕ) → Under system made roots (e ∷ rest) → new ≡ laid LowerSymbol made e → root ≡ last_of (laid LowerSymbol made e) → grown ≡ roots ++ root ∷ [] → Under system new grown rest
+under_more system made new roots grown e rest root h s r g = record {
+  symbols = ap (λ ys. laid_all ys rest) s ∙ h.symbols;
+  numbers =
+      ap (λ ns. ns ++ roots_all new rest) (g ∙ ap (λ n. roots ++ n ∷ []) r)
+      ∙ append_assoc roots (last_of (laid LowerSymbol made e) ∷ []) (roots_all new rest)
+      ∙ ap (λ ys. roots ++ last_of (laid LowerSymbol made e) ∷ roots_all ys rest) s
+      ∙ h.numbers;
+}

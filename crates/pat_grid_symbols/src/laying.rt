@@ -1,8 +1,8 @@
 // Patterns laid out, along their postfix form: nothing recurses.
 ghost use Rattle.std.specs.Prelude.{◌≡◌, ◌∷◌, [], ◌++◌, ◌<◌, length, OnOk, IfOk};
 ghost use Rattle.pat_words.specs.Tags.{tags_below};
-ghost use Rattle.pat_patterns.specs.Views.{pattern_view};
-ghost use Rattle.pat_bounds.specs.Layouts.{laid, last_of};
+ghost use Rattle.pat_patterns.specs.Views.{pattern_view, patterns_view};
+ghost use Rattle.pat_bounds.specs.Layouts.{laid, laid_all, roots_all, last_of};
 ghost use Rattle.pat_grid_symbols.specs.Views.{symbol_view, symbols_view, var_symbol};
 ghost use Rattle.pat_grid_symbols.specs.Laying.{HasParts, Lays};
 
@@ -43,6 +43,24 @@ pub fn lay_out(
         lay_head(head, role, symbols, &mut numbers)?;
     }
     Ok(take(&mut numbers))
+}
+
+/// The symbols of all patterns of a system, whose variables have them as lower bounds, and the number of each one's own.
+pub fn lay_out_all(
+    alloc: Global,
+    system: &[Pattern],
+    symbols: &mut Sequence<Symbol>,
+    roots: &mut Sequence<usize>,
+) -> Result<(), AllocError>
+    requires { (symbols.old ≡ []) × (roots.old ≡ []) }
+    ensures symbols { OnOk result (symbols_view symbols.new ≡ laid_all [] (patterns_view system.now)) }
+    ensures roots { OnOk result (roots.new ≡ roots_all [] (patterns_view system.now)) }
+{
+    for p in system {
+        let root = lay_out(alloc, p, Role::Lower, symbols)?;
+        roots.push(root)?;
+    }
+    Ok(())
 }
 
 /// Appends the symbol of a head. The numbers of its parts, which are on top, give way to its own.

@@ -4,5 +4,5 @@
 mod laying;
 mod symbol;
 
-pub use laying::{has_tags, lay_out};
+pub use laying::{has_tags, lay_out, lay_out_all};
 pub use symbol::{Role, Symbol};

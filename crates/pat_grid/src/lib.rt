@@ -1,0 +1,8 @@
+//! Words of patterns, and derivable words, each cut at a count: as grids.
+#![tactic(auto)]
+
+mod grids;
+mod rows;
+
+pub use grids::{eval, least};
+pub use pat_grid_points::Grid;

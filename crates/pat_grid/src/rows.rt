@@ -1,0 +1,43 @@
+// Rows of a table as grids.
+ghost use Rattle.std.specs.Prelude.{◌≡◌, ◌<◌, ◌++◌, ◌∷◌, [], length, IfOk, nat_le};
+ghost use Rattle.pat_bounds.specs.Numbers.{HasAllEntries};
+ghost use Rattle.pat_grid_tables.specs.Views.{setting_of, IsBoard};
+ghost use Rattle.pat_grid.specs.Rows.{IsRow, AreRows};
+
+use pat_grid_points::Grid;
+use pat_grid_tables::{Board, entry};
+use pat_sequences::Sequence;
+use std::alloc::{AllocError, Global};
+
+/// The points at which the symbol has a tree.
+pub fn row(alloc: Global, board: &Board, entries: &[u16], s: usize) -> Result<Grid, AllocError>
+    requires board { IsBoard board.now }
+    requires all { HasAllEntries (setting_of board.now) entries.now }
+    ensures { IfOk result (IsRow board.now entries.now s) }
+{
+    let mut held = Sequence::new(alloc);
+    for number in 0..board.points {
+        let size = entry(board, entries, s, number);
+        held.push(size <= board.limit + 1)?;
+    }
+    Ok(Grid::from_held(board.k, board.tags, held))
+}
+
+/// Those of each symbol of a list.
+pub fn rows(
+    alloc: Global,
+    board: &Board,
+    entries: &[u16],
+    numbers: &[usize],
+) -> Result<Sequence<Grid>, AllocError>
+    requires board { IsBoard board.now }
+    requires all { HasAllEntries (setting_of board.now) entries.now }
+    ensures { IfOk result (AreRows board.now entries.now numbers.now) }
+{
+    let mut grids = Sequence::new(alloc);
+    for number in numbers {
+        let grid = row(alloc, board, entries, *number)?;
+        grids.push(grid)?;
+    }
+    Ok(grids)
+}

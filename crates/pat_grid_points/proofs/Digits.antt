@@ -1,0 +1,146 @@
+-- Points as numbers: what the loops over digits need.
+use Rattle.std.proofs.Common.{◌≡◌, ℕ, zero, suc, ◌+◌, ◌-◌, ◌*◌, ◌/◌, ◌%◌, ◌^◌, ◌<◌, ◌≤◌, min, true, List, length, length-set, get_or, set, replicate, ⊎_elim, refl, sym, ap, ap₂, ◌∙◌, subst, arith}
+use Rattle.std.specs.Prelude.{nat_eq, nat_le}
+use Rattle.std.proofs.lemmas.Bool.{and_parts, leb-true, cases_eq, cases_lt, cond-true, cond-false, eq-eqb, ne_eqb}
+use Rattle.std.proofs.lemmas.List.{get_or-set_same, get_or-set_other, get_or-replicate, length-replicate, get_or_past}
+use Rattle.std.proofs.Math.Nat.{pow-le-pow_right, pow-le-pow_left}
+use Rattle.pat_words.specs.Words.{Word, plus}
+use Rattle.pat_words.specs.Cuts.{cut_at}
+use Rattle.pat_inclusions.specs.Points.{grid_fits}
+use Rattle.pat_bounds.specs.Numbers.{points_in, number_of, point_of}
+use Rattle.pat_bounds_laws.proofs.NumberLaws.{number_below, point_fits}
+use Rattle.pat_grid_points.specs.Views.{summed}
+
+-- ---- grids that are worked with
+
+pub bound_fits : (k n : ℕ) → grid_fits k n ≡ true → 1 ≤ k
+bound_fits k n f = leb-true 1 k (and_parts (nat_le 1 k) (nat_le ((k + 1) ^ n) 65536) f).0
+
+pub points_fit : (k n : ℕ) → grid_fits k n ≡ true → points_in k n ≤ 65536
+points_fit k n f = leb-true ((k + 1) ^ n) 65536 (and_parts (nat_le 1 k) (nat_le ((k + 1) ^ n) 65536) f).1
+
+-- fewer tags have no more points
+pub fewer_points : (k m n : ℕ) → m ≤ n → points_in k m ≤ points_in k n
+fewer_points k m n l = pow-le-pow_right {n = k + 1} (omega arith) {i = m} {j = n} l
+
+pub few_tags : (k n : ℕ) → grid_fits k n ≡ true → n ≤ 16
+few_tags k n f =
+    let a = bound_fits k n f in
+    let b = points_fit k n f in
+    let c : 2 ^ n ≤ points_in k n = pow-le-pow_left {n = 2} {m = k + 1} (omega arith) n in
+    ⊎_elim (λ l. let d : 2 ^ 17 ≤ 2 ^ n = pow-le-pow_right {n = 2} (omega arith) {i = 17} {j = n} (omega arith) in absurd (omega arith)) (λ l. omega arith) (cases_lt 16 n)
+
+-- ---- the number of a word
+
+-- the digits of one tag more are still a number of a point
+pub digit_room : (k n t : ℕ) (w : Word) → points_in k n ≤ 65536 → t < n → number_of k t (cut_at k w) * (k + 1) + min (w t) k < 65536
+digit_room k n t w f l =
+    let less = number_below k (suc t) (cut_at k w) (λ i. omega arith) in
+    let fewer = fewer_points k (suc t) n l in
+    omega arith
+
+-- ---- the point of a number
+
+-- the counts of the tags from m on are written, and the others are those of what is left
+pub record Written (k n number : ℕ) (counts : List ℕ) (m rest : ℕ) : Type 0 where
+  pub all : length counts ≡ 32
+  pub few : m ≤ 32
+  pub zeros : (t : ℕ) → t < m → get_or counts t 0 ≡ 0
+  pub sums : (t : ℕ) → get_or counts t 0 + point_of k m rest t ≡ point_of k n number t
+
+past : (k m c t : ℕ) → m ≤ t → point_of k m c t ≡ 0
+past k m c t l = (point_fits k m c).0 t l
+
+pub one_written : (k n number m rest : ℕ) (counts : List ℕ) → Written k n number counts (suc m) rest → Written k n number (set counts m (rest % (k + 1))) m (rest / (k + 1))
+one_written k n number m rest counts h =
+    let few = h.few in
+    let all = h.all in
+    record {
+      all = simp length-set h.all;
+      few = omega arith;
+      zeros = λ t l. get_or-set_other counts m t (rest % (k + 1)) 0 (λ e. absurd (omega arith)) ∙ h.zeros t (omega arith);
+      sums = λ t. ⊎_elim (λ e. here t e) (λ d. other t d) (cases_eq t m);
+    }
+  where
+    here : (t : ℕ) → t ≡ m → get_or (set counts m (rest % (k + 1))) t 0 + point_of k m (rest / (k + 1)) t ≡ point_of k n number t
+    here t e =
+        let few = h.few in
+        let all = h.all in
+        let a : get_or (set counts m (rest % (k + 1))) t 0 ≡ rest % (k + 1) =
+        ap (λ i. get_or (set counts m (rest % (k + 1))) i 0) e ∙ get_or-set_same counts m (rest % (k + 1)) 0 (omega arith) in
+        let b = past k m (rest / (k + 1)) t (omega arith) in
+        let c : point_of k (suc m) rest t ≡ rest % (k + 1) =
+        cond-true (nat_eq t m) (rest % (k + 1)) (point_of k m (rest / (k + 1)) t) (eq-eqb t m e) in
+        let z = h.zeros t (omega arith) in
+        let s = h.sums t in
+        omega arith
+
+    other : (t : ℕ) → (t ≡ m → ⊥) → get_or (set counts m (rest % (k + 1))) t 0 + point_of k m (rest / (k + 1)) t ≡ point_of k n number t
+    other t d =
+        let a = get_or-set_other counts m t (rest % (k + 1)) 0 d in
+        let c : point_of k (suc m) rest t ≡ point_of k m (rest / (k + 1)) t =
+        cond-false (nat_eq t m) (rest % (k + 1)) (point_of k m (rest / (k + 1)) t) (ne_eqb t m d) in
+        let s = h.sums t in
+        omega arith
+
+-- ---- sums of points
+
+number_same : (k n : ℕ) (u v : Word) → ((t : ℕ) → t < n → u t ≡ v t) → number_of k n u ≡ number_of k n v
+number_same k zero u v h = refl
+number_same k (suc n) u v h =
+    ap₂ (λ x y. x * (k + 1) + y) (number_same k n u v (λ t l. h t (omega arith))) (h n (omega arith))
+
+last_digit : (k m c : ℕ) → point_of k (suc m) c m ≡ c % (k + 1)
+last_digit k m c = cond-true (nat_eq m m) (c % (k + 1)) (point_of k m (c / (k + 1)) m) (eq-eqb m m refl)
+
+first_digits : (k m c t : ℕ) → t < m → point_of k (suc m) c t ≡ point_of k m (c / (k + 1)) t
+first_digits k m c t l =
+    cond-false (nat_eq t m) (c % (k + 1)) (point_of k m (c / (k + 1)) t) (ne_eqb t m (λ e. absurd (omega arith)))
+
+pub summed_none : (k v w n : ℕ) → n ≡ 0 → 0 ≡ summed k n v w
+summed_none k v w n e = sym (ap (λ m. summed k m v w) e)
+
+pub summed_one : (k v w m n : ℕ) → n ≡ suc m → summed k m (v / (k + 1)) (w / (k + 1)) * (k + 1) + min (v % (k + 1) + w % (k + 1)) k ≡ summed k n v w
+summed_one k v w m n e =
+    ap₂ (λ x y. x * (k + 1) + y)
+    (number_same k m (cut_at k (plus (point_of k m (v / (k + 1))) (point_of k m (w / (k + 1))))) (cut_at k (plus (point_of k (suc m) v) (point_of k (suc m) w)))
+    (λ t l. ap₂ (λ x y. min (x + y) k) (sym (first_digits k m v t l)) (sym (first_digits k m w t l))))
+    (ap₂ (λ x y. min (x + y) k) (sym (last_digit k m v)) (sym (last_digit k m w)))
+    ∙ ap (λ i. summed k i v w) (sym e)
+
+pub summed_below : (k n v w : ℕ) → summed k n v w < points_in k n
+summed_below k n v w = number_below k n (cut_at k (plus (point_of k n v) (point_of k n w))) (λ t. omega arith)
+
+pub summed_whole : (k v w n a d : ℕ) → (n ≡ 0 → ⊥) → a ≡ summed k (n - 1) (v / (k + 1)) (w / (k + 1)) → d ≡ min (v % (k + 1) + w % (k + 1)) k → a * (k + 1) + d ≡ summed k n v w
+summed_whole k v w n a d z above digit =
+    ap₂ (λ x y. x * (k + 1) + y) above digit ∙ summed_one k v w (n - 1) n (omega arith)
+
+-- so nothing wraps
+pub summed_room : (k v w n a : ℕ) → (n ≡ 0 → ⊥) → points_in k n < 65537 → a ≡ summed k (n - 1) (v / (k + 1)) (w / (k + 1)) → a * (k + 1) + min (v % (k + 1) + w % (k + 1)) k < 65537
+summed_room k v w n a z f above =
+    let e = summed_whole k v w n a (min (v % (k + 1) + w % (k + 1)) k) z above refl in
+    let l = summed_below k n v w in
+    omega arith
+
+-- ---- the loop over the digits of a number
+
+zero_at : (n t : ℕ) → get_or {A = ℕ} (replicate n 0) t 0 ≡ 0
+zero_at n t =
+    ⊎_elim (λ l. get_or-replicate n t 0 0 l)
+    (λ l. get_or_past (replicate n 0) t 0 (subst (λ i. i ≤ t) (sym (length-replicate n 0)) l))
+    (cases_lt t n)
+
+pub none_written : (k n number : ℕ) → grid_fits k n ≡ true → Written k n number (replicate 32 0) n number
+none_written k n number f =
+    let few = few_tags k n f in
+    record {
+      all = refl;
+      few = omega arith;
+      zeros = λ t l. zero_at 32 t;
+      sums = λ t. let z = zero_at 32 t in omega arith;
+    }
+
+pub next_written : (k n number tag rest : ℕ) (counts : List ℕ) → 0 < tag → Written k n number counts tag rest → Written k n number (set counts (tag - 1) (rest % (k + 1))) (tag - 1) (rest / (k + 1))
+next_written k n number tag rest counts l h =
+    let e : tag ≡ suc (tag - 1) = omega arith in
+    one_written k n number (tag - 1) rest counts (subst (λ i. Written k n number counts i rest) e h)

@@ -1,0 +1,29 @@
+-- Grids as the definitions see them.
+use Rattle.std.specs.Prelude.{◌≡◌, ℕ, suc, Bool, true, false, List, [], ◌∷◌, IsTrue, slice_index_or}
+use Rattle.pat_words.specs.Words.{Word, plus}
+use Rattle.pat_words.specs.Cuts.{cut_at}
+use Rattle.pat_bounds.specs.CutSets.{IsPoint}
+use Rattle.pat_bounds.specs.Numbers.{number_of, point_of}
+use Rattle.pat_grid_points.specs.declared.grid.Grid.{Grid}
+
+-- the grid has this point
+abbrev pub HasPoint : Grid → Word → Type 0
+HasPoint g u = IsPoint g.k g.tags u × IsTrue (slice_index_or g.held (number_of g.k g.tags u) false)
+
+-- both grids are of the same number of tags and the same greatest count
+abbrev pub IsLike : Grid → Grid → Type 0
+IsLike g h = (g.k ≡ h.k) × (g.tags ≡ h.tags)
+
+-- from number c on, the points whose entry says that they are there
+abbrev pub held_from : ℕ → ℕ → ℕ → List Bool → List Word
+held_from k n c [] = []
+held_from k n c (true ∷ held) = point_of k n c ∷ held_from k n (suc c) held
+held_from k n c (false ∷ held) = held_from k n (suc c) held
+
+-- the points of the grid, ascending
+abbrev pub points_of : Grid → List Word
+points_of g = held_from g.k g.tags 0 g.held
+
+-- the number of the sum of the points with these numbers
+abbrev pub summed : ℕ → ℕ → ℕ → ℕ → ℕ
+summed k n v w = number_of k n (cut_at k (plus (point_of k n v) (point_of k n w)))

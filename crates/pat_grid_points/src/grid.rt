@@ -1,0 +1,19 @@
+// A set of points.
+ghost use Rattle.std.specs.Prelude.{◌≡◌, length, IsTrue};
+ghost use Rattle.pat_inclusions.specs.Points.{grid_fits};
+ghost use Rattle.pat_bounds.specs.Numbers.{points_in};
+
+use pat_sequences::Sequence;
+
+/// A set of points: words of the first `tags` tags whose counts are at most `k`.
+#[derive(Drop)]
+pub struct Grid {
+    /// The greatest count.
+    pub k: u32,
+    /// The number of tags.
+    pub tags: u8,
+    /// Of each number, whether the point with the number is in the set.
+    pub held: Sequence<bool>,
+    ghost fits: { IsTrue (grid_fits k tags) },
+    ghost counted: { length held ≡ points_in k tags },
+}

@@ -1,0 +1,21 @@
+//! Points of a grid as numbers, and sets of points.
+#![tactic(auto)]
+
+ghost use Rattle.std.specs.Prelude.{◌↔◌};
+ghost use Rattle.pat_words.specs.Words.{Word};
+ghost use Rattle.pat_words.specs.Languages.{MemberOf};
+ghost use Rattle.pat_grid_points.specs.declared.grid.Grid.{Grid as GridValue};
+ghost use Rattle.pat_grid_points.specs.Views.{HasPoint, points_of};
+
+mod grid;
+mod making;
+mod numbers;
+mod reading;
+
+pub use grid::Grid;
+pub use numbers::{bag_of, count_points, number_of, sum_of};
+
+/// The points of a grid, listed, are just those that it has.
+pub fn points_law()
+    ensures { (g : GridValue) (u : Word) → MemberOf (points_of g) u ↔ HasPoint g u }
+{}

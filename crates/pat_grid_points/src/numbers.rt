@@ -1,0 +1,60 @@
+// Points as numbers: the counts of the tags are digits, that of the first tag the highest.
+ghost use Rattle.std.specs.Prelude.{◌≡◌, ◌<◌, IsTrue};
+ghost use Rattle.pat_words.specs.Cuts.{cut_at};
+ghost use Rattle.pat_bags.specs.Views.{word_of};
+ghost use Rattle.pat_inclusions.specs.Points.{grid_fits};
+ghost use Rattle.pat_bounds.specs.Numbers.{points_in, number_of as number_in, point_of};
+ghost use Rattle.pat_grid_points.specs.Views.{summed};
+
+use pat_bags::{Bag, TAGS};
+
+/// The number of points of the grid of so many tags whose counts are at most `k`.
+pub fn count_points(k: u32, tags: u8) -> usize
+    requires { IsTrue (grid_fits k tags) }
+    ensures { result ≡ points_in k tags }
+{
+    (k as usize + 1).pow(tags as u32)
+}
+
+/// The number of the word, cut at `k`, by its counts of the first `tags` tags.
+pub fn number_of(word: &Bag, k: u32, tags: u8) -> usize
+    requires { IsTrue (grid_fits k tags) }
+    ensures { result ≡ number_in k tags (cut_at k (word_of word.now)) }
+{
+    let base = k as usize + 1;
+    let mut number = 0;
+    for tag in 0..tags {
+        number = number * base + word.get(tag).min(k) as usize;
+    }
+    number
+}
+
+/// The point with the number.
+pub fn bag_of(number: usize, k: u32, tags: u8) -> Bag
+    requires { IsTrue (grid_fits k tags) }
+    ensures { word_of result ≡ point_of k tags number }
+{
+    let base = k as usize + 1;
+    let mut counts = [0; TAGS];
+    let mut rest = number;
+    let mut tag = tags as usize;
+    while tag > 0 {
+        tag -= 1;
+        counts[tag] = (rest % base) as u32;
+        rest /= base;
+    }
+    Bag { counts }
+}
+
+/// The number of the sum of the two points with these numbers, cut at `k`.
+pub fn sum_of(first: usize, second: usize, k: u32, tags: u8) -> usize
+    requires { points_in k tags < 65537 }
+    ensures { result ≡ summed k tags first second }
+{
+    if tags == 0 {
+        return 0;
+    }
+    let base = k as usize + 1;
+    let above = sum_of(first / base, second / base, k, tags - 1);
+    above * base + (first % base + second % base).min(k as usize)
+}

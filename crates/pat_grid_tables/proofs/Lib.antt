@@ -1,0 +1,4 @@
+mod Relaxing
+mod Closing
+mod Turns
+mod Done

@@ -1,0 +1,184 @@
+-- Relaxing, one call after another.
+use Rattle.std.proofs.Common.{◌≡◌, ℕ, suc, ◌+◌, ◌*◌, ◌<◌, ◌≤◌, min, ◌⊎◌, inl, inr, ⊎_elim, Bool, true, false, List, [], ◌∷◌, ◌++◌, length, length-set, length-append, append-nil, get_or, set, refl, sym, ap, ap₂, ◌∙◌, subst, arith, suc-mul, mul-le-mul_right}
+use Rattle.std.specs.Prelude.{if◌then◌else◌}
+use Rattle.std.proofs.lemmas.Bool.{cases_lt}
+use Rattle.std.proofs.lemmas.List.{get_or-set_same, get_or_past, get_or_default, get_or_append_left, get_or_at, length-map}
+use Rattle.pat_words.specs.Words.{plus}
+use Rattle.pat_words.specs.Cuts.{cut_at}
+use Rattle.pat_words.specs.Tags.{HasTagsBelow}
+use Rattle.pat_words.proofs.WordLaws.{word_ext}
+use Rattle.pat_bounds.specs.CutSets.{IsPoint}
+use Rattle.pat_bounds.specs.Tables.{Setting, IsSound, IsKnown, Step, StepByOne, StepByTwo, capped}
+use Rattle.pat_bounds.specs.Numbers.{points_in, point_of, place_of, table_of, unknown, HasAllEntries}
+use Rattle.pat_bounds_laws.proofs.NumberLaws.{number_point, point_number, point_fits, write_steps, write_falls}
+use Rattle.pat_bounds_laws.proofs.TableLaws.{steps_sound}
+use Rattle.pat_grid_points.specs.Views.{summed}
+use Rattle.pat_grid_symbols.specs.Views.{symbol_view}
+use Rattle.pat_grid_tables.specs.declared.board.Board.{Board}
+use Rattle.pat_grid_tables.specs.Views.{setting_of, IsBoard}
+use Rattle.pat_grid_tables.specs.Moves.{entry_at, total, IsPlace, Moved, PartAt, PairAt, Lists}
+
+-- nothing was done
+pub moved_none : (g : Setting) (Claim : List ℕ → Type 0) (old : List ℕ) (was : Bool) → Claim old → Moved g Claim old was old was
+moved_none g Claim old was h = record {
+  as_long = refl;
+  sound = λ s. s;
+  at_most = omega arith;
+  falls = λ e. inl e;
+  stays = λ e. (e, refl, h);
+}
+
+-- one after the other
+pub moved_both : (g : Setting) (A B C : List ℕ → Type 0) (x y z : List ℕ) (a b c : Bool) → Moved g A x a y b → Moved g B y b z c → (A x → B x → C x) → Moved g C x a z c
+moved_both g A B C x y z a b c first second h = record {
+  as_long = second.as_long ∙ first.as_long;
+  sound = λ s. second.sound (first.sound s);
+  at_most = let p = first.at_most in let q = second.at_most in omega arith;
+  falls = λ e. ⊎_elim
+      (λ f. ⊎_elim (λ k. inl k) (λ l. inr (let q = second.at_most in omega arith)) (first.falls f))
+      (λ l. inr (let p = first.at_most in omega arith))
+      (second.falls e);
+  stays = λ e.
+      let s = second.stays e in
+      let f = first.stays s.0 in
+      (f.0, s.1 ∙ f.1, h f.2 (subst B f.1 s.2));
+}
+
+-- what is claimed may be said otherwise
+pub moved_as : (g : Setting) (A B : List ℕ → Type 0) (x y : List ℕ) (a b : Bool) → Moved g A x a y b → (A x → B x) → Moved g B x a y b
+moved_as g A B x y a b m h = record {
+  as_long = m.as_long;
+  sound = m.sound;
+  at_most = m.at_most;
+  falls = m.falls;
+  stays = λ e. let s = m.stays e in (s.0, s.1, h s.2);
+}
+
+-- ---- entries
+
+pub entry_within : (g : Setting) (entries : List ℕ) (s c : ℕ) → HasAllEntries g entries → s < length g.flat.symbols → c < points_in g.bound g.tags → s * points_in g.bound g.tags + c < length entries
+entry_within g entries s c all l m =
+    let grown = mul-le-mul_right (points_in g.bound g.tags) l in
+    let one_more = suc-mul s (points_in g.bound g.tags) in
+    omega arith
+
+pub entry_past : (g : Setting) (entries : List ℕ) (s c : ℕ) → HasAllEntries g entries → length g.flat.symbols ≤ s → entry_at g entries s c ≡ unknown g.limit
+entry_past g entries s c all l =
+    let grown = mul-le-mul_right (points_in g.bound g.tags) l in
+    get_or_past entries (s * points_in g.bound g.tags + c) (unknown g.limit) (omega arith)
+
+-- the entry at a number is the table's at its point
+pub entry_point : (g : Setting) (entries : List ℕ) (s c : ℕ) → c < points_in g.bound g.tags → table_of g entries s (point_of g.bound g.tags c) ≡ entry_at g entries s c
+entry_point g entries s c l = ap (entry_at g entries s) (point_number g.bound g.tags c l)
+
+pub symbol_within : (b : Board) (s : ℕ) → s < length b.symbols.now → s < length (setting_of b).flat.symbols
+symbol_within b s l = subst (λ x. s < x) (sym (length-map b.symbols.now symbol_view)) l
+
+-- an entry was lowered
+pub lowered : (b : Board) (entries : List ℕ) (was : Bool) (s c size : ℕ) → IsBoard b → HasAllEntries (setting_of b) entries → IsPlace b s c → Step (setting_of b) (table_of (setting_of b) entries) s (point_of b.k b.tags c) size → size < get_or entries (s * b.points + c) 0 → Moved (setting_of b) (λ es. entry_at (setting_of b) es s c ≤ size) entries was (set entries (s * b.points + c) size) true
+lowered b entries was s c size board all place step less =
+    let g = setting_of b in
+    let m : c < points_in b.k b.tags = subst (λ x. c < x) board.points place.1 in
+    let l : s < length g.flat.symbols = symbol_within b s place.0 in
+    let u = point_of b.k b.tags c in
+    let i = s * b.points + c in
+    let at : place_of g s u ≡ i = ap₂ (λ x y. s * x + y) (sym board.points) (point_number b.k b.tags c m) in
+    let within : i < length entries = subst (λ x. s * x + c < length entries) (sym board.points) (entry_within g entries s c all l m) in
+    let fall : total (set entries i size) < total entries = write_falls entries i size within less in
+    let steps = write_steps g entries s u size (point_fits b.k b.tags c) (subst (λ x. x < length entries) (sym at) within) step in
+    let here : get_or (set entries i size) (s * points_in b.k b.tags + c) (unknown g.limit) ≡ size =
+    ap (λ x. get_or (set entries i size) (s * x + c) (unknown g.limit)) (sym board.points) ∙ get_or-set_same entries i size (unknown g.limit) within in
+    record {
+      as_long = length-set entries i size;
+      sound = λ h. subst (λ x. IsSound g (table_of g (set entries x size))) at (steps_sound g (table_of g entries) (table_of g (set entries (place_of g s u) size)) h steps);
+      at_most = omega arith;
+      falls = λ e. inr fall;
+      stays = λ e. absurd (cc);
+    }
+
+-- it wasn't greater
+pub not_lowered : (b : Board) (entries : List ℕ) (was : Bool) (s c size : ℕ) → IsBoard b → HasAllEntries (setting_of b) entries → IsPlace b s c → get_or entries (s * b.points + c) 0 ≤ size → Moved (setting_of b) (λ es. entry_at (setting_of b) es s c ≤ size) entries was entries was
+not_lowered b entries was s c size board all place least =
+    let g = setting_of b in
+    let m : c < points_in b.k b.tags = subst (λ x. c < x) board.points place.1 in
+    let within : s * b.points + c < length entries = subst (λ x. s * x + c < length entries) (sym board.points) (entry_within g entries s c all (symbol_within b s place.0) m) in
+    moved_none g (λ es. entry_at g es s c ≤ size) entries was
+    (subst (λ x. get_or entries (s * x + c) (unknown g.limit) ≤ size) board.points
+    (subst (λ x. x ≤ size) (get_or_default entries (s * b.points + c) 0 (unknown g.limit) within) least))
+
+-- ---- steps by parts
+
+pub part_step : (g : Setting) (entries : List ℕ) (a c e r : ℕ) → c < points_in g.bound g.tags → e ≡ entry_at g entries a c → e ≤ g.limit + 1 → r ≡ min (e + 1) (g.limit + 1) → StepByOne g (table_of g entries) a (point_of g.bound g.tags c) r
+part_step g entries a c e r l h known is =
+    let at : table_of g entries a (point_of g.bound g.tags c) ≡ e = entry_point g entries a c l ∙ sym h in
+    subst (λ x. IsKnown g.limit x × (r ≡ capped g.limit (suc x))) (sym at) (omega arith, omega arith)
+
+pub pair_step : (g : Setting) (entries : List ℕ) (a b v w e f number r : ℕ) → v < points_in g.bound g.tags → w < points_in g.bound g.tags → e ≡ entry_at g entries a v → f ≡ entry_at g entries b w → e ≤ g.limit + 1 → f ≤ g.limit + 1 → number ≡ summed g.bound g.tags v w → r ≡ min (e + f + 1) (g.limit + 1) → StepByTwo g (table_of g entries) a b (point_of g.bound g.tags v) (point_of g.bound g.tags w) (point_of g.bound g.tags number) r
+pair_step g entries a b v w e f number r lv lw he hf ke kf sums is =
+    let k = g.bound in
+    let n = g.tags in
+    let at : table_of g entries a (point_of k n v) ≡ e = entry_point g entries a v lv ∙ sym he in
+    let bt : table_of g entries b (point_of k n w) ≡ f = entry_point g entries b w lw ∙ sym hf in
+    let both = cut_at k (plus (point_of k n v) (point_of k n w)) in
+    let below : HasTagsBelow n both = λ t l. let x = (point_fits k n v).0 t l in let y = (point_fits k n w).0 t l in omega arith in
+    let point : IsPoint k n both = (below, word_ext both (cut_at k both) (λ t. omega arith)) in (
+      point_fits k n v,
+      point_fits k n w,
+      subst (IsKnown g.limit) (sym at) (omega arith),
+      subst (IsKnown g.limit) (sym bt) (omega arith),
+      ap (point_of k n) sums ∙ number_point k n both point,
+      is ∙ (let z : min (e + f + 1) (g.limit + 1) ≡ capped g.limit (suc (e + f)) = omega arith in z) ∙ ap₂ (λ x y. capped g.limit (suc (x + y))) (sym at) (sym bt),
+    )
+
+-- ---- what was claimed at each turn
+
+pub part_at : (g : Setting) (s a c e r : ℕ) (x y : List ℕ) (p q : Bool) → e ≡ entry_at g x a c → r ≡ min (e + 1) (g.limit + 1) → Moved g (λ es. entry_at g es s c ≤ r) x p y q → Moved g (PartAt g s a c) x p y q
+part_at g s a c e r x y p q h is m =
+    moved_as g (λ es. entry_at g es s c ≤ r) (PartAt g s a c) x y p q m (λ l known. omega arith)
+
+pub part_unknown : (g : Setting) (s a c e : ℕ) (x : List ℕ) (p : Bool) → e ≡ entry_at g x a c → g.limit + 1 < e → Moved g (PartAt g s a c) x p x p
+part_unknown g s a c e x p h l = moved_none g (PartAt g s a c) x p (λ known. absurd (omega arith))
+
+pub pair_at : (g : Setting) (s a b v w e f number r : ℕ) (x y : List ℕ) (p q : Bool) → e ≡ entry_at g x a v → f ≡ entry_at g x b w → number ≡ summed g.bound g.tags v w → r ≡ min (e + f + 1) (g.limit + 1) → Moved g (λ es. entry_at g es s number ≤ r) x p y q → Moved g (PairAt g s a b v w) x p y q
+pair_at g s a b v w e f number r x y p q he hf sums is m =
+    moved_as g (λ es. entry_at g es s number ≤ r) (PairAt g s a b v w) x y p q m
+    (λ l ka kb. let l2 = subst (λ i. entry_at g x s i ≤ r) sums l in omega arith)
+
+pub pair_unknown : (g : Setting) (s a b v w : ℕ) (x : List ℕ) (p : Bool) → (g.limit + 1 < entry_at g x a v) ⊎ (g.limit + 1 < entry_at g x b w) → Moved g (PairAt g s a b v w) x p x p
+pair_unknown g s a b v w x p l =
+    moved_none g (PairAt g s a b v w) x p (λ ka kb. ⊎_elim (λ h. absurd (omega arith)) (λ h. absurd (omega arith)) l)
+
+-- claims of the first m, and of one more
+pub before_none : (P : ℕ → Type 0) (c : ℕ) → c < 0 → P c
+before_none P c l = absurd (omega arith)
+
+pub before_more : (P : ℕ → Type 0) (m : ℕ) → ((c : ℕ) → c < m → P c) → P m → (c : ℕ) → c < m + 1 → P c
+before_more P m before here c l =
+    ⊎_elim (λ h. before c h) (λ h. let e : m ≡ c = omega arith in subst P e here) (cases_lt c m)
+
+-- ---- lists of numbers
+
+pub lists_none : (P : ℕ → Type 0) (from : ℕ) (numbers : List ℕ) → numbers ≡ [] → Lists P from from numbers
+lists_none P from numbers e = subst (Lists P from from) (sym e) (record {
+  within = λ i l. absurd (omega arith);
+  all = λ c l m h. absurd (omega arith);
+})
+
+pub lists_more : (P : ℕ → Type 0) (from m : ℕ) (wanted : Bool) (old new : List ℕ) → from ≤ m → Lists P from m old → (P m → wanted ≡ true) → new ≡ old ++ (if wanted then m ∷ [] else []) → Lists P from (m + 1) new
+lists_more P from m true old new l h w e = subst (Lists P from (m + 1)) (sym e) (record {
+  within = λ i k. ⊎_elim
+      (λ s. let p = h.within i s in let q = get_or_append_left old (m ∷ []) 0 i s in (omega arith, omega arith))
+      (λ s. let z = length-append old (m ∷ []) in let f : length old ≡ i = omega arith in let q = get_or_at old m [] 0 i f in (omega arith, omega arith))
+      (cases_lt i (length old));
+  all = λ c a b k. ⊎_elim
+      (λ s. let p = h.all c a s k in (p.0, let z = length-append old (m ∷ []) in let y = p.1 in omega arith, get_or_append_left old (m ∷ []) 0 p.0 p.1 ∙ p.2))
+      (λ s. (length old, let z = length-append old (m ∷ []) in omega arith, get_or_at old m [] 0 (length old) refl ∙ (let f : m ≡ c = omega arith in f)))
+      (cases_lt c m);
+})
+lists_more P from m false old new l h w e = subst (Lists P from (m + 1)) (sym (e ∙ append-nil old)) (record {
+  within = λ i k. let p = h.within i k in (p.0, omega arith);
+  all = λ c a b k. ⊎_elim
+      (λ s. h.all c a s k)
+      (λ s. let f : c ≡ m = omega arith in let n = w (subst P f k) in absurd (cc))
+      (cases_lt c m);
+})

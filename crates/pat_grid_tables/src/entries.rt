@@ -1,0 +1,44 @@
+// Entries, and what lowers one.
+ghost use Rattle.std.specs.Prelude.{◌≡◌, ◌<◌, ◌≤◌, length};
+ghost use Rattle.pat_bounds.specs.Tables.{Step};
+ghost use Rattle.pat_bounds.specs.Numbers.{table_of, point_of, HasAllEntries};
+ghost use Rattle.pat_grid_tables.specs.Views.{setting_of, IsBoard};
+ghost use Rattle.pat_grid_tables.specs.Moves.{entry_at, IsPlace, Moved};
+
+use crate::board::Board;
+
+/// The entry of the symbol at the point with the number; that of no tree where there is no such symbol.
+pub fn entry(board: &Board, entries: &[u16], s: usize, number: usize) -> u16
+    requires board { IsBoard board.now }
+    requires all { HasAllEntries (setting_of board.now) entries.now }
+    requires number { number < board.now.points }
+    ensures { result ≡ entry_at (setting_of board.now) entries.now s number }
+{
+    if s < board.symbols.len() {
+        entries[s * board.points + number]
+    } else {
+        board.limit + 2
+    }
+}
+
+/// Lowers the entry of the symbol at the point with the number, if it is greater.
+pub fn lower(
+    board: &Board,
+    entries: &mut [u16],
+    s: usize,
+    number: usize,
+    size: u16,
+    changed: &mut bool,
+)
+    requires board { IsBoard board.now }
+    requires all { HasAllEntries (setting_of board.now) entries.old }
+    requires place { IsPlace board.now s number }
+    requires step { let g = setting_of board.now in Step g (table_of g entries.old) s (point_of g.bound g.tags number) size }
+    ensures { let g = setting_of board.now in Moved g (λ es. entry_at g es s number ≤ size) entries.old changed.old entries.new changed.new }
+{
+    let place = s * board.points + number;
+    if size < entries[place] {
+        entries[place] = size;
+        *changed = true;
+    }
+}

@@ -1,0 +1,13 @@
+//! Tables of least trees: for each symbol and point the size of a least tree, lowered until no step gives less.
+#![tactic(auto)]
+
+mod board;
+mod entries;
+mod listing;
+mod passes;
+mod steps;
+mod symbols;
+
+pub use board::Board;
+pub use entries::entry;
+pub use passes::least_sizes;
