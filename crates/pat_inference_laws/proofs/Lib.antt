@@ -4,7 +4,7 @@ pub mod Gathering
 pub mod BothLaws
 pub mod Lossless
 -- what each term needs, by look-ups
-mod Lookups
+pub mod Lookups
 mod BranchLaws
 mod BinderLaws
 mod SignatureLaws

@@ -1,0 +1,4 @@
+pub mod Types
+pub mod Combining
+pub mod Stopping
+pub mod Gathering

@@ -1,0 +1,15 @@
+//! What terms need of their variables: needs in ascending order of variable, and what parts need together.
+#![tactic(auto)]
+
+mod arguments;
+mod branching;
+mod gathering;
+mod joining;
+mod kinds;
+mod needs;
+
+pub use arguments::{Arguments, args_needs, payload_types};
+pub use branching::do_agree;
+pub use gathering::{column_of, gather_branches, gather_parts, names_of};
+pub use kinds::{is_receiver, is_second};
+pub use needs::{find, put, without};
