@@ -8,7 +8,8 @@ use Rattle.pat_canonical.specs.Text.{text_of}
 use Rattle.pat_core.specs.declared.program.TagDecl.{TagDecl}
 use Rattle.pat_core.specs.Views.{tag_view}
 use Rattle.pat_grammar.specs.Trees as trees
-use Rattle.pat_print_patterns.specs.PatternText.{enclosed, is_sum, is_sum_or_product, pat_text, written_with}
+use Rattle.pat_pattern_text.specs.PatternText.{enclosed, is_sum, is_sum_or_product, pat_text}
+use Rattle.pat_print_patterns.specs.PatternText.{written_with}
 use Rattle.pat_print.proofs.Lines.{part_is, sum_is, prod_is, zero_is, one_is}
 
 pub tag_name : (ts us : List TagDecl) (k : ℕ) (d : TagDecl) → us ≡ ts → true ≡ nat_lt k (length us) → d ≡ get_or us k d → get_or (map (λ t. t.name) (map tag_view ts)) k [] ≡ d.name

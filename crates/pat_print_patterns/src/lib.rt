@@ -3,4 +3,4 @@
 
 mod numbered_pattern;
 
-pub use numbered_pattern::{pattern_text, pattern_text_law};
+pub use numbered_pattern::{pattern_text, pattern_text_law, push_pattern};

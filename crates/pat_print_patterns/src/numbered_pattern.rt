@@ -10,7 +10,8 @@ ghost use Rattle.pat_patterns.specs.Views.{pattern_view};
 ghost use Rattle.pat_core.specs.Views.{interface_view};
 ghost use Rattle.pat_canonical.specs.Canonical.{pattern_onto};
 ghost use Rattle.pat_print.specs.Parts.{bytes_of};
-ghost use Rattle.pat_print_patterns.specs.PatternText.{tag_names, opening, closing, enclosed, is_sum, is_sum_or_product, pat_text, written_with};
+ghost use Rattle.pat_pattern_text.specs.PatternText.{opening, closing, enclosed, is_sum, is_sum_or_product, pat_text};
+ghost use Rattle.pat_print_patterns.specs.PatternText.{tag_names, written_with};
 
 use pat_core::Interface;
 use pat_decimal::push_number;
@@ -30,6 +31,18 @@ pub fn pattern_text(
     let mut out = Vec::new(alloc);
     put_numbered(alloc, &mut out, pattern, interface, false)?;
     Ok(out)
+}
+
+/// Appends the text of a pattern by the names of the interface's tags. A tag that the interface doesn't have adds nothing.
+pub fn push_pattern(
+    alloc: Global,
+    out: &mut Vec<u8>,
+    pattern: &Pattern,
+    interface: &Interface,
+) -> Result<(), AllocError>
+    ensures { OnOk result (out.new.items ≡ out.old.items ++ pat_text (tag_names (interface_view interface.now)) (pattern_view pattern.now)) }
+{
+    put_numbered(alloc, out, pattern, interface, false)
 }
 
 /// The text of a pattern without variables is that of the pattern as it is written with the names.

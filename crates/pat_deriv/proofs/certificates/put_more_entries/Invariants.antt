@@ -1,0 +1,8 @@
+use Rattle.std.proofs.Common.{◌≡◌, ◌∷◌, ◌++◌, drop, map}
+use Rattle.std.specs.List.{flat_map}
+use Rattle.pat_certs_covers.specs.Views.{entries_view}
+use Rattle.pat_derivation_text.specs.DerivationText.{entry_text}
+use Rattle.pat_deriv.proofs.certificates.put_more_entries.Given as goal
+
+abbrev pub invariant-loop-entry : goal.invariant-loop-entry
+invariant-loop-entry l = l.out.items ++ flat_map (λ y. 124 ∷ y) (map entry_text (entries_view (drop l.entry-index l.entries))) ≡ l.initial.out.items ++ flat_map (λ y. 124 ∷ y) (map entry_text (entries_view l.entries))

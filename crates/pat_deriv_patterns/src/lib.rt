@@ -1,0 +1,12 @@
+//! Patterns of derivations, read from their text.
+#![tactic(auto)]
+
+mod parts;
+mod reading;
+mod unread;
+mod waiting;
+mod words;
+
+pub use reading::read_pattern;
+pub use unread::Unread;
+pub use words::read_number;

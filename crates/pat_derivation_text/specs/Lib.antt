@@ -1,0 +1,3 @@
+pub mod Joined
+pub mod DerivationText
+pub mod LineReading

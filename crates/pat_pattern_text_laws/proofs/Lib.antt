@@ -1,0 +1,5 @@
+mod Choices
+mod Decimals
+mod ReadAgain
+pub mod Running
+mod Spelled
