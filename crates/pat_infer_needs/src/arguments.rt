@@ -44,7 +44,7 @@ pub fn args_needs(
 }
 
 /// The type at a place, if there is one.
-fn type_at(types: &[Option<MailboxType>], place: usize) -> Option<&MailboxType>
+pub fn type_at(types: &[Option<MailboxType>], place: usize) -> Option<&MailboxType>
     ensures { option_map (λ a. type_view a.now) result ≡ types_at (map (option_map type_view) types.now) place }
 {
     match types.get(place) {

@@ -8,7 +8,7 @@ mod joining;
 mod kinds;
 mod needs;
 
-pub use arguments::{Arguments, args_needs, payload_types};
+pub use arguments::{Arguments, args_needs, payload_types, type_at};
 pub use branching::do_agree;
 pub use gathering::{column_of, gather_branches, gather_parts, names_of};
 pub use kinds::{is_receiver, is_second};

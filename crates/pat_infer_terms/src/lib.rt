@@ -1,0 +1,8 @@
+//! Names that are bound with a type, and terms without parts: what they need, which rules they break, and their constraints.
+#![tactic(auto)]
+
+mod names;
+mod terms;
+
+pub use names::{Binder, bind, bind_all, check_names, constrain_names};
+pub use terms::{call_needs, constrain_new, tag_of, types_of_tag, value_needs};
