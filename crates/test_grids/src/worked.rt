@@ -1,0 +1,140 @@
+// Worked rows, with answers by hand. A pattern is spelled with its parts first: `mn.` is m.n, `mn+` is m + n, and `m*` is
+// *m; `$` and `%` are the first and the second variable. A small letter from `m` on is the tag with its place from `m`.
+ghost use Rattle.std.specs.Prelude.{IsTrue};
+ghost use Rattle.pat_inclusions.specs.Points.{grid_fits};
+
+use pat_bags::Bag;
+use pat_grid::{Grid, eval, least};
+use pat_grid_symbols::has_tags;
+use pat_patterns::Pattern;
+use std::alloc::{AllocError, Global};
+use std::process::Abort;
+use std::test::Fail;
+
+/// The pattern that is spelled so.
+fn pattern(alloc: Global, text: &str) -> Result<Pattern, AllocError> {
+    let mut done = Vec::new(alloc);
+    for letter in text.bytes() {
+        let right = match letter {
+            b'+' | b'.' => take(&mut done),
+            _ => Pattern::Zero,
+        };
+        let node = match letter {
+            b'1' => Pattern::One,
+            b'm'..=b'z' => Pattern::Tag(letter - b'm'),
+            b'$' => Pattern::Var(0),
+            b'%' => Pattern::Var(1),
+            b'+' => Pattern::Sum(Box::new(alloc, take(&mut done))?, Box::new(alloc, right)?),
+            b'.' => Pattern::Prod(Box::new(alloc, take(&mut done))?, Box::new(alloc, right)?),
+            b'*' => Pattern::Star(Box::new(alloc, take(&mut done))?),
+            _ => Pattern::Zero,
+        };
+        done.push(node)?;
+    }
+    Ok(take(&mut done))
+}
+
+fn take(done: &mut Vec<Pattern>) -> Pattern {
+    done.pop().unwrap_or(Pattern::Zero)
+}
+
+/// The bag of so many m and so many n.
+fn bag(m: u32, n: u32) -> Bag {
+    let mut counts = [0; 32];
+    counts[0] = m;
+    counts[1] = n;
+    Bag { counts }
+}
+
+/// The grid has just these points, in this order.
+fn has_points(
+    rt: &impl Abort,
+    alloc: Global,
+    grid: &Grid,
+    want: &[(u32, u32)],
+    text: &str,
+) -> Result<(), AllocError> {
+    let points = grid.points(alloc)?;
+    assert!(rt; points.len() == want.len(), "points of {text}");
+    for (point, (m, n)) in points.as_slice().iter().zip(want) {
+        assert!(rt; point.is_same(&bag(*m, *n)), "a point of {text}");
+        assert!(rt; grid.holds(point), "holds of {text}");
+    }
+    Ok(())
+}
+
+/// The cut words of the pattern are these.
+fn evaluates(
+    rt: &impl Abort,
+    alloc: Global,
+    text: &str,
+    k: u32,
+    tags: u8,
+    want: &[(u32, u32)],
+) -> Result<(), AllocError>
+    requires { IsTrue (grid_fits k tags) }
+{
+    let p = pattern(alloc, text)?;
+    assert!(rt; has_tags(&p, tags), "tags of {text}");
+    let grid = eval(alloc, &p, &[], k, tags)?;
+    has_points(rt, alloc, &grid, want, text)
+}
+
+/// The cut derivable words of a system of one variable are these.
+fn derives(
+    rt: &impl Abort,
+    alloc: Global,
+    text: &str,
+    k: u32,
+    tags: u8,
+    want: &[(u32, u32)],
+) -> Result<(), AllocError>
+    requires { IsTrue (grid_fits k tags) }
+{
+    let p = pattern(alloc, text)?;
+    assert!(rt; has_tags(&p, tags), "tags of {text}");
+    let system = vec![in alloc; p]?;
+    let grids = least(alloc, system.as_slice(), k, tags)?;
+    match grids.as_slice() {
+        [grid] => has_points(rt, alloc, grid, want, text),
+        _ => Ok(()),
+    }
+}
+
+/// So many points has the pattern.
+fn counts(
+    rt: &impl Abort,
+    alloc: Global,
+    text: &str,
+    k: u32,
+    tags: u8,
+    want: usize,
+) -> Result<(), AllocError>
+    requires { IsTrue (grid_fits k tags) }
+{
+    let p = pattern(alloc, text)?;
+    assert!(rt; has_tags(&p, tags), "tags of {text}");
+    let grid = eval(alloc, &p, &[], k, tags)?;
+    let points = grid.points(alloc)?;
+    assert!(rt; points.len() == want, "number of points of {text}");
+    Ok(())
+}
+
+#[test]
+fn grids_by_hand(rt: HostRuntime) -> Result<(), Fail> {
+    let alloc = rt.alloc();
+    evaluates(&rt, alloc, "mn*.", 2, 2, &[(1, 0), (1, 1), (1, 2)])?;
+    evaluates(&rt, alloc, "0", 2, 2, &[])?;
+    evaluates(&rt, alloc, "1", 1, 1, &[(0, 0)])?;
+    evaluates(&rt, alloc, "mm.", 1, 1, &[(1, 0)])?;
+    evaluates(&rt, alloc, "mn.*", 2, 2, &[(0, 0), (1, 1), (2, 2)])?;
+    evaluates(&rt, alloc, "mn+", 3, 2, &[(0, 1), (1, 0)])?;
+    evaluates(&rt, alloc, "mm.*", 3, 1, &[(0, 0), (2, 0), (3, 0)])?;
+    derives(&rt, alloc, "m$.1+", 2, 1, &[(0, 0), (1, 0), (2, 0)])?;
+    derives(&rt, alloc, "m$.", 2, 1, &[])?;
+    derives(&rt, alloc, "mn.$.m+", 2, 2, &[(1, 0), (2, 1), (2, 2)])?;
+    counts(&rt, alloc, "m*", 65535, 1, 65536)?;
+    counts(&rt, alloc, "mn+o+p+q+r+s+t+u+v+w+x+y+z+*", 1, 16, 16384)?;
+    counts(&rt, alloc, "mn+o+p+q+r+s+t+*", 3, 8, 65536)?;
+    Ok(())
+}
