@@ -3,6 +3,8 @@ use Rattle.std.proofs.Common.{◌≡◌, ℕ, nat_eq, if◌then◌else◌, List,
 use Rattle.pat_words.specs.Patterns.{Pat, One, Tag, Prod, Star}
 use Rattle.pat_model.specs.Values.{BaseUnit}
 use Rattle.pat_model.specs.Programs.{Sending, Receiving, is_free}
+use Rattle.pat_model.specs.WellFormed.{WellFormed}
+use Rattle.pat_typing.specs.Typings.{IsTypable}
 use Rattle.pat_model.specs.Faults.{IsSafe}
 use Rattle.pat_typing.specs.Types.{Second, Returnable, MailboxType, TypeOf, BaseTerm, MailboxTerm, mailbox_type}
 use Rattle.pat_safety_laws.proofs.Safe.{typable_safe}
@@ -59,8 +61,11 @@ one_typed : lines_type 3 1 2 one_message one_lines no_params no_results ≡ true
 unfolding one_lines
 one_typed = refl
 
+pub one_message_typable : WellFormed one_message × IsTypable one_message
+one_message_typable = (well_formed 2 one_message one_fits, typable 3 1 2 one_message one_lines no_params no_results one_typed)
+
 pub one_message_safe : IsSafe one_message
-one_message_safe = typable_safe one_message (well_formed 2 one_message one_fits) (typable 3 1 2 one_message one_lines no_params no_results one_typed)
+one_message_safe = typable_safe one_message one_message_typable.0 one_message_typable.1
 
 -- ---- the future
 
@@ -233,8 +238,11 @@ crossed_typed : lines_type 3 1 3 crossed crossed_lines crossed_params no_results
 unfolding crossed_lines crossed_params
 crossed_typed = refl
 
+pub crossed_typable : WellFormed crossed × IsTypable crossed
+crossed_typable = (well_formed 3 crossed crossed_fits, typable 3 1 3 crossed crossed_lines crossed_params no_results crossed_typed)
+
 pub crossed_safe : IsSafe crossed
-crossed_safe = typable_safe crossed (well_formed 3 crossed crossed_fits) (typable 3 1 3 crossed crossed_lines crossed_params no_results crossed_typed)
+crossed_safe = typable_safe crossed crossed_typable.0 crossed_typable.1
 
 -- ---- the turned messages
 
@@ -260,5 +268,8 @@ turned_typed : lines_type 4 2 3 turned turned_lines no_params no_results ≡ tru
 unfolding turned_lines
 turned_typed = refl
 
+pub turned_typable : WellFormed turned × IsTypable turned
+turned_typable = (well_formed 3 turned turned_fits, typable 4 2 3 turned turned_lines no_params no_results turned_typed)
+
 pub turned_safe : IsSafe turned
-turned_safe = typable_safe turned (well_formed 3 turned turned_fits) (typable 4 2 3 turned turned_lines no_params no_results turned_typed)
+turned_safe = typable_safe turned turned_typable.0 turned_typable.1

@@ -4,6 +4,7 @@
 ghost use Rattle.std.specs.Prelude.{List, [], ◌∷◌, Some, None, pos};
 ghost use Rattle.std.specs.Fmt.{signed_decimal};
 ghost use Rattle.pat_model.specs.WellFormed.{WellFormed};
+ghost use Rattle.pat_typing.specs.Typings.{IsTypable};
 ghost use Rattle.pat_model.specs.Runs.{EndDone, EndWaiting, EndFull};
 ghost use Rattle.pat_model.specs.Faults.{IsSafe};
 ghost use Rattle.pat_examples.specs.Safe.{one_message, future, future_history, pump, delegation, swap, swap_history, crossed, crossed_history, turned, turned_history, turned_start, EndsAs};
@@ -19,6 +20,13 @@ pub fn safe_programs()
     ensures swap { IsSafe swap }
     ensures crossed { IsSafe crossed }
     ensures turned { IsSafe turned }
+{}
+
+/// Some of them by what makes them safe: they are well formed and can be typed.
+pub fn typable_programs()
+    ensures one_message { WellFormed one_message × IsTypable one_message }
+    ensures crossed { WellFormed crossed × IsTypable crossed }
+    ensures turned { WellFormed turned × IsTypable turned }
 {}
 
 /// Programs with a choice, with a function that gives back a mailbox, with a mailbox variable as a value, and with a guard without
