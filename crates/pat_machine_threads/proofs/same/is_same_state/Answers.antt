@@ -13,4 +13,4 @@ pub returns-then-is_same_control-clause-other : goal.returns-then-is_same_contro
 returns-then-is_same_control-clause-other c = λ no same.
     c.are_same_frames.ensures.other no
     (same_upright frame_view c.as_slice.result.now c.as_slice-then-is_same_control.result.now c.args.first.now.frames c.args.second.now.frames c.as_slice.ensures c.as_slice-then-is_same_control.ensures
-        (ap (λ (t : Thread). t.frames) same))
+    (ap (λ (t : Thread). t.frames) same))
