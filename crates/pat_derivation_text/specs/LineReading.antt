@@ -1,5 +1,5 @@
 -- How the lines of a derivation are read.
-use Rattle.std.specs.Prelude.{ℕ, zero, suc, ◌==◌, ◌+◌, ◌-◌, Bool, true, ◌&&◌, nat_eq, nat_le, nat_lt, bytes_eq, map, if◌then◌else◌, List, [], ◌∷◌, ◌++◌, length, replicate, Option, Some, None, option_map, option_and_then, codes}
+use Rattle.std.specs.Prelude.{ℕ, zero, suc, ◌==◌, ◌+◌, ◌-◌, Bool, true, ◌&&◌, nat_eq, nat_le, nat_lt, bytes_eq, drop, map, if◌then◌else◌, List, [], ◌∷◌, ◌++◌, length, replicate, Option, Some, None, option_map, option_and_then, codes}
 use Rattle.pat_words.specs.Patterns.{Pat, is_closed}
 use Rattle.pat_model.specs.Values.{Base, BaseUnit, BaseBool, BaseInt, BaseText}
 use Rattle.pat_model.specs.Programs.{Polarity, Sending, Receiving, Interface, Program}
@@ -130,7 +130,7 @@ read_certs (b ∷ bs) = option_and_then (λ more. read_each read_cert (pieces 32
 
 -- a point of a grid of n tags: a count for each, and none of the other tags of a bag
 abbrev pub point_of : ℕ → List ℕ → Option (List ℕ)
-point_of n counts = if nat_eq (length counts) n && nat_le n 32 then Some (counts ++ replicate (32 - n) 0) else None
+point_of n counts = if nat_eq (length counts) n && nat_le n 32 then Some (counts ++ drop n (replicate 32 0)) else None
 
 abbrev pub read_point : ℕ → List ℕ → Option (List ℕ)
 read_point n bytes = option_and_then (point_of n) (read_numbers bytes)
@@ -140,17 +140,21 @@ grid_with n k points = if points_fit k n points then Some (GridForm k points) el
 
 abbrev pub grid_of : ℕ → List (List ℕ) → Option VarValue
 grid_of n [] = None
-grid_of n (x ∷ xs) = option_and_then (λ k. option_and_then (grid_with n k) (read_each (read_point n) xs)) (read_number x)
+grid_of n (x ∷ xs) =
+    if nat_le n 32 then option_and_then (λ k. option_and_then (grid_with n k) (read_each (read_point n) xs)) (read_number x) else None
 
 abbrev pub closed_value : Pat → Option VarValue
 closed_value e = if is_closed e then Some (PatternForm e) else None
+
+abbrev pub read_closed : List (List ℕ) → List ℕ → Option VarValue
+read_closed names bytes = option_and_then closed_value (read_pattern names bytes)
 
 abbrev pub read_value : List (List ℕ) → List ℕ → Option VarValue
 read_value names bytes = by (behind (64 ∷ []) bytes)
   where
     by : Option (List ℕ) → Option VarValue
     by (Some more) = grid_of (length names) (pieces 32 more)
-    by None = option_and_then closed_value (read_pattern names bytes)
+    by None = read_closed names bytes
 
 -- ---- lines
 
@@ -176,7 +180,8 @@ abbrev pub node_with : Program → TypeOf → List ℕ × List ℕ → Option Li
 node_with p t r = option_and_then (λ es. option_map (λ cs. record { of = record { result = t; needs = es }; certs = cs }) (read_certs r.1)) (read_needs p r.0)
 
 abbrev pub node_of : Program → List ℕ × List ℕ → Option Line
-node_of p r = option_and_then (λ t. option_and_then (node_with p t) (cut 125 r.1)) (option_and_then (read_type p) (before (32 ∷ []) r.0))
+node_of p r =
+    option_and_then (λ own. option_and_then (λ s. option_and_then (λ t. node_with p t s) (read_type p own)) (cut 125 r.1)) (before (32 ∷ []) r.0)
 
 -- behind `node `, with this number
 abbrev pub read_node : Program → ℕ → List ℕ → Option Line

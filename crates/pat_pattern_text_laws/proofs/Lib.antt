@@ -1,4 +1,4 @@
-mod Choices
+pub mod Choices
 mod Decimals
 mod ReadAgain
 pub mod Running

@@ -1,0 +1,10 @@
+use Rattle.std.proofs.Common.{◌≡◌, ◌≤◌, drop}
+use Rattle.pat_types.specs.Views.{needs_view}
+use Rattle.pat_validity.specs.Derivations.{ascends_from}
+use Rattle.pat_deriv_lines.proofs.types.ascends.Given as goal
+
+abbrev pub invariant-loop-variable : goal.invariant-loop-variable
+invariant-loop-variable l = record {
+  rest : ascends_from l.least (needs_view (drop l.variable-index l.needs)) ≡ ascends_from 0 (needs_view l.needs);
+  bound : l.least ≤ 4294967296;
+}
