@@ -1,3 +1,3 @@
 mod Putting
 mod Gathered
-mod Listed
+pub mod Listed

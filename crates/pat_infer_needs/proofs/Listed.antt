@@ -31,7 +31,7 @@ needs_more types k (OpExpr op a b) es = no_more (types k)
     no_more None = refl
     no_more (Some c) = refl
 
-among_args : (types : TypeEnv) (k : ℕ) (es : List Expr) (z : ℕ) → is_some (need_of (args_needs types k es) z) ≡ is_among z (mailbox_args types k es)
+pub among_args : (types : TypeEnv) (k : ℕ) (es : List Expr) (z : ℕ) → is_some (need_of (args_needs types k es) z) ≡ is_among z (mailbox_args types k es)
 among_args types k [] z = refl
 among_args types k (VarExpr x ∷ es) z = go (types k) (among_args types (suc k) es z)
   where

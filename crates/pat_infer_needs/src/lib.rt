@@ -12,4 +12,4 @@ pub use arguments::{Arguments, args_needs, payload_types, type_at};
 pub use branching::do_agree;
 pub use gathering::{column_of, gather_branches, gather_parts, names_of};
 pub use kinds::{is_receiver, is_second};
-pub use needs::{find, put, without};
+pub use needs::{find, is_named, put, without};

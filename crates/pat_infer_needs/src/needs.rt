@@ -75,7 +75,7 @@ pub fn without(needs: &mut Sequence<(u32, MailboxType)>, names: &[u32])
 }
 
 /// Whether the variable is one of the names.
-fn is_named(names: &[u32], variable: u32) -> bool
+pub fn is_named(names: &[u32], variable: u32) -> bool
     ensures { result ≡ is_among variable names.now }
 {
     for name in names {

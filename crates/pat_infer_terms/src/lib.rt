@@ -5,4 +5,4 @@ mod names;
 mod terms;
 
 pub use names::{Binder, bind, bind_all, check_names, constrain_names};
-pub use terms::{call_needs, constrain_new, tag_of, types_of_tag, value_needs};
+pub use terms::{call_needs, constrain_new, send_needs, tag_of, types_of_tag, value_needs};

@@ -1,23 +1,27 @@
 // Terms without parts: what they need, and their constraints.
-ghost use Rattle.std.specs.Prelude.{◌≡◌, ◌∷◌, [], map, option_map, IfOk, OnOk};
+ghost use Rattle.std.specs.Prelude.{◌≡◌, ◌∷◌, ◌||◌, [], map, option_map, is_some, IfOk, OnOk};
+ghost use Rattle.pat_open_types.specs.NodeTypes.{need_of};
 ghost use Rattle.pat_model.specs.Faults.{payloads_of};
 ghost use Rattle.pat_model.specs.Programs.{tag_at};
-ghost use Rattle.pat_typing.specs.Typings.{payload_sort};
+ghost use Rattle.pat_typing.specs.Typings.{payload_sort, mailbox_args};
+ghost use Rattle.pat_typing.specs.Holdings.{declared_types};
 ghost use Rattle.pat_inference.specs.Constraints.{AtNode, PolarityRule, unless};
-ghost use Rattle.pat_inference.specs.Walk.{value_needs as needs_of_value, new_found, result_agrees, result_constraints};
+ghost use Rattle.pat_inference.specs.Needs.{args_needs as args_needs_of};
+ghost use Rattle.pat_inference.specs.Walk.{value_needs as needs_of_value, new_found, result_agrees, result_constraints, send_found, has_twice};
 ghost use Rattle.pat_core.specs.Views.{expr_view, tag_view, program_view};
 ghost use Rattle.pat_types.specs.Views.{type_view, needs_view, result_view};
 ghost use Rattle.pat_infer_signatures.specs.Views.{signature_view};
 ghost use Rattle.pat_primitives.specs.Views.{polarity_view};
 ghost use Rattle.pat_patterns.specs.Views.{pattern_view};
 ghost use Rattle.pat_infer_problems.specs.Views.{placed_constraint};
+ghost use Rattle.pat_infer_problems.specs.Results.{Meets};
 ghost use Rattle.pat_infer_problems.specs.Growing.{Grows};
 ghost use Rattle.pat_infer_terms.specs.Adding.{Adds};
 ghost use Rattle.pat_infer_terms.specs.Calls.{signed_call, directed};
 
 use crate::names::same_polarity;
 use pat_core::{Expr, Program, TagDecl};
-use pat_infer_needs::{args_needs, payload_types};
+use pat_infer_needs::{Arguments, args_needs, find, payload_types, put};
 use pat_infer_problems::{InferError, Problem, Rule, add_constraint, check_node, node_span};
 use pat_infer_signatures::Signature;
 use pat_patterns::Pattern;
@@ -166,6 +170,59 @@ fn constrain_patterns(
         Polarity::Receiving => add_constraint(problem, interface, own, other, span),
         Polarity::Sending => add_constraint(problem, interface, other, own, span),
     }
+}
+
+/// What the payloads of a tag of an interface need.
+#[tactic(auto, using(crate::proofs::Payloads::needs_by, crate::proofs::Payloads::twice_by))]
+fn send_args(
+    alloc: Global,
+    program: &Program,
+    interface: u32,
+    tag: u8,
+    args: &[Expr],
+) -> Result<Arguments, AllocError>
+    ensures needs { IfOk result (λ r. needs_view r.needs ≡ args_needs_of (declared_types (tag_at (program_view program.now) interface tag)) 0 (map expr_view args.now)) }
+    ensures twice { IfOk result (λ r. r.has_twice ≡ has_twice (mailbox_args (declared_types (tag_at (program_view program.now) interface tag)) 0 (map expr_view args.now))) }
+{
+    let types = types_of_tag(alloc, tag_of(program, interface, tag))?;
+    args_needs(alloc, types.as_slice(), args)
+}
+
+/// Whether the target stands among the payloads, or one of these stands twice.
+fn stands_twice(target: u32, all: &Arguments) -> bool
+    ensures { result ≡ (is_some (need_of (needs_view all.now.needs) target) || all.now.has_twice) }
+{
+    find(all.needs.as_slice(), target).is_some() || all.has_twice
+}
+
+/// A send of a tag of an interface to a variable.
+#[tactic(auto, using(crate::proofs::Payloads::send_twice))]
+pub fn send_needs(
+    alloc: Global,
+    program: &Program,
+    node: u32,
+    interface: u32,
+    target: u32,
+    tag: u8,
+    args: &[Expr],
+) -> Result<Sequence<(u32, MailboxType)>, InferError>
+    ensures found { Meets program.now result (send_found node (declared_types (tag_at (program_view program.now) interface tag)) interface target tag (map expr_view args.now)).findings }
+    ensures needs { IfOk result (λ needs. needs_view needs ≡ (send_found node (declared_types (tag_at (program_view program.now) interface tag)) interface target tag (map expr_view args.now)).needs) }
+{
+    let mut all = send_args(alloc, program, interface, tag, args)?;
+    check_node(program, !stands_twice(target, &all), Rule::Alias, node)?;
+    let pattern = Pattern::Tag(tag);
+    put(
+        &mut all.needs,
+        target,
+        MailboxType {
+            interface,
+            polarity: Polarity::Sending,
+            pattern,
+            usage: Usage::Second,
+        },
+    )?;
+    Ok(all.needs)
 }
 
 /// A tag of an interface, if it is declared.
