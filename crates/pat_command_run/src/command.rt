@@ -1,9 +1,10 @@
 // The run of an input that is the text of a straight-line program.
 ghost use Rattle.std.specs.Prelude.{◌≡◌, ◌≢◌, ◌<◌, ℕ, true, false, List, IfOk, length};
-ghost use Rattle.pat_model.specs.WellFormed.{WellFormed};
 ghost use Rattle.pat_grammar_laws.specs.Counts.{tree_size};
 ghost use Rattle.pat_tree.specs.Views.{tree_view};
 ghost use Rattle.pat_core.specs.Views.{program_view};
+ghost use Rattle.pat_names.specs.Resolved.{IsResolved};
+ghost use Rattle.pat_resolver_answers.specs.Views.{places_view};
 ghost use Rattle.pat_reduce.specs.Views.{outcome_view};
 ghost use Rattle.pat_plain_laws.specs.Straight.{is_straight};
 ghost use Rattle.pat_plain_laws.specs.Laws.{NeverWaits};
@@ -50,7 +51,7 @@ fn run_tree(alloc: Global, tree: &Tree, end: u32) -> Result<Answer, AllocError>
 
 // The run of a straight-line program; another program isn't run yet.
 fn run_if_straight(alloc: Global, program: Program) -> Result<Answer, AllocError>
-    requires well_formed { WellFormed (program_view program) }
+    requires is_resolved { IsResolved (program_view program) (places_view program) }
     requires goes_on { is_straight (program_view program) ≡ true → NeverWaits (program_view program) }
     ensures run { is_straight (program_view program) ≡ true → IfOk result (λ a. RunShows (program_view program) a.text.items a.status) }
     ensures not_yet { is_straight (program_view program) ≡ false → IfOk result (λ a. SaysVerdict Verdict.NotYet a.text.items a.status) }
@@ -64,7 +65,7 @@ fn run_if_straight(alloc: Global, program: Program) -> Result<Answer, AllocError
 
 // The text of the program's run, and its status.
 fn run_program(alloc: Global, program: Program) -> Result<Answer, AllocError>
-    requires well_formed { WellFormed (program_view program) }
+    requires is_resolved { IsResolved (program_view program) (places_view program) }
     requires goes_on { NeverWaits (program_view program) }
     ensures { IfOk result (λ a. RunShows (program_view program) a.text.items a.status) }
 {

@@ -2,7 +2,6 @@
 ghost use Rattle.std.specs.Prelude.{◌≡◌, ◌<◌, ◌≤◌, ℕ, List, OnOk, IfOk, IfErr, length};
 ghost use Rattle.pat_model.specs.Programs.{Program as AnyProgram};
 ghost use Rattle.pat_grammar.specs.Trees.{Tree as AnyTree};
-ghost use Rattle.pat_model.specs.WellFormed.{WellFormed};
 ghost use Rattle.pat_grammar_laws.specs.Counts.{tree_size};
 ghost use Rattle.pat_tree.specs.Views.{tree_view};
 ghost use Rattle.pat_core.specs.Views.{program_view};
@@ -55,9 +54,8 @@ pub fn program_of(alloc: Global, tree: &Tree, end: u32) -> Result<Program, Front
     requires small { tree_size (tree_view tree.now) < 4294967295 }
     ensures program { (bytes : List ℕ) → IsTreeText bytes (tree_view tree.now) → end ≡ length bytes → IfOk result (λ p. IsProgramText bytes (tree_view tree.now) (program_view p)) }
     ensures places { IfOk result (λ p. places_view p ≡ places (tree_view tree.now)) }
-    // All that later calls ask of a program; that it is well formed is a part of it.
+    // All that later calls ask of a program.
     ensures is_resolved { (bytes : List ℕ) → IsTreeText bytes (tree_view tree.now) → end ≡ length bytes → IfOk result (λ p. IsResolved (program_view p) (places_view p)) }
-    ensures well_formed { (bytes : List ℕ) → IsTreeText bytes (tree_view tree.now) → end ≡ length bytes → IfOk result (λ p. WellFormed (program_view p)) }
     ensures refused { (bytes : List ℕ) → IsTreeText bytes (tree_view tree.now) → end ≡ length bytes → IfErr result (Explains bytes) }
 {
     match pat_resolver::resolve(alloc, tree, end) {

@@ -1,6 +1,7 @@
 -- What an answer allows, and what follows from it.
-use Rattle.std.proofs.Common.{◌≡◌, ◌≤◌, ℕ, List, [], ◌∷◌, length, Option, refl, sym, ap, ◌∙◌, subst, ⊎_elim, ◌⊎◌, arith}
+use Rattle.std.proofs.Common.{◌≡◌, ◌≤◌, ℕ, List, [], ◌∷◌, length, Option, refl, sym, ap, ◌∙◌, subst, ⊎_elim, arith}
 use Rattle.std.specs.Io.KnownBytes.{Appends}
+use Rattle.pat_ports.specs.Bytes.{AppendsFront}
 use Rattle.pat_input.specs.Inputs.{IsInput, limit}
 use Rattle.pat_front.specs.Lines.{line_of_verdict}
 use Rattle.pat_front.specs.declared.verdict.Verdict.{Verdict}
@@ -16,7 +17,7 @@ use Rattle.pat_command_run.specs.Allowed.{RunShows, IsRunnable, AllowedRun}
 use Rattle.pat_command_run.proofs.Statuses.{run_status}
 use Rattle.pat_session.specs.Allowed.{IsCommand, HasCommand, AllowedTo, Allowed, usage_line}
 use Rattle.pat_session.specs.Calls.{ReadsAll}
-use Rattle.pat_session.specs.Answers.{Completes, BreaksOff, Answers, IsAccepted, AcceptsSafe, ShowsRun, ShowsTree, ShowsVerdict}
+use Rattle.pat_session.specs.Answers.{Completes, BreaksOff, Begins, Answers, IsAccepted, AcceptsSafe, ShowsRun, ShowsTree, ShowsVerdict}
 
 -- ---- words
 
@@ -86,6 +87,13 @@ module _ (words : List (List ℕ)) (had left old new : Option (List ℕ)) where
 
   pub answered_usage : (result : Status) → (HasCommand words → ⊥) → Written old new usage_line Usage result → Answers words had left old new result
   answered_usage result none written = answered [] usage_line Usage result (λ command. absurd (none command)) (none, refl) written
+
+  -- of what was written, a front was handed over
+  pub begun_command : (c : Command) (bytes text : List ℕ) (s : Status) → IsInput had left bytes → AllowedTo c bytes text s → IsCommand c words → AppendsFront old new text → Begins words had left old new
+  begun_command c bytes text s input allowed command begun = record { bytes = bytes; text = text; status = s; input = λ _. input; allowed = of_command words c bytes text s command allowed; begun = begun }
+
+  pub begun_usage : (HasCommand words → ⊥) → AppendsFront old new usage_line → Begins words had left old new
+  begun_usage none begun = record { bytes = []; text = usage_line; status = Usage; input = λ command. absurd (none command); allowed = (none, refl); begun = begun }
 
   at_status : (s t : Status) → s ≡ t → Answers words had left old new s → Answers words had left old new t
   at_status s t e a = subst (λ k. Answers words had left old new k) e a

@@ -1,22 +1,20 @@
 -- What a call comes to, for each way in which it ends.
-use Rattle.std.proofs.Common.{◌≡◌, ◌+◌, ◌≤◌, ◌<◌, ℕ, List, length, Option, Some, None, refl, sym, ap, ◌∙◌, subst, inl, inr, ⊎_elim, ◌⊎◌, arith}
+use Rattle.std.proofs.Common.{◌≡◌, ◌≤◌, ℕ, List, length, Option, Some, None, refl, sym, ◌∙◌, subst, inl, ⊎_elim, arith}
 use Rattle.std.specs.Prelude.{◌≢◌}
 use Rattle.std.specs.Io.KnownBytes.{Appends, Keeps}
 use Rattle.pat_ports.specs.Causes.{Raised}
 use Rattle.pat_ports.specs.Ends.{EndsOnce, EndsThere}
 use Rattle.pat_ports.specs.declared.reach.Reach.{Reach}
-use Rattle.pat_ports.specs.declared.reach.Reach.TheVariants.{Before, Past}
 use Rattle.pat_input.specs.Inputs.{IsInput, IsRead, limit}
 use Rattle.pat_input.specs.declared.reading.Input.{Input}
 use Rattle.pat_input.specs.declared.reading.Input.TheVariants.{TooLong}
 use Rattle.pat_answers.specs.declared.status.Status.{Status}
 use Rattle.pat_answers.specs.declared.status.Status.TheVariants.{Usage, ReadFault, WriteFault, NoMemory}
 use Rattle.pat_session.specs.declared.words.Command.{Command}
-use Rattle.pat_session.specs.Ports.{SourceState, SinkState, IsCutShort, Answered, Writes}
+use Rattle.pat_session.specs.Ports.{SourceState, SinkState, IsCutShort, Writes}
 use Rattle.pat_session.specs.Allowed.{IsCommand, HasCommand, AllowedTo, usage_line}
-use Rattle.pat_session.specs.Answers.{Answers}
 use Rattle.pat_session.specs.Calls.{Call, ReadsAll}
-use Rattle.pat_session.proofs.Allows.{command_status, not_a_read_fault, reads_small, answered_command, answered_usage}
+use Rattle.pat_session.proofs.Allows.{command_status, not_a_read_fault, reads_small, answered_command, answered_usage, begun_command, begun_usage}
 
 keeps : (o : Option (List ℕ)) → Keeps o o
 keeps None = tt
@@ -35,6 +33,7 @@ module _ (words : List (List ℕ)) (had left : SourceState) where
   call_read_fault sink more once = record {
     output = keeps sink.taken;
     handed = λ _. keeps sink.handed;
+    begun = λ e. let clash : ReadFault ≡ WriteFault = e in cc;
     read = record { failed = λ _. more; unfailed = λ other. absurd (other refl) };
     write = record { failed = λ e. let clash : ReadFault ≡ WriteFault = e in cc; unfailed = λ _. refl };
     one_end = once;
@@ -46,6 +45,7 @@ module _ (words : List (List ℕ)) (had left : SourceState) where
   call_no_memory sink same once = record {
     output = keeps sink.taken;
     handed = λ _. keeps sink.handed;
+    begun = λ e. let clash : NoMemory ≡ WriteFault = e in cc;
     read = record { failed = λ e. let clash : NoMemory ≡ ReadFault = e in cc; unfailed = λ _. same };
     write = record { failed = λ e. let clash : NoMemory ≡ WriteFault = e in cc; unfailed = λ _. refl };
     one_end = once;
@@ -72,6 +72,7 @@ module _ (words : List (List ℕ)) (had left : SourceState) where
     call_command c bytes input allowed same once there command = record {
       output = answered_command words had.rest left.rest old.taken new.taken c bytes text status result input allowed wrote.written command;
       handed = λ other. answered_command words had.rest left.rest old.handed new.handed c bytes text status result input allowed (inl (same_status other, wrote.handed other)) command;
+      begun = λ e. begun_command words had.rest left.rest old.handed new.handed c bytes text status input allowed command (wrote.begun e);
       read = record { failed = λ e. absurd (not_read (not_a_read_fault c bytes text status allowed) e); unfailed = λ _. same };
       write = wrote.faults;
       one_end = once;
@@ -83,6 +84,7 @@ pub call_usage : (words : List (List ℕ)) (source : SourceState) (old new : Sin
 call_usage words source old new result none wrote = record {
   output = answered_usage words source.rest source.rest old.taken new.taken result none wrote.written;
   handed = λ other. answered_usage words source.rest source.rest old.handed new.handed result none (inl (same_status words source source old new usage_line Usage result wrote other, wrote.handed other));
+  begun = λ e. begun_usage words source.rest source.rest old.handed new.handed none (wrote.begun e);
   read = record { failed = λ e. absurd (not_read words source source old new usage_line Usage result wrote (λ u. let clash : Usage ≡ ReadFault = u in cc) e); unfailed = λ _. refl };
   write = wrote.faults;
   one_end = none_read source.reach;

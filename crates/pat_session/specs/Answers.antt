@@ -6,6 +6,7 @@ use Rattle.pat_model.specs.Programs.{Program}
 use Rattle.pat_model.specs.Faults.{IsSafe}
 use Rattle.pat_grammar.specs.Trees.{Tree}
 use Rattle.pat_canonical.specs.Text.{canonical_text}
+use Rattle.pat_ports.specs.Bytes.{AppendsFront}
 use Rattle.pat_input.specs.Inputs.{IsInput}
 use Rattle.pat_front.specs.Lines.{line_of_verdict}
 use Rattle.pat_front.specs.Texts.{IsProgramText}
@@ -33,6 +34,15 @@ pub record BreaksOff (words : List (List ℕ)) (had left old new : Option (List 
   pub input : HasCommand words → IsInput had left bytes
   pub allowed : Allowed words bytes text status
   pub cut : IsCutShort old new text
+
+-- the sink handed over a front of a text that the words and the input allow, which may be all of it
+pub record Begins (words : List (List ℕ)) (had left old new : Option (List ℕ)) : Type 0 where
+  pub bytes : List ℕ
+  pub text : List ℕ
+  pub status : Status
+  pub input : HasCommand words → IsInput had left bytes
+  pub allowed : Allowed words bytes text status
+  pub begun : AppendsFront old new text
 
 -- what stands for each answer
 abbrev pub Answers : List (List ℕ) → Option (List ℕ) → Option (List ℕ) → Option (List ℕ) → Option (List ℕ) → Status → Type 0

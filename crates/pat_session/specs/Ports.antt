@@ -47,4 +47,5 @@ pub record Answered (fault status : Status) (before now : ℕ) : Type 0 where
 pub record Writes (old new : SinkState) (text : List ℕ) (status result : Status) : Type 0 where
   pub written : Written old.taken new.taken text status result
   pub handed : result ≢ WriteFault → Appends old.handed new.handed text
+  pub begun : result ≡ WriteFault → AppendsFront old.handed new.handed text
   pub faults : Answered WriteFault result old.faults new.faults

@@ -4,7 +4,7 @@ ghost use Rattle.pat_ports.specs.Causes.{Raised};
 ghost use Rattle.pat_ports.specs.Ends.{EndsOnce, EndsThere};
 ghost use Rattle.pat_front.specs.declared.verdict.Verdict.{Verdict};
 ghost use Rattle.pat_session.specs.Allowed.{IsCommand, HasCommand};
-ghost use Rattle.pat_session.specs.Answers.{Answers, IsAccepted, AcceptsSafe, ShowsRun, ShowsTree, ShowsVerdict};
+ghost use Rattle.pat_session.specs.Answers.{Answers, Begins, IsAccepted, AcceptsSafe, ShowsRun, ShowsTree, ShowsVerdict};
 ghost use Rattle.pat_session.specs.Ports.{source_state, sink_state};
 ghost use Rattle.pat_session.specs.Calls.{Call, ReadsAll};
 
@@ -41,9 +41,11 @@ pub fn pat<S: Source, K: Sink, G: Gate>(
     ensures one_end { EndsOnce (S.reach source.old) (S.reach source.new) }
     ensures end { ReadsAll result → EndsThere (S.reach source.old) (S.reach source.new) }
 
-    // What was read and what was written, for each answer; the same of what the sink handed over.
+    // What was read and what was written, for each answer; the same of what the sink handed over, but that after a write
+    // fault this may be all of the text.
     ensures output { Answers (map string_bytes words.now) (S.rest source.old) (S.rest source.new) (K.taken sink.old) (K.taken sink.new) result }
     ensures handed { result ≢ Status.WriteFault → Answers (map string_bytes words.now) (S.rest source.old) (S.rest source.new) (K.handed sink.old) (K.handed sink.new) result }
+    ensures begun { result ≡ Status.WriteFault → Begins (map string_bytes words.now) (S.rest source.old) (S.rest source.new) (K.handed sink.old) (K.handed sink.new) }
 
     // What that says of the program that was read, of its run, and of its canonical text.
     ensures accepted_is_safe { IsCommand Command.Run (map string_bytes words.now) → IsAccepted result → AcceptsSafe (S.rest source.old) (S.rest source.new) }

@@ -10,9 +10,6 @@ returns-in-Ok-clause-is_resolved c = λ bytes text end.
     let p = program_view c.in-Ok.program in
     is_resolved bytes t p (places_view c.in-Ok.program) (program_text bytes t p c.args.end text end c.in-Ok.ensures.found c.in-Ok.ensures.program) c.in-Ok.ensures.places
 
-pub returns-in-Ok-clause-well_formed : goal.returns-in-Ok-clause-well_formed
-returns-in-Ok-clause-well_formed c = λ bytes text end. (returns-in-Ok-clause-is_resolved c bytes text end).well_formed
-
 pub returns-in-Err-clause-refused : goal.returns-in-Err-clause-refused
 returns-in-Err-clause-refused c = λ bytes text end.
     c.of_resolver.ensures bytes (tree_view c.args.tree.now) c.args.end text end c.in-Err.ensures.refused

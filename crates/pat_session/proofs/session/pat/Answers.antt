@@ -8,6 +8,9 @@ returns-clause-read_fault g c = λ e. c.respond.ensures.call.read.failed e
 pub returns-clause-write_fault : goal.returns-clause-write_fault
 returns-clause-write_fault g c = λ e. c.respond.ensures.call.write.failed e
 
+pub returns-clause-begun : goal.returns-clause-begun
+returns-clause-begun g c = λ e. c.respond.ensures.call.begun e
+
 pub returns-clause-usage : goal.returns-clause-usage
 returns-clause-usage g c = usage_only (map string_bytes c.args.words.now) (g.S.Source.rest c.args.source.now) (g.S.Source.rest c.respond.new.source) (g.K.Sink.taken c.args.sink.now) (g.K.Sink.taken c.respond.new.sink) c.respond.result c.respond.ensures.call.output
 

@@ -1,5 +1,4 @@
 use Rattle.std.proofs.Common.{map, string_bytes}
-use Rattle.pat_session.specs.Ports.{source_state, sink_state}
 use Rattle.pat_session.proofs.Calls.{call_usage}
 use Rattle.pat_session.proofs.session.respond.Goals as goal
 
