@@ -4,11 +4,11 @@ mod CutSetLaws
 mod FlatLaws
 pub mod TableLaws
 pub mod SearchLaws
-mod GridLaws
+pub mod GridLaws
 pub mod LayoutLaws
 pub mod NumberLaws
 mod AnswerLaws
-mod ClosedLaws
+pub mod ClosedLaws
 mod ByTable
 mod Order
 mod Ends

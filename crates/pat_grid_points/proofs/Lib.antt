@@ -1,3 +1,3 @@
 pub mod Digits
-mod Sets
+pub mod Sets
 pub mod Members
