@@ -1,6 +1,6 @@
 pub mod TreeLaws
 mod AssignmentLaws
-mod CutSetLaws
+pub mod CutSetLaws
 mod FlatLaws
 pub mod TableLaws
 pub mod SearchLaws

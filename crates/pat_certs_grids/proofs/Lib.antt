@@ -1,3 +1,4 @@
 mod Marking
 mod Points
 mod Meaning
+mod Including

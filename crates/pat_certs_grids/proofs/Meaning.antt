@@ -53,7 +53,7 @@ fit_at n (suc i) (v ∷ values) item h l e = fit_at n i values item h.1 (omega a
 
 -- ---- a grid of a value
 
-pattern_below : (n : ℕ) (v : VarValue) (w : Word) → value_fits n v ≡ true → In (value_pattern n v) w → HasTagsBelow n w
+pub pattern_below : (n : ℕ) (v : VarValue) (w : Word) → value_fits n v ≡ true → In (value_pattern n v) w → HasTagsBelow n w
 pattern_below n (PatternForm e) w h m =
     let p = and_parts (nat_lt 0 n) (is_closed e && tags_below n e) h in
     under_below n no_values (λ j x z. absurd z) e (and_parts (is_closed e) (tags_below n e) p.1).1 w m

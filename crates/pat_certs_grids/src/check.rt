@@ -1,7 +1,7 @@
 // The check of a certificate by a grid.
 ghost use Rattle.std.specs.Prelude.{◌≡◌, ◌↔◌, ℕ, Some, slice_get, IsTrue, IfOk};
 ghost use Rattle.pat_words.specs.Words.{Word};
-ghost use Rattle.pat_words.specs.Patterns.{In, subst_of};
+ghost use Rattle.pat_words.specs.Patterns.{In, Included, subst_of};
 ghost use Rattle.pat_words.specs.Tags.{tags_below};
 ghost use Rattle.pat_words.specs.Cuts.{CutOf};
 ghost use Rattle.pat_patterns.specs.Views.{pattern_view};
@@ -20,8 +20,28 @@ use pat_patterns::Pattern;
 use std::alloc::{AllocError, Global};
 
 /// Whether the bound is large enough for the right side as it stands, and each word of the left, cut at `k`, is a word of the
-/// right, cut. The patterns are of `tags` tags, and so are the values of the variables, which are numbered from 0.
+/// right, cut. The patterns are of `tags` tags, and so are the values of the variables, which are numbered from 0. Where it
+/// says yes, each word of the left is one of the right.
 pub fn check_grid(
+    alloc: Global,
+    left: &Pattern,
+    right: &Right,
+    vars: &[VarValue],
+    k: u32,
+    tags: u8,
+) -> Result<bool, AllocError>
+    requires fits { IsTrue (grid_fits k tags) }
+    requires left { IsTrue (tags_below tags (pattern_view left.now)) }
+    requires right { IsTrue (right_tags tags (right_view right.now)) }
+    requires values { ValuesFit tags (values_view vars.now) }
+    ensures shown { let vs = values_view vars.now in IfOk result (λ yes. IsTrue yes ↔ (IsTrue (is_large k vs (right_view right.now)) × CutsLie k tags (subst_of (patterns_of tags vs) (pattern_view left.now)) (right_of tags vs (right_view right.now)))) }
+    ensures included { let vs = values_view vars.now in IfOk result (λ yes. IsTrue yes → Included (subst_of (patterns_of tags vs) (pattern_view left.now)) (right_of tags vs (right_view right.now))) }
+{
+    cuts_show(alloc, left, right, vars, k, tags)
+}
+
+/// So by the grids of both sides.
+fn cuts_show(
     alloc: Global,
     left: &Pattern,
     right: &Right,
