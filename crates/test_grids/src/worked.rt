@@ -4,6 +4,7 @@ ghost use Rattle.std.specs.Prelude.{IsTrue};
 ghost use Rattle.pat_inclusions.specs.Points.{grid_fits};
 
 use pat_bags::Bag;
+use pat_certs_grids::{Right, check_grid};
 use pat_grid::{Grid, eval, least};
 use pat_grid_symbols::has_tags;
 use pat_patterns::Pattern;
@@ -120,6 +121,29 @@ fn counts(
     Ok(())
 }
 
+/// Whether the bound shows that the one pattern lies in the other.
+fn shows(
+    rt: &impl Abort,
+    alloc: Global,
+    left: &str,
+    right: &str,
+    k: u32,
+    tags: u8,
+    want: bool,
+) -> Result<(), AllocError>
+    requires { IsTrue (grid_fits k tags) }
+{
+    let e = pattern(alloc, left)?;
+    let f = pattern(alloc, right)?;
+    assert!(rt;
+        has_tags(&e, tags) && has_tags(&f, tags),
+        "tags of {left} and {right}"
+    );
+    let yes = check_grid(alloc, &e, &Right::Pattern(f), &[], k, tags)?;
+    assert!(rt; yes == want, "{left} in {right}");
+    Ok(())
+}
+
 #[test]
 fn grids_by_hand(rt: HostRuntime) -> Result<(), Fail> {
     let alloc = rt.alloc();
@@ -133,6 +157,14 @@ fn grids_by_hand(rt: HostRuntime) -> Result<(), Fail> {
     derives(&rt, alloc, "m$.1+", 2, 1, &[(0, 0), (1, 0), (2, 0)])?;
     derives(&rt, alloc, "m$.", 2, 1, &[])?;
     derives(&rt, alloc, "mn.$.m+", 2, 2, &[(1, 0), (2, 1), (2, 2)])?;
+    shows(&rt, alloc, "mm.", "m*", 1, 1, true)?;
+    shows(&rt, alloc, "mm.", "m", 2, 1, false)?;
+    shows(&rt, alloc, "m*", "1mm*.+", 2, 1, true)?;
+    shows(&rt, alloc, "m*", "1mm*.+", 1, 1, false)?;
+    shows(&rt, alloc, "mm.*", "mm.*", 3, 1, false)?;
+    shows(&rt, alloc, "mn.*", "mn+*", 1, 2, true)?;
+    shows(&rt, alloc, "mn+*", "m*n.1+", 2, 2, false)?;
+    shows(&rt, alloc, "0", "0", 1, 1, true)?;
     counts(&rt, alloc, "m*", 65535, 1, 65536)?;
     counts(&rt, alloc, "mn+o+p+q+r+s+t+u+v+w+x+y+z+*", 1, 16, 16384)?;
     counts(&rt, alloc, "mn+o+p+q+r+s+t+*", 3, 8, 65536)?;
