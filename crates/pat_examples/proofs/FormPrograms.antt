@@ -2,13 +2,12 @@
 use Rattle.std.proofs.Common.{◌≡◌, ℕ, List, [], ◌∷◌, refl, true}
 use Rattle.pat_words.specs.Patterns.{Pat, Zero, One, Tag}
 use Rattle.pat_model.specs.Programs.{Receiving, is_free}
-use Rattle.pat_model.specs.Faults.{IsSafe}
 use Rattle.pat_typing.specs.Types.{MailboxType, TypeOf, MailboxTerm}
-use Rattle.pat_safety_laws.proofs.Safe.{typable_safe}
+use Rattle.pat_examples.specs.Witnesses.{IsWitness}
 use Rattle.pat_examples.specs.Forms.{branches, given, renamed, impossible}
 use Rattle.pat_examples.proofs.FitTests.{program_fits, well_formed}
 use Rattle.pat_examples.proofs.TypeTests.{lines_type, typable}
-use Rattle.pat_examples.proofs.SafePrograms.{line, fresh, may_return, may_send, no_params, no_results}
+use Rattle.pat_examples.proofs.SafePrograms.{witness, line, fresh, may_return, may_send, no_params, no_results}
 
 -- a line of a node that gives a mailbox of interface i from which E may be received
 abbrev gives : ℕ → Pat → List (ℕ × MailboxType) → TypeOf × List (ℕ × MailboxType)
@@ -38,8 +37,8 @@ branches_typed : lines_type 3 1 2 branches branches_lines no_params no_results �
 unfolding branches_lines
 branches_typed = refl
 
-pub branches_safe : IsSafe branches
-branches_safe = typable_safe branches (well_formed 2 branches branches_fits) (typable 3 1 2 branches branches_lines no_params no_results branches_typed)
+pub branches_safe : IsWitness branches
+branches_safe = witness branches (well_formed 2 branches branches_fits) (typable 3 1 2 branches branches_lines no_params no_results branches_typed)
 
 -- ---- the mailbox that is given back
 
@@ -68,8 +67,8 @@ given_typed : lines_type 3 1 2 given given_lines no_params given_results ≡ tru
 unfolding given_lines given_results
 given_typed = refl
 
-pub given_safe : IsSafe given
-given_safe = typable_safe given (well_formed 2 given given_fits) (typable 3 1 2 given given_lines no_params given_results given_typed)
+pub given_safe : IsWitness given
+given_safe = witness given (well_formed 2 given given_fits) (typable 3 1 2 given given_lines no_params given_results given_typed)
 
 -- ---- the mailbox under another name
 
@@ -91,8 +90,8 @@ renamed_typed : lines_type 3 1 2 renamed renamed_lines no_params no_results ≡ 
 unfolding renamed_lines
 renamed_typed = refl
 
-pub renamed_safe : IsSafe renamed
-renamed_safe = typable_safe renamed (well_formed 2 renamed renamed_fits) (typable 3 1 2 renamed renamed_lines no_params no_results renamed_typed)
+pub renamed_safe : IsWitness renamed
+renamed_safe = witness renamed (well_formed 2 renamed renamed_fits) (typable 3 1 2 renamed renamed_lines no_params no_results renamed_typed)
 
 -- ---- the guard without clauses
 
@@ -116,5 +115,5 @@ impossible_typed : lines_type 3 2 3 impossible impossible_lines no_params no_res
 unfolding impossible_lines
 impossible_typed = refl
 
-pub impossible_safe : IsSafe impossible
-impossible_safe = typable_safe impossible (well_formed 3 impossible impossible_fits) (typable 3 2 3 impossible impossible_lines no_params no_results impossible_typed)
+pub impossible_safe : IsWitness impossible
+impossible_safe = witness impossible (well_formed 3 impossible impossible_fits) (typable 3 2 3 impossible impossible_lines no_params no_results impossible_typed)

@@ -2,15 +2,18 @@
 use Rattle.std.proofs.Common.{◌≡◌, ℕ, nat_eq, if◌then◌else◌, List, [], ◌∷◌, refl, true}
 use Rattle.pat_words.specs.Patterns.{Pat, One, Tag, Prod, Star}
 use Rattle.pat_model.specs.Values.{BaseUnit}
-use Rattle.pat_model.specs.Programs.{Sending, Receiving, is_free}
+use Rattle.pat_model.specs.Programs.{Program, Sending, Receiving, is_free}
 use Rattle.pat_model.specs.WellFormed.{WellFormed}
 use Rattle.pat_typing.specs.Typings.{IsTypable}
-use Rattle.pat_model.specs.Faults.{IsSafe}
 use Rattle.pat_typing.specs.Types.{Second, Returnable, MailboxType, TypeOf, BaseTerm, MailboxTerm, mailbox_type}
 use Rattle.pat_safety_laws.proofs.Safe.{typable_safe}
+use Rattle.pat_examples.specs.Witnesses.{IsWitness}
 use Rattle.pat_examples.specs.Safe.{one_message, future, pump, delegation, swap, crossed, turned}
 use Rattle.pat_examples.proofs.FitTests.{program_fits, well_formed}
 use Rattle.pat_examples.proofs.TypeTests.{lines_type, typable}
+
+pub witness : (p : Program) → WellFormed p → IsTypable p → IsWitness p
+witness p formed typed = record { formed = formed; typable = typed; safe = typable_safe p formed typed }
 
 -- a line of a typing, of a node of type unit
 abbrev pub line : List (ℕ × MailboxType) → TypeOf × List (ℕ × MailboxType)
@@ -64,8 +67,8 @@ one_typed = refl
 pub one_message_typable : WellFormed one_message × IsTypable one_message
 one_message_typable = (well_formed 2 one_message one_fits, typable 3 1 2 one_message one_lines no_params no_results one_typed)
 
-pub one_message_safe : IsSafe one_message
-one_message_safe = typable_safe one_message one_message_typable.0 one_message_typable.1
+pub one_message_safe : IsWitness one_message
+one_message_safe = witness one_message one_message_typable.0 one_message_typable.1
 
 -- ---- the future
 
@@ -109,8 +112,8 @@ future_typed : lines_type 4 2 4 future future_lines future_params no_results ≡
 unfolding future_lines future_params
 future_typed = refl
 
-pub future_safe : IsSafe future
-future_safe = typable_safe future (well_formed 4 future future_fits) (typable 4 2 4 future future_lines future_params no_results future_typed)
+pub future_safe : IsWitness future
+future_safe = witness future (well_formed 4 future future_fits) (typable 4 2 4 future future_lines future_params no_results future_typed)
 
 -- ---- the pump
 
@@ -141,8 +144,8 @@ pump_typed : lines_type 4 1 2 pump pump_lines pump_params no_results ≡ true
 unfolding pump_lines pump_params
 pump_typed = refl
 
-pub pump_safe : IsSafe pump
-pump_safe = typable_safe pump (well_formed 2 pump pump_fits) (typable 4 1 2 pump pump_lines pump_params no_results pump_typed)
+pub pump_safe : IsWitness pump
+pump_safe = witness pump (well_formed 2 pump pump_fits) (typable 4 1 2 pump pump_lines pump_params no_results pump_typed)
 
 -- ---- delegation
 
@@ -180,8 +183,8 @@ delegation_typed : lines_type 4 1 3 delegation delegation_lines delegation_param
 unfolding delegation_lines delegation_params
 delegation_typed = refl
 
-pub delegation_safe : IsSafe delegation
-delegation_safe = typable_safe delegation (well_formed 3 delegation delegation_fits) (typable 4 1 3 delegation delegation_lines delegation_params no_results delegation_typed)
+pub delegation_safe : IsWitness delegation
+delegation_safe = witness delegation (well_formed 3 delegation delegation_fits) (typable 4 1 3 delegation delegation_lines delegation_params no_results delegation_typed)
 
 -- ---- the swap
 
@@ -204,8 +207,8 @@ swap_typed : lines_type 3 1 2 swap swap_lines no_params no_results ≡ true
 unfolding swap_lines
 swap_typed = refl
 
-pub swap_safe : IsSafe swap
-swap_safe = typable_safe swap (well_formed 2 swap swap_fits) (typable 3 1 2 swap swap_lines no_params no_results swap_typed)
+pub swap_safe : IsWitness swap
+swap_safe = witness swap (well_formed 2 swap swap_fits) (typable 3 1 2 swap swap_lines no_params no_results swap_typed)
 
 -- ---- the crossed waits
 
@@ -241,8 +244,8 @@ crossed_typed = refl
 pub crossed_typable : WellFormed crossed × IsTypable crossed
 crossed_typable = (well_formed 3 crossed crossed_fits, typable 3 1 3 crossed crossed_lines crossed_params no_results crossed_typed)
 
-pub crossed_safe : IsSafe crossed
-crossed_safe = typable_safe crossed crossed_typable.0 crossed_typable.1
+pub crossed_safe : IsWitness crossed
+crossed_safe = witness crossed crossed_typable.0 crossed_typable.1
 
 -- ---- the turned messages
 
@@ -271,5 +274,5 @@ turned_typed = refl
 pub turned_typable : WellFormed turned × IsTypable turned
 turned_typable = (well_formed 3 turned turned_fits, typable 4 2 3 turned turned_lines no_params no_results turned_typed)
 
-pub turned_safe : IsSafe turned
-turned_safe = typable_safe turned turned_typable.0 turned_typable.1
+pub turned_safe : IsWitness turned
+turned_safe = witness turned turned_typable.0 turned_typable.1

@@ -6,20 +6,20 @@ ghost use Rattle.std.specs.Fmt.{signed_decimal};
 ghost use Rattle.pat_model.specs.WellFormed.{WellFormed};
 ghost use Rattle.pat_typing.specs.Typings.{IsTypable};
 ghost use Rattle.pat_model.specs.Runs.{EndDone, EndWaiting, EndFull};
-ghost use Rattle.pat_model.specs.Faults.{IsSafe};
+ghost use Rattle.pat_examples.specs.Witnesses.{IsWitness};
 ghost use Rattle.pat_examples.specs.Safe.{one_message, future, future_history, pump, delegation, swap, swap_history, crossed, crossed_history, turned, turned_history, turned_start, EndsAs};
 ghost use Rattle.pat_examples.specs.Forms.{branches, given, renamed, impossible};
 ghost use Rattle.pat_examples.specs.Unsafe.{leak, alias, beside, waiting, ReachesFault, ReachesFailingGuard, OnlyAlias, OnlyBeside};
 
-/// Programs with messages, spawning, calls, recursion, payloads and delegation are safe.
+/// Programs with messages, spawning, calls, recursion, payloads and delegation are well formed, can be typed, and are safe.
 pub fn safe_programs()
-    ensures one_message { IsSafe one_message }
-    ensures future { IsSafe future }
-    ensures pump { IsSafe pump }
-    ensures delegation { IsSafe delegation }
-    ensures swap { IsSafe swap }
-    ensures crossed { IsSafe crossed }
-    ensures turned { IsSafe turned }
+    ensures one_message { IsWitness one_message }
+    ensures future { IsWitness future }
+    ensures pump { IsWitness pump }
+    ensures delegation { IsWitness delegation }
+    ensures swap { IsWitness swap }
+    ensures crossed { IsWitness crossed }
+    ensures turned { IsWitness turned }
 {}
 
 /// Some of them by what makes them safe: they are well formed and can be typed.
@@ -30,12 +30,12 @@ pub fn typable_programs()
 {}
 
 /// Programs with a choice, with a function that gives back a mailbox, with a mailbox variable as a value, and with a guard without
-/// clauses are safe.
+/// clauses are so too.
 pub fn safe_forms()
-    ensures branches { IsSafe branches }
-    ensures given { IsSafe given }
-    ensures renamed { IsSafe renamed }
-    ensures impossible { IsSafe impossible }
+    ensures branches { IsWitness branches }
+    ensures given { IsWitness given }
+    ensures renamed { IsWitness renamed }
+    ensures impossible { IsWitness impossible }
 {}
 
 /// Histories of four of those programs, to the end: what they print, which mailboxes are left, and which threads wait; and one that a limit on
