@@ -1,0 +1,36 @@
+-- What a guard adds to what its branches found.
+use Rattle.std.specs.Prelude.{◌≡◌, ℕ, List, [], map, None, Result, Ok, Err}
+use Rattle.pat_model.specs.Programs.{Program}
+use Rattle.pat_inference.specs.Constraints.{Found}
+use Rattle.pat_inference.specs.Branches.{Arm}
+use Rattle.pat_inference.specs.Walk.{Arms, guard_found}
+use Rattle.pat_core.specs.declared.program.Program.{Program as CodeProgram}
+use Rattle.pat_core.specs.Views.{clause_view}
+use Rattle.pat_patterns.specs.Views.{pattern_view}
+use Rattle.pat_types.specs.Views.{needs_view}
+use Rattle.pat_types.specs.declared.types.MailboxType.{MailboxType}
+use Rattle.pat_infer_problems.specs.Views.{placed_variable, placed_constraint}
+use Rattle.pat_infer_problems.specs.Results.{first_of, Refuses}
+use Rattle.pat_infer_problems.specs.Growing.{Grows}
+use Rattle.pat_infer_problems.specs.declared.problem.Problem.{Problem}
+use Rattle.pat_infer_problems.specs.declared.error.InferError.{InferError}
+use Rattle.pat_infer_branches.specs.declared.guards.Guarded.{Guarded}
+
+-- branches of which only the needs are looked at
+abbrev pub bare : List Arm → Arms
+bare arms = record { arms = arms; vars = []; constraints = []; nodes = []; findings = [] }
+
+-- the guard's own, where new variables are numbered from k
+abbrev pub own_guard : Program → Guarded → ℕ → List Arm → Found
+own_guard p g k arms = guard_found p g.function g.node k g.variable (pattern_view g.pattern.now) g.interface g.has_free (map clause_view g.clauses.now) (bare arms)
+
+-- no rule is broken, and what is needed and added is found
+pub record IsJoined (p : CodeProgram) (old new : Problem) (needs : List (ℕ × MailboxType)) (r : Found) : Type 0 where
+  pub needed : needs_view needs ≡ r.needs
+  pub grows : Grows old new (map (placed_variable p) r.vars) (map (placed_constraint p) r.constraints) []
+  pub clean : first_of r.findings ≡ None
+
+-- the same, or the first broken rule
+abbrev pub Joins : CodeProgram → Problem → Problem → Result (List (ℕ × MailboxType)) InferError → Found → Type 0
+Joins p old new (Ok needs) r = IsJoined p old new needs r
+Joins p old new (Err e) r = Refuses p e r.findings
