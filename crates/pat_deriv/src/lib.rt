@@ -4,6 +4,8 @@
 mod certificates;
 mod lines;
 mod pieces;
+mod reading;
 mod types;
 
 pub use lines::write;
+pub use reading::{TextError, read};

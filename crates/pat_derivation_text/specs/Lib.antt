@@ -1,3 +1,4 @@
 pub mod Joined
 pub mod DerivationText
 pub mod LineReading
+pub mod Reading

@@ -49,20 +49,22 @@ read_base bytes =
     else if bytes_eq bytes (codes "String") then Some BaseText
     else None
 
+-- a base type, or else a mailbox type
+abbrev pub type_by : Program → List ℕ → Option Base → Option TypeOf
+type_by p bytes (Some b) = Some (BaseTerm b)
+type_by p bytes None = option_map (λ r. MailboxTerm r.0 r.1 r.2) (read_mailbox p bytes)
+
 abbrev pub read_type : Program → List ℕ → Option TypeOf
-read_type p bytes = by (read_base bytes)
-  where
-    by : Option Base → Option TypeOf
-    by (Some b) = Some (BaseTerm b)
-    by None = option_map (λ r. MailboxTerm r.0 r.1 r.2) (read_mailbox p bytes)
+read_type p bytes = type_by p bytes (read_base bytes)
 
 -- a usage at the end, and what stands before it
+-- what stands before ` sec`, or else before ` ret`
+abbrev pub usage_by : List ℕ → Option (List ℕ) → Option (List ℕ × Usage)
+usage_by bytes (Some front) = Some (front, Second)
+usage_by bytes None = option_map (λ front. (front, Returnable)) (before (codes " ret") bytes)
+
 abbrev pub cut_usage : List ℕ → Option (List ℕ × Usage)
-cut_usage bytes = by (before (codes " sec") bytes)
-  where
-    by : Option (List ℕ) → Option (List ℕ × Usage)
-    by (Some front) = Some (front, Second)
-    by None = option_map (λ front. (front, Returnable)) (before (codes " ret") bytes)
+cut_usage bytes = usage_by bytes (before (codes " sec") bytes)
 
 abbrev pub used_mailbox : Program → List ℕ × Usage → Option MailboxType
 used_mailbox p r = option_map (λ m. mailbox_type m.0 m.1 m.2 r.1) (read_mailbox p r.0)
@@ -115,12 +117,13 @@ read_entry bytes = option_and_then entry_of (cut 58 bytes)
 abbrev pub read_cover : List ℕ → Option Cert
 read_cover bytes = option_and_then (λ inner. option_map CoverCert (read_joined 124 read_entry inner)) (before (41 ∷ []) bytes)
 
+-- a cover, or else a bound
+abbrev pub cert_by : List ℕ → Option (List ℕ) → Option Cert
+cert_by bytes (Some more) = read_cover more
+cert_by bytes None = option_and_then (λ more. option_map GridCert (read_number more)) (behind (codes "g") bytes)
+
 abbrev pub read_cert : List ℕ → Option Cert
-read_cert bytes = by (behind (codes "c(") bytes)
-  where
-    by : Option (List ℕ) → Option Cert
-    by (Some more) = read_cover more
-    by None = option_and_then (λ more. option_map GridCert (read_number more)) (behind (codes "g") bytes)
+read_cert bytes = cert_by bytes (behind (codes "c(") bytes)
 
 abbrev pub read_certs : List ℕ → Option (List Cert)
 read_certs [] = Some []
@@ -149,12 +152,13 @@ closed_value e = if is_closed e then Some (PatternForm e) else None
 abbrev pub read_closed : List (List ℕ) → List ℕ → Option VarValue
 read_closed names bytes = option_and_then closed_value (read_pattern names bytes)
 
+-- a grid, or else a pattern
+abbrev pub value_by : List (List ℕ) → List ℕ → Option (List ℕ) → Option VarValue
+value_by names bytes (Some more) = grid_of (length names) (pieces 32 more)
+value_by names bytes None = read_closed names bytes
+
 abbrev pub read_value : List (List ℕ) → List ℕ → Option VarValue
-read_value names bytes = by (behind (64 ∷ []) bytes)
-  where
-    by : Option (List ℕ) → Option VarValue
-    by (Some more) = grid_of (length names) (pieces 32 more)
-    by None = read_closed names bytes
+read_value names bytes = value_by names bytes (behind (64 ∷ []) bytes)
 
 -- ---- lines
 
@@ -189,19 +193,21 @@ read_node p n bytes = option_and_then (λ more. option_and_then (node_of p) (cut
 
 -- ---- the derivation so far, with a line more
 
+-- a variable, as long as there is no node
+abbrev pub var_by : Program → Derivation → List ℕ → List Line → Option Derivation
+var_by p d bytes [] = option_map (λ v. record { vars = d.vars ++ v ∷ []; lines = [] }) (read_var p (suc (length d.vars)) bytes)
+var_by p d bytes (l ∷ ls) = None
+
 abbrev pub with_var : Program → Derivation → List ℕ → Option Derivation
-with_var p d bytes = by d.lines
-  where
-    by : List Line → Option Derivation
-    by [] = option_map (λ v. record { vars = d.vars ++ v ∷ []; lines = [] }) (read_var p (suc (length d.vars)) bytes)
-    by (l ∷ ls) = None
+with_var p d bytes = var_by p d bytes d.lines
 
 abbrev pub with_node : Program → Derivation → List ℕ → Option Derivation
 with_node p d bytes = option_map (λ l. record { vars = d.vars; lines = d.lines ++ l ∷ [] }) (read_node p (length d.lines) bytes)
 
+-- a variable, or else a node
+abbrev pub line_by : Program → Derivation → List ℕ → Option (List ℕ) → Option Derivation
+line_by p d bytes (Some more) = with_var p d more
+line_by p d bytes None = option_and_then (with_node p d) (behind (codes "node ") bytes)
+
 abbrev pub with_line : Program → Derivation → List ℕ → Option Derivation
-with_line p d bytes = by (behind (codes "var ") bytes)
-  where
-    by : Option (List ℕ) → Option Derivation
-    by (Some more) = with_var p d more
-    by None = option_and_then (with_node p d) (behind (codes "node ") bytes)
+with_line p d bytes = line_by p d bytes (behind (codes "var ") bytes)

@@ -1,5 +1,5 @@
 pub mod Choices
-mod Decimals
+pub mod Decimals
 mod ReadAgain
 pub mod Running
-mod Spelled
+pub mod Spelled
