@@ -1,0 +1,221 @@
+// Demands along lists of names.
+ghost use Rattle.std.specs.Prelude.{◌≡◌, ◌++◌, option_map, IfOk, OnOk};
+ghost use Rattle.std.specs.Map.{keys_of};
+ghost use Rattle.pat_typing.specs.Typings.{without_name};
+ghost use Rattle.pat_open_types.specs.NodeTypes.{need_of};
+ghost use Rattle.pat_types.specs.Views.{type_view, result_view, needs_view};
+ghost use Rattle.pat_validity.specs.Conditions.{but_not_name, result_passes};
+ghost use Rattle.pat_validity.specs.Derivations.{line_at};
+ghost use Rattle.pat_environments.specs.Lists.{with_others};
+ghost use Rattle.pat_derivations.specs.Views.{derivation_view};
+ghost use Rattle.pat_demands.specs.Views.{demands_view};
+ghost use Rattle.pat_demands.specs.Listed.{passes_in, divides_in, theres_in, passes_to, listed_part, asks, drops, returnable_of};
+
+use crate::demand::Demand;
+use crate::looking::line_of;
+use pat_derivations::Derivation;
+use pat_environments::{but_not, copy_of, names_of, then_others};
+use pat_sequences::Sequence;
+use pat_types::{MailboxType, TypeOf, Usage};
+use std::alloc::{AllocError, Global};
+
+/// Each of the names passes from the one environment to the other.
+pub fn pass_names(
+    alloc: Global,
+    names: &[u32],
+    given: &[(u32, MailboxType)],
+    asked: &[(u32, MailboxType)],
+    out: &mut Sequence<Demand>,
+) -> Result<(), AllocError>
+    ensures { OnOk result (demands_view out.new ≡ demands_view out.old ++ passes_in names.now (needs_view given.now) (needs_view asked.now)) }
+{
+    for name in names {
+        let given = copy_of(alloc, given, *name)?;
+        let asked = copy_of(alloc, asked, *name)?;
+        out.push(Demand::Pass { given, asked })?;
+    }
+    Ok(())
+}
+
+/// The type of the variable, unless it is that one.
+fn copy_but(
+    alloc: Global,
+    but: Option<u32>,
+    env: &[(u32, MailboxType)],
+    variable: u32,
+) -> Result<Option<MailboxType>, AllocError>
+    ensures { IfOk result (λ o. option_map type_view o ≡ without_name but (need_of (needs_view env.now)) variable) }
+{
+    match but {
+        None => copy_of(alloc, env, variable),
+        Some(name) => if name == variable {
+            Ok(None)
+        } else {
+            copy_of(alloc, env, variable)
+        },
+    }
+}
+
+/// Each of the names is divided among the parts of a let of this name.
+pub fn divide_names(
+    alloc: Global,
+    names: &[u32],
+    but: Option<u32>,
+    given: &[(u32, MailboxType)],
+    bound: &[(u32, MailboxType)],
+    body: &[(u32, MailboxType)],
+    out: &mut Sequence<Demand>,
+) -> Result<(), AllocError>
+    ensures { OnOk result (demands_view out.new ≡ demands_view out.old ++ divides_in names.now but (needs_view given.now) (needs_view bound.now) (needs_view body.now)) }
+{
+    for name in names {
+        let given = copy_of(alloc, given, *name)?;
+        let bound = copy_but(alloc, but, bound, *name)?;
+        let body = copy_but(alloc, but, body, *name)?;
+        out.push(Demand::Divide { given, bound, body })?;
+    }
+    Ok(())
+}
+
+/// The names that a part has, but that of its let.
+pub fn names_but(
+    alloc: Global,
+    but: Option<u32>,
+    env: &[(u32, MailboxType)],
+) -> Result<Sequence<u32>, AllocError>
+    ensures { IfOk result (λ names. names ≡ but_not_name but (keys_of (needs_view env.now))) }
+{
+    let names = names_of(alloc, env)?;
+    match but {
+        None => Ok(names),
+        Some(name) => but_not(alloc, name, names.as_slice()),
+    }
+}
+
+fn there_names(
+    alloc: Global,
+    names: &[u32],
+    given: &[(u32, MailboxType)],
+    part: &[(u32, MailboxType)],
+    out: &mut Sequence<Demand>,
+) -> Result<(), AllocError>
+    ensures { OnOk result (demands_view out.new ≡ demands_view out.old ++ theres_in names.now (needs_view given.now) (needs_view part.now)) }
+{
+    for name in names {
+        let given = copy_of(alloc, given, *name)?;
+        let asked = copy_of(alloc, part, *name)?;
+        out.push(Demand::There { given, asked })?;
+    }
+    Ok(())
+}
+
+/// The names of one part of a let are there, but that of the let.
+pub fn part_there(
+    alloc: Global,
+    but: Option<u32>,
+    given: &[(u32, MailboxType)],
+    part: &[(u32, MailboxType)],
+    out: &mut Sequence<Demand>,
+) -> Result<(), AllocError>
+    ensures { OnOk result (demands_view out.new ≡ demands_view out.old ++ listed_part (needs_view given.now) but (needs_view part.now)) }
+{
+    let names = names_but(alloc, but, part)?;
+    there_names(alloc, names.as_slice(), given, part, out)
+}
+
+fn pass_to_env(
+    alloc: Global,
+    names: &[u32],
+    given: &[(u32, MailboxType)],
+    env: &[(u32, MailboxType)],
+    out: &mut Sequence<Demand>,
+) -> Result<(), AllocError>
+    ensures { OnOk result (demands_view out.new ≡ demands_view out.old ++ passes_in (with_others names.now (keys_of (needs_view env.now))) (needs_view given.now) (needs_view env.now)) }
+{
+    let own = names_of(alloc, env)?;
+    let all = then_others(alloc, names, own.as_slice())?;
+    pass_names(alloc, all.as_slice(), given, env, out)
+}
+
+/// What is there passes to a part, those names first, and the part names no other.
+pub fn pass_to_part(
+    alloc: Global,
+    derivation: &Derivation,
+    names: &[u32],
+    given: &[(u32, MailboxType)],
+    part: u32,
+    out: &mut Sequence<Demand>,
+) -> Result<(), AllocError>
+    ensures { OnOk result (demands_view out.new ≡ demands_view out.old ++ passes_to names.now (needs_view given.now) (line_at (derivation_view derivation.now) part)) }
+{
+    match line_of(derivation, part) {
+        None => Ok(()),
+        Some(line) => pass_to_env(alloc, names, given, line.of.env.as_slice(), out),
+    }
+}
+
+/// What is asked is there, and what else is there is dropped.
+pub fn pass_asked(
+    alloc: Global,
+    env: &[(u32, MailboxType)],
+    asked: &[(u32, MailboxType)],
+    out: &mut Sequence<Demand>,
+) -> Result<(), AllocError>
+    ensures { OnOk result (demands_view out.new ≡ demands_view out.old ++ asks (needs_view env.now) (needs_view asked.now)) }
+{
+    let first = names_of(alloc, asked)?;
+    let own = names_of(alloc, env)?;
+    let all = then_others(alloc, first.as_slice(), own.as_slice())?;
+    pass_names(alloc, all.as_slice(), env, asked, out)
+}
+
+/// All that is there is dropped.
+pub fn drop_all(
+    alloc: Global,
+    env: &[(u32, MailboxType)],
+    out: &mut Sequence<Demand>,
+) -> Result<(), AllocError>
+    ensures { OnOk result (demands_view out.new ≡ demands_view out.old ++ drops (needs_view env.now)) }
+{
+    let own = names_of(alloc, env)?;
+    pass_names(alloc, own.as_slice(), env, &[], out)
+}
+
+/// The type of a term, taken as that of a variable that is returnable; a base type is none.
+pub fn as_returnable(alloc: Global, of: &TypeOf) -> Result<Option<MailboxType>, AllocError>
+    ensures { IfOk result (λ o. option_map type_view o ≡ returnable_of (result_view of.now)) }
+{
+    match of {
+        TypeOf::Base(_) => Ok(None),
+        TypeOf::Mailbox {
+            interface,
+            polarity,
+            pattern,
+        } => {
+            let pattern = pattern.copy(alloc)?;
+            Ok(Some(MailboxType {
+                interface: *interface,
+                polarity: *polarity,
+                pattern,
+                usage: Usage::Returnable,
+            }))
+        }
+    }
+}
+
+/// The one term's type fits the other's.
+pub fn pass_result(
+    alloc: Global,
+    given: &TypeOf,
+    asked: &TypeOf,
+    out: &mut Sequence<Demand>,
+) -> Result<(), AllocError>
+    ensures { OnOk result (demands_view out.new ≡ demands_view out.old ++ result_passes (result_view given.now) (result_view asked.now)) }
+{
+    let given = as_returnable(alloc, given)?;
+    let asked = as_returnable(alloc, asked)?;
+    if given.is_none() || asked.is_none() {
+        return Ok(());
+    }
+    out.push(Demand::Pass { given, asked })
+}

@@ -1,0 +1,8 @@
+//! Environments as lists of variables with types: look-ups, and lists of names.
+#![tactic(auto)]
+
+mod entries;
+mod names;
+
+pub use entries::{copy_of, find, made_returnable, names_of, push_without, without};
+pub use names::{but_not, holds, others, then_others};
