@@ -1,0 +1,143 @@
+-- What the derivation that is made is worth, and what the answers say.
+use Rattle.std.specs.Prelude.{◌≡◌, ℕ, ◌<◌, ◌↔◌, Bool, true, false, List, [], length, Some, ◌⊎◌, IsTrue}
+use Rattle.std.specs.List.{AllByRecursion}
+use Rattle.pat_words.specs.Words.{Word}
+use Rattle.pat_words.specs.Patterns.{Pat}
+use Rattle.pat_model.specs.Programs.{Program, Function, Node, node_at, function_at}
+use Rattle.pat_model.specs.WellFormed.{WellFormed}
+use Rattle.pat_typing.specs.Typings.{IsTypable}
+use Rattle.pat_inclusions.specs.Values.{VarLine, Scope, var_at, plain_or_var, is_formed, values_fit}
+use Rattle.pat_inclusions.specs.Certificates.{Cert, Inclusion, is_trivial}
+use Rattle.pat_bounds.specs.Trees.{Bound, Shows}
+use Rattle.pat_open_types.specs.Signatures.{Variable}
+use Rattle.pat_validity.specs.Validity.{IsValid}
+use Rattle.pat_inference.specs.Constraints.{Constraint}
+use Rattle.pat_inference.specs.Walk.{inferred, all_vars}
+use Rattle.pat_inference.specs.Shapes.{PatternFits, IsNumber}
+use Rattle.pat_inference.specs.Inclusions.{Shows as Showing, IsShown}
+use Rattle.pat_solving.specs.LowerBounds.{lowers_of, lowers_in}
+use Rattle.pat_solving.specs.Derived.{Form, derivation_with, scope_by, SidesShown, ValuesShow, needed_at, CertsMade}
+use Rattle.pat_solving.specs.Answers.{Answer, Unusable, TooLarge, Refuted, Undecided, Solved, IsInBounds, IsSmall, IsCoveredUnder, IsConstraint, AllUsable, IsRight, solution}
+
+-- ---- derivations
+
+-- the inclusion is of an interface, both sides are patterns of it, and it is shown
+abbrev pub IsSound : Scope → Showing → Inclusion → Type 0
+IsSound s R q =
+    (i : ℕ) × (q.interface ≡ Some i) × IsTrue (is_formed s i q.left) × IsTrue (is_formed s i q.right) × R i q.left q.right
+
+-- each inclusion that a node needs is trivial, or one of the constraints of its interface
+abbrev pub NeededListed : Type 0
+NeededListed =
+    (p : Program) (vars : List VarLine) (forms : ℕ → Form) (n : ℕ) (c : Node) (g : Function)
+    → WellFormed p
+    → (inferred p).findings ≡ []
+    → ValuesShow p vars forms
+    → node_at p n ≡ Some c
+    → function_at p c.function ≡ Some g
+    → AllByRecursion (IsSound (scope_by p vars) (IsShown (inferred p).constraints (λ k. plain_or_var k (var_at vars k)))) (needed_at p vars n c g)
+
+-- so it is trivial, or its sides are shown by the values as those of the constraint are: it has a certificate
+abbrev pub NeededShown : Type 0
+NeededShown =
+    (p : Program) (vars : List VarLine) (forms : ℕ → Form) (n : ℕ) (c : Node) (g : Function)
+    → WellFormed p
+    → (inferred p).findings ≡ []
+    → ValuesShow p vars forms
+    → node_at p n ≡ Some c
+    → function_at p c.function ≡ Some g
+    → AllByRecursion (IsSound (scope_by p vars) (λ i e f. IsTrue (is_trivial (scope_by p vars) e f) ⊎ SidesShown (scope_by p vars) i e f (forms i))) (needed_at p vars n c g)
+
+-- the derivation that is made is valid
+abbrev pub DerivedIsValid : Type 0
+DerivedIsValid =
+    (p : Program) (vars : List VarLine) (forms : ℕ → Form) (certs : ℕ → List Cert)
+    → WellFormed p
+    → (inferred p).findings ≡ []
+    → ValuesShow p vars forms
+    → CertsMade p vars forms certs
+    → IsValid p (derivation_with p vars certs)
+
+-- where there are such values the program is typable
+abbrev pub ShownIsTypable : Type 0
+ShownIsTypable =
+    (p : Program) (vars : List VarLine) (forms : ℕ → Form)
+    → WellFormed p
+    → (inferred p).findings ≡ []
+    → ValuesShow p vars forms
+    → IsTypable p
+
+-- ---- interfaces
+
+-- what trees show of a pattern of an interface rests on the constraints of that interface alone
+abbrev pub InterfacesApart : Type 0
+InterfacesApart =
+    (p : Program) (i : ℕ) (e : Pat) (b : Bound) (w : Word)
+    → WellFormed p
+    → (inferred p).findings ≡ []
+    → PatternFits p (all_vars p) i e
+    → Shows (lowers_of p) b e w ↔ Shows (lowers_in p i) b e w
+
+-- the interface of each constraint and of each variable is one of the program's
+pub record InterfacesThere (p : Program) : Type 0 where
+  pub constraints : (n : ℕ) (c : Constraint) → IsConstraint p n c → c.interface < length p.interfaces
+  pub variables : (k : ℕ) (v : Variable) → IsNumber (all_vars p) k v → v.interface < length p.interfaces
+
+-- ---- answers
+
+-- a program of which a constraint is refuted can't be typed
+abbrev pub RefutedIsUntypable : Type 0
+RefutedIsUntypable =
+    (p : Program) (n : ℕ) (w : Word) (b : Bound) → WellFormed p → IsRight p (Refuted n w b) → IsTypable p → ⊥
+
+-- nor one of which an interface in bounds is too large
+abbrev pub LargeIsUntypable : Type 0
+LargeIsUntypable =
+    (p : Program) (i : ℕ) → WellFormed p → IsRight p (TooLarge i) → IsInBounds p i → IsTypable p → ⊥
+
+-- Undecided is answered of a constraint whose interface isn't in bounds, though its closed-form assignment isn't too large, and which
+-- isn't directly covered under it
+abbrev pub UndecidedSays : Type 0
+UndecidedSays =
+    (p : Program) (n : ℕ)
+    → WellFormed p
+    → InterfacesThere p
+    → IsRight p (Undecided n)
+    → (c : Constraint) × IsConstraint p n c × (IsInBounds p c.interface → ⊥) × IsSmall p c.interface × (IsCoveredUnder p c → ⊥)
+
+-- the values of what is solved show all constraints
+abbrev pub SolvedShows : Type 0
+SolvedShows =
+    (p : Program) (forms : ℕ → Form) (points : ℕ → ℕ → List (List ℕ))
+    → WellFormed p
+    → (inferred p).findings ≡ []
+    → InterfacesThere p
+    → IsRight p (Solved forms points)
+    → ValuesShow p (solution p forms points) forms
+
+-- so with certificates it is a valid derivation
+abbrev pub SolvedIsValid : Type 0
+SolvedIsValid =
+    (p : Program) (forms : ℕ → Form) (points : ℕ → ℕ → List (List ℕ)) (certs : ℕ → List Cert)
+    → WellFormed p
+    → (inferred p).findings ≡ []
+    → InterfacesThere p
+    → IsRight p (Solved forms points)
+    → CertsMade p (solution p forms points) forms certs
+    → IsValid p (derivation_with p (solution p forms points) certs)
+
+abbrev pub is_solved : Answer → Bool
+is_solved (Solved forms points) = true
+is_solved _ = false
+
+-- where each interface is in bounds and each sending variable of a signature has a derivable word, just typable programs are solved
+abbrev pub SolvedExactly : Type 0
+SolvedExactly =
+    (p : Program) (a : Answer)
+    → WellFormed p
+    → (inferred p).findings ≡ []
+    → InterfacesThere p
+    → ((i : ℕ) → i < length p.interfaces → IsInBounds p i)
+    → AllUsable p
+    → IsRight p a
+    → IsTrue (is_solved a) ↔ IsTypable p

@@ -1,0 +1,5 @@
+pub mod LowerBounds
+pub mod Assignments
+pub mod Derived
+pub mod Answers
+pub mod Laws

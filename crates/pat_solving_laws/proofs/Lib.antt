@@ -1,0 +1,17 @@
+mod Known
+mod Ties
+mod Good
+mod Formed
+mod Terms
+mod Values
+mod Marked
+mod Certs
+mod Scoped
+mod Entries
+mod Valid
+mod Alike
+mod Apart
+mod Untypable
+mod Closed
+mod Grids
+mod Solved
