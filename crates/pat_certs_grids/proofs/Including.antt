@@ -1,9 +1,9 @@
 -- Where the bound is large enough, cuts that lie in one another show an inclusion.
-use Rattle.std.proofs.Common.{◌≡◌, ℕ, zero, suc, ◌<◌, ◌≤◌, ◌↔◌, Bool, true, false, List, [], ◌∷◌, Option, refl, sym, ap, ◌∙◌, subst, arith}
-use Rattle.std.specs.Prelude.{◌&&◌, nat_lt, nat_eq, slice_get, Result, Ok, Err, IfOk}
+use Rattle.std.proofs.Common.{◌≡◌, ℕ, zero, suc, ◌≤◌, ◌↔◌, Bool, true, List, [], ◌∷◌, refl, sym, subst, arith}
+use Rattle.std.specs.Prelude.{nat_lt, slice_get, Result, Ok, Err, IfOk}
 use Rattle.std.proofs.lemmas.Bool.{and_parts, ltb-true, eqb-true}
 use Rattle.pat_words.specs.Words.{Word}
-use Rattle.pat_words.specs.Patterns.{Pat, In, InUnder, Included, no_values, subst_of}
+use Rattle.pat_words.specs.Patterns.{Pat, In, Included, no_values, subst_of}
 use Rattle.pat_words.specs.Flats.{is_flat, degree_of}
 use Rattle.pat_words.specs.Tags.{tags_below, HasTagsBelow}
 use Rattle.pat_words.specs.Cuts.{cut_at, CutOf}

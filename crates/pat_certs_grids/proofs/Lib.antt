@@ -2,3 +2,4 @@ mod Marking
 mod Points
 mod Meaning
 mod Including
+mod FewPoints
