@@ -44,8 +44,8 @@ pub fn gather_parts(
     Ok(needs)
 }
 
-/// The variables that one of the parts needs.
-fn names_of_parts(
+/// The variables that one of the parts needs, in ascending order.
+pub fn names_of_parts(
     alloc: Global,
     bound: &[(u32, MailboxType)],
     body: &[(u32, MailboxType)],

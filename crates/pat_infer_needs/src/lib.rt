@@ -10,6 +10,6 @@ mod needs;
 
 pub use arguments::{Arguments, args_needs, payload_types, type_at};
 pub use branching::do_agree;
-pub use gathering::{column_of, gather_branches, gather_parts, names_of};
+pub use gathering::{column_of, gather_branches, gather_parts, names_of, names_of_parts};
 pub use kinds::{is_receiver, is_second};
 pub use needs::{find, is_named, put, without};

@@ -1,0 +1,172 @@
+// Lets whose body has been walked, and lets whose parts have been.
+ghost use Rattle.std.specs.Prelude.{◌≡◌, ◌+◌, length, option_map, IfOk};
+ghost use Rattle.pat_model.specs.Programs.{node_at};
+ghost use Rattle.pat_open_types.specs.NodeTypes.{need_of};
+ghost use Rattle.pat_inference.specs.Constraints.{AtNode, OrderRule, DoubleRule, each_unless, unless};
+ghost use Rattle.pat_inference.specs.Needs.{names_of_two};
+ghost use Rattle.pat_inference.specs.BothParts.{in_order, one_receives};
+ghost use Rattle.pat_inference.specs.Walk.{asked_as as asked_as_of, asked_of as asked_of_node, name_need};
+ghost use Rattle.pat_core.specs.Views.{kind_view, program_view};
+ghost use Rattle.pat_types.specs.Views.{type_view, result_view, needs_view};
+ghost use Rattle.pat_infer_problems.specs.Results.{Meets, first_of};
+ghost use Rattle.pat_infer_needs.specs.Combining.{need_ref};
+ghost use Rattle.pat_infer_lets.specs.Lets.{Joins, own_let};
+
+use pat_core::{Kind, Program};
+use pat_infer_needs::{find, gather_parts, is_receiver, is_second, names_of_parts};
+use pat_infer_problems::{InferError, Problem, Rule, check_node};
+use pat_patterns::Pattern;
+use pat_primitives::{Base, Polarity};
+use pat_sequences::Sequence;
+use pat_types::{MailboxType, TypeOf};
+use std::alloc::{AllocError, Global};
+
+/// What a bound part is asked for, where the body needs this of the name: `I!1` where it needs nothing.
+pub fn asked_of(
+    alloc: Global,
+    program: &Program,
+    part: u32,
+    name: Option<u32>,
+    body: &[(u32, MailboxType)],
+) -> Result<TypeOf, AllocError>
+    ensures { IfOk result (λ t. result_view t ≡ asked_of_node (node_at (program_view program.now) part) (name_need name (needs_view body.now))) }
+{
+    let need = needed_of(name, body);
+    match program.nodes.as_slice().get(part as usize) {
+        None => Ok(TypeOf::Base(Base::Unit)),
+        Some(there) => asked_as(alloc, there.kind, need),
+    }
+}
+
+fn needed_of(name: Option<u32>, body: &[(u32, MailboxType)]) -> Option<&MailboxType>
+    ensures { need_ref result ≡ name_need name (needs_view body.now) }
+{
+    match name {
+        Some(variable) => find(body, variable),
+        None => None,
+    }
+}
+
+fn asked_as(alloc: Global, kind: Kind, need: Option<&MailboxType>) -> Result<TypeOf, AllocError>
+    ensures { IfOk result (λ t. result_view t ≡ asked_as_of (kind_view kind) (need_ref need.entry)) }
+{
+    match kind {
+        Kind::Unit => Ok(TypeOf::Base(Base::Unit)),
+        Kind::Bool => Ok(TypeOf::Base(Base::Bool)),
+        Kind::Int => Ok(TypeOf::Base(Base::Int)),
+        Kind::Str => Ok(TypeOf::Base(Base::Str)),
+        Kind::Mailbox(interface) => match need {
+            None => Ok(TypeOf::Mailbox {
+                interface,
+                polarity: Polarity::Sending,
+                pattern: Pattern::One,
+            }),
+            Some(of) => {
+                let pattern = of.pattern.copy(alloc)?;
+                Ok(TypeOf::Mailbox {
+                    interface,
+                    polarity: of.polarity,
+                    pattern,
+                })
+            }
+        },
+    }
+}
+
+/// The rules of the let at a node, and what it needs, from what its bound part needs and what its body needs beside the name.
+#[tactic(auto, using(crate::proofs::Order::in_order))]
+pub fn join_let(
+    alloc: Global,
+    program: &Program,
+    node: u32,
+    bound: &[(u32, MailboxType)],
+    body: &[(u32, MailboxType)],
+    problem: &mut Problem,
+) -> Result<Sequence<(u32, MailboxType)>, InferError>
+    ensures { Joins program.now problem.old problem.new result (own_let node (1 + length problem.old.vars) (needs_view bound.now) (needs_view body.now)) }
+{
+    check_order(alloc, program, node, bound, body)?;
+    check_double(alloc, program, node, bound, body)?;
+    let needs = gather_parts(alloc, program, node, bound, body, problem)?;
+    Ok(needs)
+}
+
+fn check_order(
+    alloc: Global,
+    program: &Program,
+    node: u32,
+    bound: &[(u32, MailboxType)],
+    body: &[(u32, MailboxType)],
+) -> Result<(), InferError>
+    ensures { Meets program.now result (each_unless (λ z. in_order (need_of (needs_view bound.now) z) (need_of (needs_view body.now) z)) OrderRule (λ z. AtNode node) (names_of_two (needs_view bound.now) (needs_view body.now))) }
+{
+    let names = names_of_parts(alloc, bound, body)?;
+    let holds = are_in_order(node, names.as_slice(), bound, body);
+    check_node(program, holds, Rule::Order, node)
+}
+
+fn are_in_order(
+    node: u32,
+    names: &[u32],
+    bound: &[(u32, MailboxType)],
+    body: &[(u32, MailboxType)],
+) -> bool
+    ensures { first_of (unless result OrderRule (AtNode node)) ≡ first_of (each_unless (λ z. in_order (need_of (needs_view bound.now) z) (need_of (needs_view body.now) z)) OrderRule (λ z. AtNode node) names.now) }
+{
+    for name in names {
+        if !is_in_order(find(bound, *name), find(body, *name)) {
+            return false;
+        }
+    }
+    true
+}
+
+/// What the bound part needs as returnable, the body doesn't need.
+fn is_in_order(bound: Option<&MailboxType>, body: Option<&MailboxType>) -> bool
+    ensures { result ≡ in_order (need_ref bound.entry) (need_ref body.entry) }
+{
+    match (bound, body) {
+        (Some(bound), Some(_)) => is_second(bound.usage),
+        _ => true,
+    }
+}
+
+fn check_double(
+    alloc: Global,
+    program: &Program,
+    node: u32,
+    bound: &[(u32, MailboxType)],
+    body: &[(u32, MailboxType)],
+) -> Result<(), InferError>
+    ensures { Meets program.now result (each_unless (λ z. one_receives (need_of (needs_view bound.now) z) (need_of (needs_view body.now) z)) DoubleRule (λ z. AtNode node) (names_of_two (needs_view bound.now) (needs_view body.now))) }
+{
+    let names = names_of_parts(alloc, bound, body)?;
+    let holds = receive_once(node, names.as_slice(), bound, body);
+    check_node(program, holds, Rule::Double, node)
+}
+
+fn receive_once(
+    node: u32,
+    names: &[u32],
+    bound: &[(u32, MailboxType)],
+    body: &[(u32, MailboxType)],
+) -> bool
+    ensures { first_of (unless result DoubleRule (AtNode node)) ≡ first_of (each_unless (λ z. one_receives (need_of (needs_view bound.now) z) (need_of (needs_view body.now) z)) DoubleRule (λ z. AtNode node) names.now) }
+{
+    for name in names {
+        if !receives_once(find(bound, *name), find(body, *name)) {
+            return false;
+        }
+    }
+    true
+}
+
+/// Not both parts receive.
+fn receives_once(bound: Option<&MailboxType>, body: Option<&MailboxType>) -> bool
+    ensures { result ≡ one_receives (need_ref bound.entry) (need_ref body.entry) }
+{
+    match (bound, body) {
+        (Some(bound), Some(body)) => !(is_receiver(bound.polarity) && is_receiver(body.polarity)),
+        _ => true,
+    }
+}
