@@ -1,5 +1,5 @@
 -- A search for numbers, as far as it has come.
-use Rattle.std.specs.Prelude.{◌≡◌, ℕ, zero, suc, ◌+◌, ◌*◌, ◌-◌, ◌^◌, ◌<◌, ◌≤◌, ◌⊎◌, List, [], ◌∷◌, length, map, Option, Some, None, IsTrue}
+use Rattle.std.specs.Prelude.{◌≡◌, ℕ, zero, suc, ◌+◌, ◌*◌, ◌-◌, ◌^◌, ◌<◌, ◌≤◌, ◌⊎◌, List, [], ◌∷◌, length, map, drop, slice_get, Option, Some, None, IsTrue}
 use Rattle.pat_words.specs.Words.{Word, no_word, plus}
 use Rattle.pat_bags.specs.declared.Bag.{Bag}
 use Rattle.pat_bags.specs.Views.{word_of}
@@ -23,8 +23,8 @@ to_come ps [] = ps
 to_come [] (f ∷ fs) = []
 to_come (p ∷ ps) (f ∷ fs) = to_come ps fs
 
--- each frame has what is left once its period is taken so often, and by no lower number do the periods from there on make what was
--- left before
+-- each frame has what was left before its period, and what is left once that is taken so often; and by no lower number do the periods
+-- from there on make what was left before
 abbrev pub Stands : ℕ → List Word → Word → List Frame → Type 0
 Stands n ps w [] = Unit {0}
 Stands n [] w (f ∷ fs) = ⊥
@@ -32,12 +32,19 @@ Stands n (p ∷ ps) w (f ∷ fs) =
     (plus (word_of f.left) (scaled f.number p) ≡ w)
     × ((m : ℕ) → m < f.number → (cs : List ℕ) → IsTrue (makes n (p ∷ ps) (m ∷ cs) w) → ⊥)
     × Stands n ps (word_of f.left) fs
+    × (word_of f.before ≡ w)
 
 -- one more of the period is taken, or it is empty, or not so much is left
 abbrev pub TakesOne : Frame → Word → Option Frame → Type 0
 TakesOne f p (Some g) =
-    (g.number ≡ f.number + 1) × (g.number < 2 ^ 32) × (plus (word_of g.left) p ≡ word_of f.left)
+    (g.number ≡ f.number + 1) × (g.number < 2 ^ 32) × (plus (word_of g.left) p ≡ word_of f.left) × (word_of g.before ≡ word_of f.before)
 TakesOne f p None = (p ≡ no_word) ⊎ (((t : ℕ) → t < most_tags → p t ≤ word_of f.left t) → ⊥)
+
+-- ---- what came to nothing
+
+-- the bag at each place is one that the periods from there on don't make
+abbrev pub CameToNothing : ℕ → List Word → List (Option Bag) → Type 0
+CameToNothing n ps failed = (i : ℕ) (v : Bag) → slice_get failed i ≡ Some (Some v) → NoNumbers n (drop i ps) (word_of v)
 
 -- ---- how much is still to be searched, at most
 

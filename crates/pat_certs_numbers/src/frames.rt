@@ -1,20 +1,21 @@
 // A search for numbers, as far as it has come.
-ghost use Rattle.std.specs.Prelude.{◌≡◌, ℕ, ◌+◌, ◌*◌, ◌<◌, ◌^◌, IfOk};
+ghost use Rattle.std.specs.Prelude.{◌≡◌, ℕ, ◌+◌, ◌*◌, ◌<◌, ◌^◌, length, IfOk};
 ghost use Rattle.pat_bags.specs.Views.{word_of};
 ghost use Rattle.pat_inclusions.specs.Counts.{most_tags};
 ghost use Rattle.pat_linear.specs.Views.{words_of};
 ghost use Rattle.pat_certs_numbers.specs.Numbers.{NoNumbers};
-ghost use Rattle.pat_certs_numbers.specs.Frames.{numbers_of as numbers_of_frames, left_of, to_come, Stands, TakesOne, Advances};
+ghost use Rattle.pat_certs_numbers.specs.Frames.{numbers_of as numbers_of_frames, left_of, to_come, Stands, TakesOne, CameToNothing, Advances};
 
 use crate::tags::tags_are_few;
 use pat_bags::Bag;
 use pat_sequences::Sequence;
 use std::alloc::{AllocError, Global};
 
-/// How often a period is taken, and what is left then.
+/// How often a period is taken, what was left before, and what is left then.
 #[derive(Clone, Copy)]
 pub struct Frame {
     pub number: u32,
+    pub before: Bag,
     pub left: Bag,
 }
 
@@ -31,26 +32,36 @@ fn with_one_more(frame: &Frame, period: &Bag) -> Option<Frame>
         None => None,
         Some(left) => Some(Frame {
             number: frame.number + 1,
+            before: frame.before,
             left,
         }),
     }
 }
 
 /// Goes on to the next numbers, where those so far come to nothing: the last one that can rise is one more, and those behind it go.
+/// What was left before each period that goes has come to nothing, and is noted.
 pub fn advance(
     periods: &[Bag],
     word: &Bag,
     frames: &mut Sequence<Frame>,
+    failed: &mut Sequence<Option<Bag>>,
 ) -> Result<Option<Bag>, AllocError>
     requires stands { Stands most_tags (words_of periods.now) (word_of word.now) frames.old }
     requires none { NoNumbers most_tags (to_come (words_of periods.now) frames.old) (left_of (word_of word.now) frames.old) }
+    requires failed { CameToNothing most_tags (words_of periods.now) failed.old }
+    requires room { length failed.old ≡ length periods.now }
     requires fit { (t : ℕ) → word_of word.now t < 2 ^ 32 }
-    ensures { IfOk result (λ r. Advances most_tags (words_of periods.now) (word_of word.now) frames.old frames.new r) }
+    ensures next { IfOk result (λ r. Advances most_tags (words_of periods.now) (word_of word.now) frames.old frames.new r) }
+    ensures failed { CameToNothing most_tags (words_of periods.now) failed.new }
+    ensures room { length failed.new ≡ length periods.now }
 {
     while let Some(frame) = frames.pop() {
-        let period = &periods[frames.len()];
+        let place = frames.len();
+        let period = &periods[place];
         match with_one_more(&frame, period) {
-            None => {}
+            None => {
+                failed.replace(place, Some(frame.before));
+            }
             Some(next) => {
                 frames.push(next)?;
                 return Ok(Some(next.left));

@@ -1,6 +1,7 @@
 //! Numbers by which periods make a word: the first list of them in the order of lists.
 #![tactic(auto)]
 
+mod failed;
 mod frames;
 mod numbers;
 mod tags;

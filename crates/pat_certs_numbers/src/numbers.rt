@@ -1,10 +1,12 @@
 // The search for numbers.
-ghost use Rattle.std.specs.Prelude.{IfOk};
+ghost use Rattle.std.specs.Prelude.{◌≡◌, ℕ, ◌<◌, ◌≤◌, length, drop, IfOk, IsTrue, IsFalse};
 ghost use Rattle.pat_bags.specs.Views.{word_of};
 ghost use Rattle.pat_inclusions.specs.Counts.{most_tags};
 ghost use Rattle.pat_linear.specs.Views.{words_of};
-ghost use Rattle.pat_certs_numbers.specs.Numbers.{FindsNumbers};
+ghost use Rattle.pat_certs_numbers.specs.Numbers.{FindsNumbers, NoNumbers};
+ghost use Rattle.pat_certs_numbers.specs.Frames.{CameToNothing};
 
+use crate::failed::{has_failed, make_room};
 use crate::frames::{Frame, advance, numbers_of};
 use crate::tags::{counts_fit, tags_occur};
 use pat_bags::Bag;
@@ -22,10 +24,15 @@ pub fn find_numbers(
 {
     counts_fit(word);
     let mut frames = Sequence::new(alloc);
+    let mut failed = Sequence::new(alloc);
     let mut left = *word;
     loop {
-        if !tags_occur(&periods[frames.len()..], &left) {
-            match advance(periods, word, &mut frames)? {
+        if comes_to_nothing(periods, frames.len(), failed.as_slice(), &left) {
+            if frames.is_empty() {
+                return Ok(None);
+            }
+            make_room(&mut failed, periods)?;
+            match advance(periods, word, &mut frames, &mut failed)? {
                 None => return Ok(None),
                 Some(next) => left = next,
             }
@@ -33,7 +40,25 @@ pub fn find_numbers(
             let numbers = numbers_of(alloc, frames.as_slice())?;
             return Ok(Some(numbers));
         } else {
-            frames.push(Frame { number: 0, left })?;
+            frames.push(Frame {
+                number: 0,
+                before: left,
+                left,
+            })?;
         }
     }
+}
+
+/// Whether it is known that the periods from the place on don't make what is left: a tag of it is none of theirs, or it came to
+/// nothing before.
+fn comes_to_nothing(periods: &[Bag], place: usize, failed: &[Option<Bag>], left: &Bag) -> bool
+    requires place { place ≤ length periods.now }
+    requires failed { CameToNothing most_tags (words_of periods.now) failed.now }
+    ensures nothing { IsTrue result → NoNumbers most_tags (words_of (drop place periods.now)) (word_of left.now) }
+    ensures end { IsFalse result → place ≡ length periods.now → (t : ℕ) → t < most_tags → word_of left.now t ≡ 0 }
+{
+    if !tags_occur(&periods[place..], left) {
+        return true;
+    }
+    has_failed(failed, place, left)
 }

@@ -1,6 +1,7 @@
 // Covers worked by hand, and covers that are none.
 use crate::forms::form;
 use crate::spelling::{pattern, spelled_cover};
+use pat_bags::Bag;
 use pat_certs_covers::{CoverEntry, check_cover, find_cover};
 use pat_linear::LinearSet;
 use pat_sequences::Sequence;
@@ -85,6 +86,55 @@ fn checks(
     Ok(check_cover(left.as_slice(), right.as_slice(), cover.as_slice()))
 }
 
+/// The bag of so many of each of the first 12 tags, and so many of the next one.
+fn wide_bag(each: u32, last: u32) -> Bag {
+    let mut counts = [0; 32];
+    for tag in 0..12 {
+        counts[tag] = each;
+    }
+    counts[12] = last;
+    Bag { counts }
+}
+
+/// The bag of so many of one of the first 16 tags.
+fn narrow_bag(tag: usize, number: u32) -> Bag {
+    let mut counts = [0; 32];
+    if tag < 16 {
+        counts[tag] = number;
+    }
+    Bag { counts }
+}
+
+/// A set with one and two of each of 12 tags, and two of a 13th, as its periods: a word of ten of each of the 12 is made in six to the
+/// power 12 ways.
+fn many_ways(alloc: Global) -> Result<Sequence<LinearSet>, AllocError> {
+    let mut periods = Sequence::new(alloc);
+    for tag in 0..12 {
+        periods.push(narrow_bag(tag, 1))?;
+        periods.push(narrow_bag(tag, 2))?;
+    }
+    periods.push(narrow_bag(12, 2))?;
+    one_set(alloc, Bag::empty(), periods)
+}
+
+fn one_set(
+    alloc: Global,
+    base: Bag,
+    periods: Sequence<Bag>,
+) -> Result<Sequence<LinearSet>, AllocError> {
+    let mut sets = Sequence::new(alloc);
+    sets.push(LinearSet { base, periods })?;
+    Ok(sets)
+}
+
+/// Whether ten of each of the 12 tags, and so many of the 13th, are covered by that set: not all ways are tried.
+fn wide_is_covered(rt: &impl Abort, alloc: Global, last: u32) -> Result<bool, AllocError> {
+    let left = one_set(alloc, wide_bag(10, last), Sequence::new(alloc))?;
+    let right = many_ways(alloc)?;
+    let found = cover_of(rt, alloc, left.as_slice(), right.as_slice())?;
+    Ok(found.is_some())
+}
+
 /// A pattern, another one, and the first cover of the one by the other.
 const COVERS: &[(&str, &str, &str)] = &[
     ("m*", "mm.*", "-"),
@@ -118,6 +168,8 @@ pub fn all_covers(rt: &impl Abort, alloc: Global) -> Result<(), AllocError> {
     for (text, other, want) in COVERS {
         has_cover(rt, alloc, text, other, want)?;
     }
+    assert!(rt; wide_is_covered(rt, alloc, 2)?, "ten of each");
+    assert!(rt; !wide_is_covered(rt, alloc, 3)?, "one too many");
     assert!(rt;
         !checks(rt, alloc, "m*", "1", &[], 1)?,
         "a period of no periods"

@@ -1,12 +1,12 @@
 use Rattle.std.proofs.Common.{arith, Some, get_or, append-nil, ◌≡◌, ◌++◌, ◌∷◌, ◌<◌, [], length, length-append, ap, ◌∙◌, sym, subst}
 use Rattle.std.specs.Prelude.{slice_get}
-use Rattle.std.proofs.lemmas.List.{length-map}
+use Rattle.std.proofs.lemmas.List.{length-map, length-set}
 use Rattle.pat_bags.specs.Views.{word_of}
 use Rattle.pat_inclusions.specs.Counts.{most_tags}
 use Rattle.pat_linear.specs.Views.{words_of}
 use Rattle.pat_certs_numbers.specs.Numbers.{NoNumbers}
-use Rattle.pat_certs_numbers.specs.Frames.{left_of, to_come, Stands, lists_left}
-use Rattle.pat_certs_numbers.proofs.Standing.{front_stands, last_within, next_stands, ends_here, left_last, period_at, nowhere, seam, stands_fits}
+use Rattle.pat_certs_numbers.specs.Frames.{left_of, to_come, Stands, CameToNothing, lists_left}
+use Rattle.pat_certs_numbers.proofs.Standing.{front_stands, last_within, next_stands, ends_here, left_last, period_at, nowhere, seam, stands_fits, one_came, last_before}
 use Rattle.pat_certs_numbers.proofs.Ending.{next_less}
 use Rattle.pat_certs_numbers.proofs.frames.advance.Goals as goal
 
@@ -15,11 +15,11 @@ with_one_more-requires c t =
     let ps = words_of c.args.periods.now in
     let w = word_of c.args.word.now in
     let whole = c.in-Some.ensures.some in
-    let same = c.len.ensures in
+    let same = c.len-place.ensures in
     let few = c.loop-frame.invariant.few in
     let more = ap length whole ∙ length-append c.pop.new.self (c.in-Some.frame ∷ []) in
-    let at : slice_get ps (length c.pop.new.self) ≡ Some (word_of (get_or c.args.periods.now c.len.result nowhere)) = ap (slice_get ps) (sym same) ∙ period_at c.args.periods.now c.len.result nowhere (omega arith) in
-    let lies = last_within most_tags ps w c.pop.new.self c.in-Some.frame (word_of (get_or c.args.periods.now c.len.result nowhere)) (subst (Stands most_tags ps w) whole c.loop-frame.invariant.stands) at t in
+    let at : slice_get ps (length c.pop.new.self) ≡ Some (word_of (get_or c.args.periods.now c.len-place.result nowhere)) = ap (slice_get ps) (sym same) ∙ period_at c.args.periods.now c.len-place.result nowhere (omega arith) in
+    let lies = last_within most_tags ps w c.pop.new.self c.in-Some.frame (word_of (get_or c.args.periods.now c.len-place.result nowhere)) (subst (Stands most_tags ps w) whole c.loop-frame.invariant.stands) at t in
     let fit = c.requires.fit t in
     omega arith
 
@@ -28,38 +28,42 @@ loop-frame-preserved c =
     let ps = words_of c.args.periods.now in
     let w = word_of c.args.word.now in
     let whole = c.in-Some.ensures.some in
-    let same = c.len.ensures in
+    let same = c.len-place.ensures in
     let few = c.loop-frame.invariant.few in
     let more = ap length whole ∙ length-append c.pop.new.self (c.in-Some.frame ∷ []) in
-    let at : slice_get ps (length c.pop.new.self) ≡ Some (word_of (get_or c.args.periods.now c.len.result nowhere)) = ap (slice_get ps) (sym same) ∙ period_at c.args.periods.now c.len.result nowhere (omega arith) in
+    let at : slice_get ps (length c.pop.new.self) ≡ Some (word_of (get_or c.args.periods.now c.len-place.result nowhere)) = ap (slice_get ps) (sym same) ∙ period_at c.args.periods.now c.len-place.result nowhere (omega arith) in
     let stands = subst (Stands most_tags ps w) whole c.loop-frame.invariant.stands in
     let front = c.loop-frame.invariant.front in
+    let ended = ends_here most_tags ps w c.pop.new.self c.in-Some.frame (word_of (get_or c.args.periods.now c.len-place.result nowhere)) stands at c.in-None.ensures
+    (subst (λ fs. NoNumbers most_tags (to_come ps fs) (left_of w fs)) whole c.loop-frame.invariant.none) in
     record {
       stands = front_stands most_tags ps w c.pop.new.self c.in-Some.frame stands;
-      none = ends_here most_tags ps w c.pop.new.self c.in-Some.frame (word_of (get_or c.args.periods.now c.len.result nowhere)) stands at c.in-None.ensures
-          (subst (λ fs. NoNumbers most_tags (to_come ps fs) (left_of w fs)) whole c.loop-frame.invariant.none);
+      none = ended;
       few = omega arith;
+      failed = subst (CameToNothing most_tags ps) (sym c.replace.ensures.after) (one_came most_tags c.args.periods.now c.pop.new.self w c.loop-frame.failed c.len-place.result c.in-Some.frame.before same
+          (last_before most_tags ps w c.pop.new.self c.in-Some.frame stands) ended c.loop-frame.invariant.failed);
+      room = ap length c.replace.ensures.after ∙ length-set c.loop-frame.failed c.len-place.result (Some c.in-Some.frame.before) ∙ c.loop-frame.invariant.room;
       front = (c.in-Some.frame ∷ front.0, front.1 ∙ ap (λ fs. fs ++ front.0) whole ∙ seam c.pop.new.self c.in-Some.frame front.0);
     }
 
-pub returns-in-Some-with_one_more : goal.returns-in-Some-with_one_more
-returns-in-Some-with_one_more c =
+pub returns-in-Some-with_one_more-clause-next : goal.returns-in-Some-with_one_more-clause-next
+returns-in-Some-with_one_more-clause-next c =
     let ps = words_of c.args.periods.now in
     let w = word_of c.args.word.now in
     let whole = c.in-Some.ensures.some in
-    let same = c.len.ensures in
+    let same = c.len-place.ensures in
     let few = c.loop-frame.invariant.few in
     let front = c.loop-frame.invariant.front in
     let next = c.in-Some-with_one_more.next in
     let made = c.in-Some-with_one_more.ensures in
     let new = c.in_ok-push-in-Some-with_one_more.ensures.ok in
     let more = ap length whole ∙ length-append c.pop.new.self (c.in-Some.frame ∷ []) in
-    let at : slice_get ps (length c.pop.new.self) ≡ Some (word_of (get_or c.args.periods.now c.len.result nowhere)) = ap (slice_get ps) (sym same) ∙ period_at c.args.periods.now c.len.result nowhere (omega arith) in
+    let at : slice_get ps (length c.pop.new.self) ≡ Some (word_of (get_or c.args.periods.now c.len-place.result nowhere)) = ap (slice_get ps) (sym same) ∙ period_at c.args.periods.now c.len-place.result nowhere (omega arith) in
     let stands = subst (Stands most_tags ps w) whole c.loop-frame.invariant.stands in
     let none = subst (λ fs. NoNumbers most_tags (to_come ps fs) (left_of w fs)) whole c.loop-frame.invariant.none in
     let old = front.1 ∙ ap (λ fs. fs ++ front.0) whole ∙ seam c.pop.new.self c.in-Some.frame front.0 in
     let many = length-map c.args.periods.now word_of in (
-      subst (Stands most_tags ps w) (sym new) (next_stands most_tags ps w c.pop.new.self c.in-Some.frame next (word_of (get_or c.args.periods.now c.len.result nowhere)) stands at made.0 made.2 none),
+      subst (Stands most_tags ps w) (sym new) (next_stands most_tags ps w c.pop.new.self c.in-Some.frame next (word_of (get_or c.args.periods.now c.len-place.result nowhere)) stands at made.0 made.2 made.3 none),
       sym (ap (left_of w) new ∙ left_last w c.pop.new.self next),
       subst (λ fs. lists_left ps c.push.new.self < lists_left ps fs) (sym old)
           (subst (λ fs. lists_left ps fs < lists_left ps (c.pop.new.self ++ c.in-Some.frame ∷ front.0)) (sym new)
@@ -74,5 +78,7 @@ loop-frame-init c =
       stands = c.requires.stands;
       none = c.requires.none;
       few = omega arith;
+      failed = c.requires.failed;
+      room = c.requires.room;
       front = ([], sym (append-nil c.args.frames.now));
     }

@@ -4,7 +4,7 @@ use Rattle.pat_inclusions.specs.Counts.{most_tags}
 use Rattle.pat_linear.specs.Views.{words_of}
 use Rattle.pat_certs_numbers.specs.declared.frames.Frame.{Frame}
 use Rattle.pat_certs_numbers.specs.Numbers.{NoNumbers}
-use Rattle.pat_certs_numbers.specs.Frames.{left_of, to_come, Stands}
+use Rattle.pat_certs_numbers.specs.Frames.{left_of, to_come, Stands, CameToNothing}
 use Rattle.pat_certs_numbers.proofs.frames.advance.Given as goal
 
 abbrev pub invariant-loop-frame : goal.invariant-loop-frame
@@ -12,6 +12,8 @@ invariant-loop-frame l = record {
   stands : Stands most_tags (words_of l.periods) (word_of l.word) l.frames;
   none : NoNumbers most_tags (to_come (words_of l.periods) l.frames) (left_of (word_of l.word) l.frames);
   few : length l.frames ≤ length l.periods;
+  failed : CameToNothing most_tags (words_of l.periods) l.failed;
+  room : length l.failed ≡ length l.periods;
   front : (gone : List Frame) × (l.initial.frames ≡ l.frames ++ gone);
 }
 

@@ -2,13 +2,15 @@ use Rattle.std.proofs.Common.{◌≡◌, ◌≤◌, length}
 use Rattle.pat_bags.specs.Views.{word_of}
 use Rattle.pat_inclusions.specs.Counts.{most_tags}
 use Rattle.pat_linear.specs.Views.{words_of}
-use Rattle.pat_certs_numbers.specs.Frames.{left_of, Stands, lists_left}
+use Rattle.pat_certs_numbers.specs.Frames.{left_of, Stands, CameToNothing, lists_left}
 use Rattle.pat_certs_numbers.proofs.numbers.find_numbers.Given as goal
 
 abbrev pub invariant-loop-left : goal.invariant-loop-left
 invariant-loop-left l = record {
   stands : Stands most_tags (words_of l.periods) (word_of l.word) l.frames;
   few : length l.frames ≤ length l.periods;
+  failed : CameToNothing most_tags (words_of l.periods) l.failed;
+  room : length l.failed ≤ length l.periods;
   left : word_of l.left ≡ left_of (word_of l.word) l.frames;
 }
 
