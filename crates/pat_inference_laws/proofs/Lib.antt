@@ -10,6 +10,7 @@ pub mod Numbering
 pub mod ShapeLaws
 pub mod Least
 pub mod Shown
+pub mod TermTyped
 -- what each term needs, by look-ups
 pub mod Lookups
 mod BranchLaws
@@ -21,7 +22,6 @@ mod ArmsSound
 mod GuardSound
 mod WalkSound
 -- a solution is a typing
-mod TermTyped
 mod LetTyped
 mod ArmsTyped
 mod GuardTyped

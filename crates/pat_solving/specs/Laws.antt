@@ -79,9 +79,12 @@ InterfacesApart =
     → Shows (lowers_of p) b e w ↔ Shows (lowers_in p i) b e w
 
 -- the interface of each constraint and of each variable is one of the program's
-pub record InterfacesThere (p : Program) : Type 0 where
+pub record AreThere (p : Program) : Type 0 where
   pub constraints : (n : ℕ) (c : Constraint) → IsConstraint p n c → c.interface < length p.interfaces
   pub variables : (k : ℕ) (v : Variable) → IsNumber (all_vars p) k v → v.interface < length p.interfaces
+
+abbrev pub InterfacesThere : Type 0
+InterfacesThere = (p : Program) → WellFormed p → AreThere p
 
 -- ---- answers
 
@@ -101,7 +104,6 @@ abbrev pub UndecidedSays : Type 0
 UndecidedSays =
     (p : Program) (n : ℕ)
     → WellFormed p
-    → InterfacesThere p
     → IsRight p (Undecided n)
     → (c : Constraint) × IsConstraint p n c × (IsInBounds p c.interface → ⊥) × IsSmall p c.interface × (IsCoveredUnder p c → ⊥)
 
@@ -111,7 +113,6 @@ SolvedShows =
     (p : Program) (forms : ℕ → Form) (points : ℕ → ℕ → List (List ℕ))
     → WellFormed p
     → (inferred p).findings ≡ []
-    → InterfacesThere p
     → IsRight p (Solved forms points)
     → ValuesShow p (solution p forms points) forms
 
@@ -121,7 +122,6 @@ SolvedIsValid =
     (p : Program) (forms : ℕ → Form) (points : ℕ → ℕ → List (List ℕ)) (certs : ℕ → List Cert)
     → WellFormed p
     → (inferred p).findings ≡ []
-    → InterfacesThere p
     → IsRight p (Solved forms points)
     → CertsMade p (solution p forms points) forms certs
     → IsValid p (derivation_with p (solution p forms points) certs)
@@ -136,8 +136,20 @@ SolvedExactly =
     (p : Program) (a : Answer)
     → WellFormed p
     → (inferred p).findings ≡ []
-    → InterfacesThere p
     → ((i : ℕ) → i < length p.interfaces → IsInBounds p i)
     → AllUsable p
     → IsRight p a
     → IsTrue (is_solved a) ↔ IsTypable p
+
+-- two answers are of one kind, and of the same variable, interface or constraint
+abbrev pub IsSame : Answer → Answer → Type 0
+IsSame (Unusable k) (Unusable j) = k ≡ j
+IsSame (TooLarge i) (TooLarge j) = i ≡ j
+IsSame (Refuted n v a) (Refuted m w b) = n ≡ m
+IsSame (Undecided n) (Undecided m) = n ≡ m
+IsSame (Solved f g) (Solved h k) = Unit {0}
+IsSame _ _ = ⊥
+
+-- two that are both right are so: an answer comes just where it is right
+abbrev pub OneAnswer : Type 0
+OneAnswer = (p : Program) (a b : Answer) → WellFormed p → IsRight p a → IsRight p b → IsSame a b

@@ -13,5 +13,8 @@ mod Alike
 mod Apart
 mod Untypable
 mod Closed
+mod KindsThere
+mod InterfacesThere
 mod Grids
 mod Solved
+mod OneAnswer

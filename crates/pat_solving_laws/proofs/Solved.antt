@@ -25,13 +25,14 @@ use Rattle.pat_solving.specs.LowerBounds.{lowers_of}
 use Rattle.pat_solving.specs.Assignments.{value_in, assignment_fits, vars_in}
 use Rattle.pat_solving.specs.Derived.{Form, Patterns, Grids, HasForm, IsCovered, SidesShown, ConstraintShown, ValuesShow, scope_by}
 use Rattle.pat_solving.specs.Answers.{Answer, Unusable, TooLarge, Refuted, Undecided, Solved, tags_of, constraints_of, values_of, IsSmall, IsConstraint, HasGrids, IsUndecided, FormIs, value_by, values_from, solution, IsRight}
-use Rattle.pat_solving.specs.Laws.{InterfacesThere, is_solved, UndecidedSays, SolvedShows, SolvedIsValid, SolvedExactly}
+use Rattle.pat_solving.specs.Laws.{AreThere, is_solved, UndecidedSays, SolvedShows, SolvedIsValid, SolvedExactly}
 use Rattle.pat_solving_laws.proofs.Known.{Known}
 use Rattle.pat_solving_laws.proofs.Values.{solve_by}
 use Rattle.pat_solving_laws.proofs.Apart.{apart_from}
 use Rattle.pat_solving_laws.proofs.Untypable.{derivable_in, refuted_untypable, large_untypable}
 use Rattle.pat_solving_laws.proofs.Closed.{within_closed, within_tags, Nowhere, values_within}
 use Rattle.pat_solving_laws.proofs.Grids.{shows_grid}
+use Rattle.pat_solving_laws.proofs.InterfacesThere.{interfaces_there}
 use Rattle.pat_solving_laws.proofs.Alike.{derived_valid, shown_typable}
 
 in_at : {A : Type 0} (xs : List A) (x : A) → IsIn x xs → (n : ℕ) × (slice_get xs n ≡ Some x)
@@ -104,7 +105,7 @@ senders_from values c (u ∷ us) f =
 
 -- ---- what is solved
 
-module _ (known : Known) (grids : GridSolvesLaw) (p : Program) (forms : ℕ → Form) (points : ℕ → ℕ → List (List ℕ)) (wf : WellFormed p) (clean : (inferred p).findings ≡ []) (there : InterfacesThere p) (right : IsRight p (Solved forms points)) where
+module _ (known : Known) (grids : GridSolvesLaw) (p : Program) (forms : ℕ → Form) (points : ℕ → ℕ → List (List ℕ)) (wf : WellFormed p) (clean : (inferred p).findings ≡ []) (there : AreThere p) (right : IsRight p (Solved forms points)) where
   abbrev vars : List VarLine
   vars = solution p forms points
 
@@ -201,20 +202,23 @@ module _ (known : Known) (grids : GridSolvesLaw) (p : Program) (forms : ℕ → 
 -- ---- the laws
 
 pub solved_shows : Known → GridSolvesLaw → SolvedShows
-solved_shows known grids p forms points wf clean there right = values_show known grids p forms points wf clean there right
+solved_shows known grids p forms points wf clean right = values_show known grids p forms points wf clean (interfaces_there p wf) right
 
 pub solved_valid : Known → GridSolvesLaw → SolvedIsValid
-solved_valid known grids p forms points certs wf clean there right made =
-    derived_valid known p (solution p forms points) forms certs wf clean (values_show known grids p forms points wf clean there right) made
+solved_valid known grids p forms points certs wf clean right made =
+    derived_valid known p (solution p forms points) forms certs wf clean (values_show known grids p forms points wf clean (interfaces_there p wf) right) made
 
 pub undecided_says : UndecidedSays
-undecided_says p n wf there right = (u.constraint, u.at, u.neither.out_of_bounds, small, u.uncovered)
+undecided_says p n wf right = (u.constraint, u.at, u.neither.out_of_bounds, small, u.uncovered)
   where
     u : IsUndecided p n
     u = right.2
 
     i : ℕ
     i = u.constraint.interface
+
+    there : AreThere p
+    there = interfaces_there p wf
 
     sure : (b : Bool) → ((b ≡ true → ⊥) → ⊥) → b ≡ true
     sure true h = refl
@@ -226,8 +230,11 @@ undecided_says p n wf there right = (u.constraint, u.at, u.neither.out_of_bounds
         (λ large. right.1 i (there.constraints n u.constraint u.at) (inl (u.neither, large)))
 
 pub solved_exactly : Known → GridSolvesLaw → SolvedExactly
-solved_exactly known grids p a wf clean there bounded usable right = (to a right, from a right)
+solved_exactly known grids p a wf clean bounded usable right = (to a right, from a right)
   where
+    there : AreThere p
+    there = interfaces_there p wf
+
     to : (a : Answer) → IsRight p a → is_solved a ≡ true → IsTypable p
     to (Solved forms points) r h =
         shown_typable known p (solution p forms points) forms wf clean (values_show known grids p forms points wf clean there r)

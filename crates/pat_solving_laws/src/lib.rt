@@ -1,7 +1,7 @@
 // What is solved is valid, and what is refuted can't be typed. No code of the product.
 #![tactic(auto)]
 
-ghost use Rattle.pat_solving.specs.Laws.{NeededListed, NeededShown, DerivedIsValid, ShownIsTypable, RefutedIsUntypable, LargeIsUntypable, InterfacesApart, UndecidedSays, SolvedShows, SolvedIsValid, SolvedExactly};
+ghost use Rattle.pat_solving.specs.Laws.{NeededListed, NeededShown, DerivedIsValid, ShownIsTypable, RefutedIsUntypable, LargeIsUntypable, InterfacesApart, InterfacesThere, UndecidedSays, SolvedShows, SolvedIsValid, SolvedExactly, OneAnswer};
 
 use pat_bounds_laws::search_laws;
 use pat_inference_laws::{enough_laws, found_laws, shown_laws};
@@ -25,11 +25,12 @@ pub fn derived_laws()
 }
 
 /// A program of which a constraint is refuted can't be typed, nor one of which an interface in bounds is too large; and what trees
-/// show of an interface's patterns rests on its own constraints.
+/// show of an interface's patterns rests on its own constraints, whose interfaces are ones of the program.
 pub fn refusal_laws()
     ensures refuted { RefutedIsUntypable }
     ensures large { LargeIsUntypable }
     ensures apart { InterfacesApart }
+    ensures there { InterfacesThere }
 {
     environment_laws();
     found_laws();
@@ -51,3 +52,8 @@ pub fn answer_laws()
     shown_laws();
     search_laws();
 }
+
+/// Of two answers that are both right, each says what the other says.
+pub fn one_answer_laws()
+    ensures one { OneAnswer }
+{}
