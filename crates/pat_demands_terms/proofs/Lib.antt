@@ -1,3 +1,5 @@
+mod Demanded
 mod Listing
 mod Numbers
+mod Signatures
 mod Turns

@@ -115,16 +115,16 @@ joined (Some o) = o
 abbrev pub StandAt : TypeEnv → ℕ → List (Option MailboxType) → Type 0
 StandAt types k ts = (j : ℕ) → types (k + j) ≡ joined (slice_get ts j)
 
-first_at : (types : TypeEnv) (k : ℕ) (t : Option MailboxType) (ts : List (Option MailboxType)) → StandAt types k (t ∷ ts) → types k ≡ t
+pub first_at : (types : TypeEnv) (k : ℕ) (t : Option MailboxType) (ts : List (Option MailboxType)) → StandAt types k (t ∷ ts) → types k ≡ t
 first_at types k t ts h = let e : k ≡ k + 0 = omega arith in ap types e ∙ h 0
 
-later_at : (types : TypeEnv) (k : ℕ) (t : Option MailboxType) (ts : List (Option MailboxType)) → StandAt types k (t ∷ ts) → StandAt types (suc k) ts
+pub later_at : (types : TypeEnv) (k : ℕ) (t : Option MailboxType) (ts : List (Option MailboxType)) → StandAt types k (t ∷ ts) → StandAt types (suc k) ts
 later_at types k t ts h j = let e : suc k + j ≡ k + suc j = omega arith in ap types e ∙ h (suc j)
 
-none_at : (types : TypeEnv) (k : ℕ) → StandAt types k [] → types k ≡ None
+pub none_at : (types : TypeEnv) (k : ℕ) → StandAt types k [] → types k ≡ None
 none_at types k h = let e : k ≡ k + 0 = omega arith in ap types e ∙ h 0
 
-none_later : (types : TypeEnv) (k : ℕ) → StandAt types k [] → StandAt types (suc k) []
+pub none_later : (types : TypeEnv) (k : ℕ) → StandAt types k [] → StandAt types (suc k) []
 none_later types k h j = let e : suc k + j ≡ k + suc j = omega arith in ap types e ∙ h (suc j)
 
 none_asked : (types : TypeEnv) (k : ℕ) (es : List Expr) → StandAt types k [] → args_need types k es ≡ no_types

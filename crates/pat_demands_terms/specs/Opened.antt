@@ -1,0 +1,22 @@
+-- The types of all signatures, as one pass makes them, where the first variable has number k.
+use Rattle.std.specs.Prelude.{ℕ, ◌+◌, List, [], ◌∷◌, Option}
+use Rattle.pat_words.specs.Patterns.{Var}
+use Rattle.pat_model.specs.Programs.{Sort, Function}
+use Rattle.pat_typing.specs.Types.{MailboxType}
+use Rattle.pat_typing.specs.Typings.{sort_type, result_of}
+use Rattle.pat_open_types.specs.Signatures.{omits, result_number}
+use Rattle.pat_demands.specs.Listed.{Signature}
+
+-- the types of parameters
+abbrev pub opened_params : ℕ → List Sort → List (Option MailboxType)
+opened_params k [] = []
+opened_params k (s ∷ ss) = sort_type (Var k) s ∷ opened_params (k + omits s) ss
+
+-- the signature of a function
+abbrev pub opened : ℕ → Function → Signature
+opened k g = record { params = opened_params k g.params; result = result_of (Var (result_number k g)) g.result }
+
+-- the signatures of functions
+abbrev pub opened_from : ℕ → List Function → List Signature
+opened_from k [] = []
+opened_from k (g ∷ gs) = opened k g ∷ opened_from (result_number k g + omits g.result) gs
