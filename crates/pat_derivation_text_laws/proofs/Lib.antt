@@ -1,2 +1,4 @@
 pub mod Cutting
+mod DerivationSpelled
 mod LinesSpelled
+mod TypesSpelled

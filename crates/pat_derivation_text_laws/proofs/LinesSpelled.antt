@@ -39,12 +39,12 @@ joined_first : (c b : ℕ) (xs : List (List ℕ)) → (x : List ℕ) (more : Lis
 joined_first c b [] x more e = absurd cc
 joined_first c b (y ∷ ys) x more e = refl
 
-record Nonempty (xs : List (List ℕ)) : Type 0 where
-  front : List ℕ
-  others : List (List ℕ)
-  is : xs ≡ front ∷ others
+pub record Nonempty (xs : List (List ℕ)) : Type 0 where
+  pub front : List ℕ
+  pub others : List (List ℕ)
+  pub is : xs ≡ front ∷ others
 
-some_piece : (c : ℕ) (bs : List ℕ) → Nonempty (pieces c bs)
+pub some_piece : (c : ℕ) (bs : List ℕ) → Nonempty (pieces c bs)
 some_piece c [] = record { front = []; others = []; is = refl }
 some_piece c (b ∷ bs) = by (b == c) (pieces c bs) (some_piece c bs)
   where
@@ -98,7 +98,7 @@ entry_is bytes entry e =
     by set [] e = absurd cc
     by set (base ∷ periods) e = let same : record { set = set; base = base; periods = periods } ≡ entry = cc in subst (λ n. decimal set ++ 58 ∷ joined 59 (map numbers_text (base ∷ periods)) ≡ entry_text n) same refl
 
-cert_is : (bytes : List ℕ) (cert : Cert) → read_cert bytes ≡ Some cert → bytes ≡ cert_text cert
+pub cert_is : (bytes : List ℕ) (cert : Cert) → read_cert bytes ≡ Some cert → bytes ≡ cert_text cert
 cert_is bytes cert e = by (behind (codes "c(") bytes) refl e
   where
     by : (o : Option (List ℕ)) → behind (codes "c(") bytes ≡ o → cert_by bytes o ≡ Some cert → bytes ≡ cert_text cert

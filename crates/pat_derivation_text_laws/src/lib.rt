@@ -1,2 +1,9 @@
-// That the text of a derivation is read as this derivation, and no other text as one. No code of the product.
+// That what a text is read as has this text. No code of the product.
 #![tactic(auto)]
+
+ghost use Rattle.pat_derivation_text_laws.specs.Laws.{ReadIsText};
+
+/// What a text is read as has this text.
+pub fn read_is_text_law()
+    ensures { ReadIsText }
+{}
