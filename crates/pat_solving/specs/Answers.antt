@@ -1,5 +1,5 @@
 -- What solving answers: the form of each interface's values, and what is answered first, in order.
-use Rattle.std.specs.Prelude.{◌≡◌, ℕ, suc, ◌<◌, ◌⊎◌, List, [], ◌∷◌, length, Some, slice_get, IsTrue, IsFalse}
+use Rattle.std.specs.Prelude.{◌≡◌, ℕ, suc, ◌<◌, ◌⊎◌, List, [], ◌∷◌, length, Some, slice_get, IsTrue}
 use Rattle.pat_words.specs.Words.{Word}
 use Rattle.pat_words.specs.Patterns.{is_closed, subst_of}
 use Rattle.pat_model.specs.Programs.{Sending, Program}

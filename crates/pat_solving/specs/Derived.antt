@@ -15,7 +15,7 @@ use Rattle.pat_validity.specs.Derivations.{Line, Derivation, scope_of}
 use Rattle.pat_validity.specs.Conditions.{Place}
 use Rattle.pat_validity.specs.Rules.{needed}
 use Rattle.pat_open_types.specs.NodeTypes.{NodeType}
-use Rattle.pat_open_types.specs.Signatures.{Variable, signature_vars}
+use Rattle.pat_open_types.specs.Signatures.{signature_vars}
 use Rattle.pat_inference.specs.Constraints.{Constraint}
 use Rattle.pat_inference.specs.Walk.{inferred, all_vars}
 use Rattle.pat_inference.specs.Solutions.{SendersHaveWords}

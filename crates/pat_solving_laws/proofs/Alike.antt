@@ -1,7 +1,7 @@
 -- What a node needs doesn't depend on certificates; so the derivation that is made is valid.
 use Rattle.std.proofs.Common.{◌≡◌, ℕ, List, [], ◌∷◌, ◌++◌, Option, Some, None, refl, sym, ap, ap₂, ◌∙◌, subst}
 use Rattle.std.specs.Prelude.{slice_get}
-use Rattle.std.specs.List.{AllByRecursion, flat_map}
+use Rattle.std.specs.List.{flat_map}
 use Rattle.std.specs.Map.{keys_of}
 use mathlib.Core.Path.{fun_ext}
 use Rattle.pat_words.specs.Patterns.{Pat}
@@ -11,16 +11,14 @@ use Rattle.pat_typing.specs.Types.{Returnable, mailbox_type, TypeEnv, without, r
 use Rattle.pat_typing.specs.Typings.{clause_env}
 use Rattle.pat_inclusions.specs.Values.{VarLine, pattern_of}
 use Rattle.pat_inclusions.specs.Certificates.{Cert}
-use Rattle.pat_open_types.specs.NodeTypes.{need_of, NodeType}
+use Rattle.pat_open_types.specs.NodeTypes.{need_of}
 use Rattle.pat_validity.specs.Derivations.{Line, Derivation, line_at, written_typing}
 use Rattle.pat_validity.specs.Demands.{Pass, inclusions_of}
 use Rattle.pat_validity.specs.Conditions.{then_others, but_not, passes, of_line, to_part, let_demands, call_demands, clause_demands, free_demands, clauses_demand, bodies_demand, guard_demands, target_demands, send_demands, term_demands, first_demands}
 use Rattle.pat_validity.specs.Rules.{needed}
-use Rattle.pat_inference.specs.Inclusions.{IsShown}
-use Rattle.pat_inference.specs.Walk.{inferred}
 use Rattle.pat_inference.specs.Solutions.{typing_found}
-use Rattle.pat_solving.specs.Derived.{found_of, found_line, found_place, derivation_with, no_certs, scope_by, needed_at, AreCertsFor}
-use Rattle.pat_solving.specs.Laws.{IsSound, NeededListed, NeededShown, DerivedIsValid, ShownIsTypable}
+use Rattle.pat_solving.specs.Derived.{found_line, found_place, derivation_with, no_certs, scope_by, AreCertsFor}
+use Rattle.pat_solving.specs.Laws.{NeededListed, NeededShown, DerivedIsValid, ShownIsTypable}
 use Rattle.pat_solving_laws.proofs.Known.{Known}
 use Rattle.pat_solving_laws.proofs.Ties.{line_there, line_none}
 use Rattle.pat_solving_laws.proofs.Values.{values_solve}

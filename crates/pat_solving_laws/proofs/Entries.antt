@@ -1,6 +1,6 @@
 -- The entries of an environment in order: each is what the environment says of its variable.
-use Rattle.std.proofs.Common.{◌≡◌, ℕ, suc, ◌≤◌, Bool, true, nat_eq, List, [], ◌∷◌, ◌++◌, Some, refl, sym, ◌∙◌, arith}
-use Rattle.std.specs.Prelude.{map, nat_le}
+use Rattle.std.proofs.Common.{◌≡◌, ℕ, suc, ◌≤◌, Bool, true, nat_eq, List, [], ◌∷◌, Some, refl, sym, ◌∙◌, arith}
+use Rattle.std.specs.Prelude.{nat_le}
 use Rattle.std.specs.List.{AllByRecursion, list_all}
 use Rattle.std.proofs.lemmas.Bool.{and_from, eq-eqb, ne_eqb, cond-true, cond-false, le-leb}
 use Rattle.pat_typing.specs.Types.{MailboxType}

@@ -10,7 +10,6 @@ use Rattle.pat_model.specs.Values.{Base, BaseUnit, BaseBool, BaseInt, BaseText, 
 use Rattle.pat_model.specs.Programs.{Polarity, Sending, Receiving}
 use Rattle.pat_typing.specs.Types.{Usage, Second, Returnable, MailboxType, TypeOf, BaseTerm, MailboxTerm, UsageFits, DropsAs, PassesTo, PatternJoins, SplitsTo, TypeEnv}
 use Rattle.pat_inclusions.specs.Values.{Scope, pattern_of, filled, is_formed}
-use Rattle.pat_inclusions.specs.Certificates.{Inclusion}
 use Rattle.pat_open_types.specs.Compared.{polarity_eq, is_second, usage_fits}
 use Rattle.pat_validity.specs.Same.{is_same_base, is_same_kind, is_same_type}
 use Rattle.pat_validity.specs.Demands.{Demand, Pass, Divide, uses_fit, polarities_join, is_used_well, drops_as, is_dropped_well, same_interface, one_interface, fit_by, inclusions_of, join_by}

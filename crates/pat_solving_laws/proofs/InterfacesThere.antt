@@ -1,29 +1,27 @@
 -- The interface of each constraint and of each variable that inference finds is one of the program's.
-use Rattle.std.proofs.Common.{◌≡◌, ℕ, zero, suc, ◌+◌, ◌<◌, ◌≤◌, true, false, not, nat_eq, if◌then◌else◌, List, [], ◌∷◌, ◌++◌, length, Option, Some, None, inl, inr, refl, sym, ap, ◌∙◌, subst, arith}
-use Rattle.std.specs.Prelude.{map, filter, slice_get, option_and_then, nat_lt, is_some}
-use Rattle.std.specs.List.{AllByRecursion, flat_map, list_any}
-use Rattle.std.specs.Map.{lookup, keys_of}
+use Rattle.std.proofs.Common.{◌≡◌, ℕ, zero, suc, ◌+◌, ◌<◌, true, false, not, nat_eq, if◌then◌else◌, List, [], ◌∷◌, ◌++◌, length, Option, Some, None, refl, sym, ap, ◌∙◌, subst, arith}
+use Rattle.std.specs.Prelude.{slice_get, option_and_then, nat_lt}
+use Rattle.std.specs.List.{AllByRecursion, list_any}
 use Rattle.std.proofs.lemmas.Bool.{cond_both, or_left, or_right, eq-eqb}
-use Rattle.pat_words.specs.Patterns.{Pat, One, Var, pat_eq, residual}
+use Rattle.pat_words.specs.Patterns.{Pat, Var}
 use Rattle.pat_model.specs.Values.{BaseUnit, Kind, Plain, MailboxOf, Expr, VarExpr, Literal, OpExpr}
-use Rattle.pat_model.specs.Programs.{Polarity, Sending, Receiving, TagDecl, Sort, BaseSort, MailboxSort, Function, Clause, Core, Val, Let, Call, If, Print, New, Send, Spawn, Guard, Node, Program, node_at, function_at, tag_at, kind_of, is_among, is_free, option_list, parts, clause_bodies, clause_uses}
-use Rattle.pat_model.specs.WellFormed.{WellFormed, IsPayload, IsSignature, ClauseKinds, CoreKinds, HasKind, IsPartOf}
-use Rattle.pat_model_laws.proofs.Lists.{all_at, all_join, is_in_all}
-use Rattle.pat_typing.specs.Types.{MailboxType, mailbox_type, TypeOf, BaseTerm, MailboxTerm, TypeEnv, no_types}
-use Rattle.pat_typing.specs.Typings.{param_usage, sort_type, result_of, payload_sort, payload_type}
+use Rattle.pat_model.specs.Programs.{Polarity, Sending, Receiving, TagDecl, Sort, BaseSort, MailboxSort, Function, Clause, Core, Val, Let, Call, If, Print, New, Send, Spawn, Guard, Node, Program, node_at, function_at, tag_at, is_among, is_free, option_list, parts, clause_bodies, clause_uses}
+use Rattle.pat_model.specs.WellFormed.{WellFormed, IsPayload, IsSignature, ClauseKinds, CoreKinds, IsPartOf}
+use Rattle.pat_model_laws.proofs.Lists.{all_at, all_join}
+use Rattle.pat_typing.specs.Types.{MailboxType, mailbox_type, TypeOf, BaseTerm, MailboxTerm, TypeEnv}
+use Rattle.pat_typing.specs.Typings.{sort_type, result_of, payload_sort, payload_type}
 use Rattle.pat_typing.specs.Holdings.{declared_types}
 use Rattle.pat_open_types.specs.NodeTypes.{Needs, need_of}
 use Rattle.pat_open_types.specs.Signatures.{Origin, OfParameter, OfResult, Variable, omitted, params_omitted, function_vars, functions_vars, signature_vars, number_at, result_number, first_number, open_param, open_result}
-use Rattle.pat_inference.specs.Constraints.{AtNode, AtName, Place, Constraint, Found, nothing_found}
+use Rattle.pat_inference.specs.Constraints.{AtName, Place, Constraint, Found, nothing_found}
 use Rattle.pat_inference.specs.Needs.{put, put_option, args_needs, needs_but, needs_second, names_of_two, Combined, just, vars_with, constraints_with, need_before, gather}
 use Rattle.pat_inference.specs.Binders.{Binder, name_constraints, binder_constraints, name_before, names_bound, param_names}
 use Rattle.pat_inference.specs.BothParts.{new_var, parts_joined, both_parts}
-use Rattle.pat_inference.specs.Branches.{Branch, Arm, arm_names, arm_needs, outer_needs, first_need, each_receives, received_in, branches_with, branches_by, branches, all_by, branch_usage, own_names}
+use Rattle.pat_inference.specs.Branches.{Branch, Arm, arm_names, arm_needs, outer_needs, first_need, each_receives, branches_with, branches_by, branches, all_by, branch_usage, own_names}
 use Rattle.pat_inference.specs.Walk.{Part, interface_of, kinds_of, var_interface, asked_as, asked_of, name_need, value_needs, new_found, result_constraints, call_found, send_found, spawn_found, body_needs, let_gathered, let_found, bound_found, Arms, walk_arms, two_branches, clause_branch, branches_of, arm_binders, guard_binders, arms_gathered, if_from, guard_from, core_found, node_found, walk, function_binders, walk_function, walk_functions, inferred, all_vars}
-use Rattle.pat_inference.specs.Shapes.{IsNumber}
 use Rattle.pat_inference_laws.proofs.SignatureLaws.{declared_payloads}
 use Rattle.pat_solving.specs.Laws.{InterfacesThere}
-use Rattle.pat_solving_laws.proofs.KindsThere.{There, pattern_there, tag_there, signature_there, payload_there, VarsThere, vars_down, first_down, body_down, then_down, else_down, spawn_down, free_down, clause_down, kind_there, body_vars}
+use Rattle.pat_solving_laws.proofs.KindsThere.{pattern_there, tag_there, signature_there, payload_there, VarsThere, first_down, body_down, then_down, else_down, spawn_down, free_down, clause_down, kind_there, body_vars}
 
 module _ (p : Program) where
   abbrev Ok : ℕ → Type 0

@@ -5,7 +5,7 @@ use Rattle.std.specs.List.{AllByRecursion, list_any}
 use Rattle.std.proofs.lemmas.Bool.{and_from, or_cases, or_left, or_right, eqb-true, eq-eqb, cases_Bool}
 use Rattle.std.proofs.lemmas.Option.{slice_get_within}
 use Rattle.pat_words.specs.Patterns.{Pat}
-use Rattle.pat_model.specs.Values.{BaseUnit, Kind, Plain, MailboxOf, Op, Expr, VarExpr, Literal, OpExpr, occurs, base_of}
+use Rattle.pat_model.specs.Values.{BaseUnit, Kind, Plain, MailboxOf, Expr, VarExpr, Literal, OpExpr, occurs, base_of}
 use Rattle.pat_model.specs.Programs.{Sending, Receiving, TagDecl, Interface, Sort, BaseSort, MailboxSort, Function, Clause, Core, Val, Let, Call, If, Print, New, Send, Spawn, Guard, Node, Program, node_at, function_at, tag_at, kind_of, is_among, is_free, option_list, parts, clause_bodies, clause_binders, clause_uses, core_uses, KindAt}
 use Rattle.pat_model.specs.WellFormed.{WellFormed, IsPatternOf, IsPayload, IsSignature, ClauseKinds, CoreKinds, HasKind, VarsHaveKinds, IsPartOf, expr_kind}
 use Rattle.pat_inference_laws.proofs.Facts.{free_here, here_kind, kind_here, kind_up}

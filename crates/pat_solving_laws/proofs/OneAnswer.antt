@@ -1,12 +1,11 @@
 -- Two answers that are both right are the same.
-use Rattle.std.proofs.Common.{◌≡◌, ℕ, zero, suc, ◌<◌, List, length, Some, inl, inr, ⊎_elim, refl, sym, ap, ◌∙◌, subst, arith}
+use Rattle.std.proofs.Common.{◌≡◌, ℕ, zero, suc, ◌<◌, List, length, Some, ⊎_elim, refl, sym, ap, ◌∙◌, subst, arith}
 use Rattle.pat_words.specs.Words.{Word}
 use Rattle.pat_model.specs.Programs.{Program}
-use Rattle.pat_model.specs.WellFormed.{WellFormed}
 use Rattle.pat_bounds.specs.Trees.{Bound}
 use Rattle.pat_inference.specs.Constraints.{Constraint}
 use Rattle.pat_solving.specs.Derived.{Form, Patterns, Grids}
-use Rattle.pat_solving.specs.Answers.{Answer, Unusable, TooLarge, Refuted, Undecided, Solved, HasNeither, IsUnusable, IsRefuted, IsTooLarge, IsUndecided, IsInBounds, FormIs, AllUsable, NoneTooLarge, NoneOpen, IsRight}
+use Rattle.pat_solving.specs.Answers.{Answer, Unusable, TooLarge, Refuted, Undecided, Solved, HasNeither, IsUnusable, IsRefuted, IsTooLarge, IsUndecided, IsInBounds, FormIs, AllUsable, NoneOpen, IsRight}
 use Rattle.pat_solving.specs.Laws.{AreThere, IsSame, OneAnswer}
 use Rattle.pat_solving_laws.proofs.InterfacesThere.{interfaces_there}
 

@@ -1,10 +1,10 @@
 -- What is solved: its values show all constraints, so it is a valid derivation; and just typable programs are solved.
-use Rattle.std.proofs.Common.{◌≡◌, ℕ, zero, suc, ◌+◌, ◌<◌, ◌≤◌, Bool, true, false, not, ◌&&◌, List, [], ◌∷◌, length, Some, None, ◌⊎◌, inl, inr, ⊎_elim, refl, sym, ap, ap₂, ◌∙◌, subst, arith}
-use Rattle.std.specs.Prelude.{map, slice_get, nat_lt, Option, IsTrue}
+use Rattle.std.proofs.Common.{◌≡◌, ℕ, zero, suc, ◌+◌, ◌<◌, Bool, true, false, ◌&&◌, List, [], ◌∷◌, length, Some, None, inl, inr, ⊎_elim, refl, sym, ap, ap₂, ◌∙◌, subst, arith}
+use Rattle.std.specs.Prelude.{map, slice_get, nat_lt, Option}
 use Rattle.std.specs.List.{AllByRecursion, list_all}
-use Rattle.std.proofs.lemmas.Bool.{and_from, cases_Bool, lt-ltb}
+use Rattle.std.proofs.lemmas.Bool.{and_from, lt-ltb}
 use Rattle.pat_words.specs.Words.{Word}
-use Rattle.pat_words.specs.Patterns.{Pat, Zero, One, Tag, Sum, Prod, Star, Var, Language, In, is_closed, sum_of, prod_of, star_of, subst_of}
+use Rattle.pat_words.specs.Patterns.{Pat, Zero, One, Tag, Sum, Prod, Star, Var, In, is_closed, sum_of, prod_of, star_of, subst_of}
 use Rattle.pat_words.specs.Tags.{tags_below}
 use Rattle.pat_model.specs.Programs.{Program, Polarity, Sending, Receiving, Interface}
 use Rattle.pat_model.specs.Faults.{IsIn}
@@ -12,8 +12,7 @@ use Rattle.pat_model.specs.WellFormed.{WellFormed, InterfaceFits}
 use Rattle.pat_model_laws.proofs.Lists.{all_at}
 use Rattle.pat_typing.specs.Typings.{HasWord, IsTypable}
 use Rattle.pat_inclusions.specs.Points.{points_fit}
-use Rattle.pat_inclusions.specs.Values.{VarValue, PatternForm, GridForm, VarLine, Scope, var_at, line_pattern, pattern_of, value_fits, values_fit}
-use Rattle.pat_bounds.specs.Searches.{IsInside}
+use Rattle.pat_inclusions.specs.Values.{VarLine, Scope, var_at, line_pattern, pattern_of, value_fits, values_fit}
 use Rattle.pat_bounds_laws.specs.Laws.{GridSolvesLaw}
 use Rattle.pat_open_types.specs.Signatures.{Variable, signature_vars}
 use Rattle.pat_validity.specs.Derivations.{tag_count}
@@ -21,7 +20,6 @@ use Rattle.pat_inference.specs.Constraints.{Constraint}
 use Rattle.pat_inference.specs.Walk.{inferred, all_vars}
 use Rattle.pat_inference.specs.Solutions.{IsPatternSolution, SendersHaveWords}
 use Rattle.pat_inference.specs.Shapes.{PatternFits, ConstraintFits, IsNumber}
-use Rattle.pat_solving.specs.LowerBounds.{lowers_of}
 use Rattle.pat_solving.specs.Assignments.{value_in, assignment_fits, vars_in}
 use Rattle.pat_solving.specs.Derived.{Form, Patterns, Grids, HasForm, IsCovered, SidesShown, ConstraintShown, ValuesShow, scope_by}
 use Rattle.pat_solving.specs.Answers.{Answer, Unusable, TooLarge, Refuted, Undecided, Solved, tags_of, constraints_of, values_of, IsSmall, IsConstraint, HasGrids, IsUndecided, FormIs, value_by, values_from, solution, IsRight}

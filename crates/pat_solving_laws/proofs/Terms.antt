@@ -8,11 +8,11 @@ use Rattle.pat_words.specs.Patterns.{Pat, One, Tag, Prod, prod_of, residual, is_
 use Rattle.pat_model.specs.Values.{Kind, Plain, MailboxOf, Expr, VarExpr, Literal, OpExpr}
 use Rattle.pat_model.specs.Programs.{Program, Sending, Receiving, TagDecl, Function, Clause, Val, Call, New, Send, Guard, function_at, tag_at}
 use Rattle.pat_model.specs.WellFormed.{WellFormed}
-use Rattle.pat_typing.specs.Types.{Second, Returnable, MailboxType, TypeOf, BaseTerm, MailboxTerm, kind_of_type, mailbox_type, Fits, TypeFits, PassesTo, SplitsTo, TypeEnv, EnvPasses, EnvSplits, no_types, with_type, without, returnable}
+use Rattle.pat_typing.specs.Types.{Second, Returnable, MailboxType, TypeOf, BaseTerm, MailboxTerm, kind_of_type, mailbox_type, Fits, TypeFits, PassesTo, TypeEnv, EnvPasses, EnvSplits, no_types, with_type, without, returnable}
 use Rattle.pat_typing.specs.Typings.{Typing, param_type, result_type, payload_type, args_need, mailbox_args, with_payloads, clause_env, NamePasses, without_name, name_type, ClauseTyped, GuardTyped, CoreTyped}
 use Rattle.pat_inclusions.specs.Values.{VarLine, Scope, pattern_of, filled, is_formed}
 use Rattle.pat_inclusions.specs.Certificates.{Cert}
-use Rattle.pat_open_types.specs.NodeTypes.{need_of, type_under, result_under}
+use Rattle.pat_open_types.specs.NodeTypes.{need_of, result_under}
 use Rattle.pat_open_types.specs.Signatures.{Variable}
 use Rattle.pat_validity.specs.Derivations.{Line, Derivation, line_at, written_typing}
 use Rattle.pat_validity.specs.Same.{is_same_type}
@@ -27,7 +27,7 @@ use Rattle.pat_inference.specs.Solutions.{typing_open, typing_found}
 use Rattle.pat_inference.specs.Inclusions.{Shows, PassShown, EnvShown, SplitShown, ResultShown, NewShown, ValueShown, ClauseShown, CoreShown}
 use Rattle.pat_solving.specs.Derived.{found_line, derivation_with, scope_by}
 use Rattle.pat_solving_laws.proofs.Good.{Good, EnvFormed, same_type, drop_test, pass_good, divide_good, passes_good, divides_good, all_join}
-use Rattle.pat_solving_laws.proofs.Ties.{line_there, line_is, env_is, type_is, open_env}
+use Rattle.pat_solving_laws.proofs.Ties.{line_is, env_is, type_is, open_env}
 use Rattle.pat_solving_laws.proofs.Formed.{FormedType, formed_prod, formed_none, formed_some, formed_type, formed_without, formed_without_name, formed_args, formed_clause, formed_returnable, formed_declared, formed_params, formed_gives}
 
 -- the types of each found node are of their interfaces

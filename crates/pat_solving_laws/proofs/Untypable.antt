@@ -12,7 +12,7 @@ use Rattle.pat_model.specs.WellFormed.{WellFormed}
 use Rattle.pat_model_laws.proofs.Lists.{is_in_all}
 use Rattle.pat_typing.specs.Typings.{IsTypable}
 use Rattle.pat_typing_laws.specs.Laws.{BoundIsUnnamed}
-use Rattle.pat_bounds.specs.Trees.{Shows, Derivable}
+use Rattle.pat_bounds.specs.Trees.{Derivable}
 use Rattle.pat_bounds.specs.Assignments.{with_left, with_lefts, Meets}
 use Rattle.pat_bounds_laws.proofs.TreeLaws.{shown_under}
 use Rattle.pat_inference.specs.Constraints.{Constraint}

@@ -1,5 +1,5 @@
 -- A derivation that is made of what inference finds breaks no rule.
-use Rattle.std.proofs.Common.{◌≡◌, ℕ, ◌+◌, ◌<◌, ◌≤◌, Bool, true, false, not, ◌&&◌, nat_eq, List, [], ◌∷◌, ◌++◌, length, Option, Some, None, ◌⊎◌, inl, inr, ⊎_elim, refl, sym, ap, ◌∙◌, subst, arith}
+use Rattle.std.proofs.Common.{◌≡◌, ℕ, ◌<◌, ◌≤◌, Bool, true, false, not, ◌&&◌, nat_eq, List, [], ◌∷◌, ◌++◌, length, Option, Some, None, ◌⊎◌, ⊎_elim, refl, sym, ap, ◌∙◌, subst, arith}
 use Rattle.std.specs.Prelude.{map, option_and_then, slice_get, nat_lt, nat_le, IsTrue, is_some}
 use Rattle.std.specs.List.{AllByRecursion, IsDistinct, list_all, range_with_len}
 use Rattle.std.specs.Map.{keys_of}
@@ -13,12 +13,12 @@ use Rattle.pat_model_laws.proofs.Lists.{all_at}
 use Rattle.pat_typing.specs.Types.{Second, MailboxType, TypeOf, BaseTerm, MailboxTerm, kind_of_type, mailbox_type, PassesTo, TypeEnv, EnvPasses}
 use Rattle.pat_typing.specs.Typings.{Typing, result_of, param_type, result_type, payload_type, args_need, mailbox_args, HasWord, TypeHasWord, HasMailboxPayload, NamePasses, name_type, ClauseTyped, CoreTyped, NodeTyped, FunctionTyped, IsTyping}
 use Rattle.pat_inclusions.specs.Values.{VarLine, Scope, pattern_of, filled, replaced, is_formed, values_fit}
-use Rattle.pat_inclusions.specs.Certificates.{Cert, are_shown}
+use Rattle.pat_inclusions.specs.Certificates.{Cert}
 use Rattle.pat_open_types.specs.NodeTypes.{Needs, need_of, NodeType, type_under, need_under, result_under}
 use Rattle.pat_open_types.specs.Signatures.{Variable, signature_vars, result_number, first_number}
 use Rattle.pat_open_types.specs.Typings.{result_pattern_open}
 use Rattle.pat_validity.specs.Same.{is_same_kind, is_same_type, is_mailbox_of}
-use Rattle.pat_validity.specs.Derivations.{Line, Derivation, line_at, ascends_from, tag_count, scope_of, written_typing}
+use Rattle.pat_validity.specs.Derivations.{Line, Derivation, line_at, ascends_from, tag_count, written_typing}
 use Rattle.pat_validity.specs.Scopes.{is_in_scope, kind_at}
 use Rattle.pat_validity.specs.Demands.{Demand, as_term}
 use Rattle.pat_validity.specs.Conditions.{Place, is_first, first_demands, term_demands, demands, then_others, passes}
