@@ -1,26 +1,23 @@
 -- What is read of lines is the text of the derivation.
-use Rattle.std.proofs.Common.{◌≡◌, ℕ, zero, suc, ◌+◌, ◌==◌, Bool, true, false, List, [], ◌∷◌, ◌++◌, length, map, take, drop, refl, sym, ap, ◌∙◌, subst, arith, if◌then◌else◌, append_assoc, append-nil}
-use Rattle.std.specs.Prelude.{Option, Some, None, option_map, option_and_then, slice_get, codes, replicate, nat_eq, nat_le, ◌&&◌}
+use Rattle.std.proofs.Common.{◌≡◌, ℕ, suc, ◌+◌, List, [], ◌∷◌, ◌++◌, length, map, take, drop, refl, sym, ap, ◌∙◌, subst, arith, append_assoc, append-nil}
+use Rattle.std.specs.Prelude.{Option, Some, None, option_map, option_and_then, codes, replicate, nat_eq, nat_le, ◌&&◌}
 use Rattle.std.specs.List.{flat_map}
 use Rattle.std.specs.Fmt.{decimal}
 use Rattle.std.proofs.lemmas.Bool.{eqb-true, and_parts}
-use Rattle.pat_words.specs.Patterns.{Pat, is_closed}
+use Rattle.pat_words.specs.Patterns.{is_closed}
 use Rattle.pat_model.specs.Programs.{Program}
-use Rattle.pat_typing.specs.Types.{TypeOf}
 use Rattle.pat_inclusions.specs.Points.{points_fit}
 use Rattle.pat_inclusions.specs.Values.{VarValue, PatternForm, GridForm, VarLine}
-use Rattle.pat_inclusions.specs.Certificates.{Cert}
-use Rattle.pat_open_types.specs.NodeTypes.{Needs}
 use Rattle.pat_validity.specs.Derivations.{Line, Derivation}
 use Rattle.pat_pattern_text.specs.Numbers.{read_number}
 use Rattle.pat_pattern_text.specs.PatternReading.{read_pattern, behind}
-use Rattle.pat_pattern_text_laws.proofs.Choices.{taken, Made, made, made_next}
+use Rattle.pat_pattern_text_laws.proofs.Choices.{taken, made, made_next}
 use Rattle.pat_pattern_text_laws.proofs.Decimals.{number_spelled}
 use Rattle.pat_pattern_text_laws.proofs.Spelled.{pattern_spelled, behind_is}
 use Rattle.pat_derivation_text.specs.Joined.{joined, cut, pieces, read_each, before}
-use Rattle.pat_derivation_text.specs.DerivationText.{interface_name, tag_names, tags_named, type_text, needs_text, certs_text, numbers_text, point_text, value_text, var_body, var_line, node_body, node_line, numbered, marker, derivation_lines, text_of_lines, derivation_text}
-use Rattle.pat_derivation_text.specs.LineReading.{found, read_type, read_needs, read_certs, read_numbers, point_of, read_point, grid_with, grid_of, closed_value, read_closed, value_by, read_value, var_in, var_named, if_numbered, behind_number, read_var, node_with, node_of, read_node, var_by, with_var, with_node, line_by, with_line}
-use Rattle.pat_derivation_text.specs.Reading.{ReadsTo, ReadsAs, first, another, no_lines}
+use Rattle.pat_derivation_text.specs.DerivationText.{interface_name, type_text, needs_text, numbers_text, point_text, value_text, var_line, node_line, numbered, marker, text_of_lines, derivation_text}
+use Rattle.pat_derivation_text.specs.LineReading.{found, read_type, read_needs, read_certs, read_numbers, point_of, read_point, grid_with, grid_of, closed_value, value_by, read_value, var_in, var_named, if_numbered, behind_number, read_var, node_with, node_of, read_node, var_by, with_node, line_by, with_line}
+use Rattle.pat_derivation_text.specs.Reading.{ReadsTo, ReadsAs, first, another}
 use Rattle.pat_derivation_text_laws.proofs.LinesSpelled.{cut_is, before_is, joined_pieces, each_is, numbers_is}
 use Rattle.pat_derivation_text_laws.proofs.TypesSpelled.{found_is, type_is, needs_is, certs_are}
 
@@ -40,7 +37,7 @@ point_is n bytes q e =
     subst (λ q. bytes ≡ point_text n q) same
     (numbers_is bytes cs m.there ∙ ap numbers_text (sym (taken_front cs (drop n (replicate 32 0)))) ∙ ap (λ j. numbers_text (take j (cs ++ drop n (replicate 32 0)))) long)
 
-behind_spaces : (n : ℕ) (points : List (List ℕ)) → flat_map (λ y. 32 ∷ y) (map (point_text n) points) ≡ flat_map (λ q. 32 ∷ point_text n q) points
+pub behind_spaces : (n : ℕ) (points : List (List ℕ)) → flat_map (λ y. 32 ∷ y) (map (point_text n) points) ≡ flat_map (λ q. 32 ∷ point_text n q) points
 behind_spaces n [] = refl
 behind_spaces n (q ∷ qs) = ap (λ l. (32 ∷ point_text n q) ++ l) (behind_spaces n qs)
 
@@ -123,7 +120,7 @@ lines_append [] ys = refl
 lines_append (x ∷ xs) ys = ap (λ l. (x ++ 10 ∷ []) ++ l) (lines_append xs ys) ∙ sym (append_assoc (x ++ 10 ∷ []) (text_of_lines xs) (text_of_lines ys))
 
 -- the text of a derivation by its parts
-parts : (p : Program) (d : Derivation) → derivation_text p d ≡ (marker ++ 10 ∷ []) ++ (text_of_lines (numbered (var_line p) 1 d.vars) ++ text_of_lines (numbered (node_line p) 0 d.lines))
+pub parts : (p : Program) (d : Derivation) → derivation_text p d ≡ (marker ++ 10 ∷ []) ++ (text_of_lines (numbered (var_line p) 1 d.vars) ++ text_of_lines (numbered (node_line p) 0 d.lines))
 parts p d = ap (λ l. (marker ++ 10 ∷ []) ++ l) (lines_append (numbered (var_line p) 1 d.vars) (numbered (node_line p) 0 d.lines))
 
 line_is : (p : Program) (d e : Derivation) (line : List ℕ) → with_line p d line ≡ Some e → derivation_text p e ≡ derivation_text p d ++ (line ++ 10 ∷ [])

@@ -1,26 +1,20 @@
 -- What is read of a line is its text.
-use Rattle.std.proofs.Common.{◌≡◌, ℕ, zero, suc, ◌+◌, ◌-◌, ◌<◌, ◌≤◌, ◌==◌, Bool, true, false, List, [], ◌∷◌, ◌++◌, length, map, take, drop, refl, sym, ap, ◌∙◌, subst, arith, if◌then◌else◌, append_assoc, append-nil}
-use Rattle.std.specs.Prelude.{Option, Some, None, option_map, option_and_then, bytes_eq, slice_get, slice_index_or, codes, replicate, nat_eq, nat_le, ◌&&◌}
-use Rattle.std.specs.List.{flat_map}
+use Rattle.std.proofs.Common.{◌≡◌, ℕ, ◌-◌, ◌==◌, Bool, true, false, List, [], ◌∷◌, ◌++◌, length, map, take, drop, refl, sym, ap, ◌∙◌, subst, if◌then◌else◌}
+use Rattle.std.specs.Prelude.{Option, Some, None, option_map, option_and_then, bytes_eq, codes}
 use Rattle.std.specs.Fmt.{decimal}
-use Rattle.std.proofs.lemmas.Bool.{eqb-true, and_parts}
+use Rattle.std.proofs.lemmas.Bool.{eqb-true}
 use Rattle.std.proofs.lemmas.List.{take-append-drop}
 use Rattle.std.proofs.lemmas.Slice.Eq.{bytes_eq-Decides}
-use Rattle.pat_words.specs.Patterns.{Pat}
-use Rattle.pat_model.specs.Values.{Base, BaseUnit, BaseBool, BaseInt, BaseText}
-use Rattle.pat_model.specs.Programs.{Polarity, Sending, Receiving, Interface, Program}
-use Rattle.pat_typing.specs.Types.{Usage, Second, Returnable, MailboxType, mailbox_type, TypeOf, BaseTerm, MailboxTerm}
 use Rattle.pat_inclusions.specs.Covers.{CoverEntry}
 use Rattle.pat_inclusions.specs.Certificates.{Cert, CoverCert, GridCert}
 use Rattle.pat_pattern_text.specs.Numbers.{read_number}
-use Rattle.pat_pattern_text.specs.PatternText.{pat_text}
-use Rattle.pat_pattern_text.specs.PatternReading.{read_pattern, behind}
-use Rattle.pat_pattern_text_laws.proofs.Choices.{taken, Made, made, made_next}
+use Rattle.pat_pattern_text.specs.PatternReading.{behind}
+use Rattle.pat_pattern_text_laws.proofs.Choices.{taken, made, made_next}
 use Rattle.pat_pattern_text_laws.proofs.Decimals.{number_spelled}
-use Rattle.pat_pattern_text_laws.proofs.Spelled.{pattern_spelled, behind_is}
+use Rattle.pat_pattern_text_laws.proofs.Spelled.{behind_is}
 use Rattle.pat_derivation_text.specs.Joined.{joined, cut, pieces, with_first, read_each, read_joined, before}
-use Rattle.pat_derivation_text.specs.DerivationText.{interface_names, interface_name, tags_named, tag_names, base_word, polarity_mark, mailbox_text, type_text, usage_word, named_text, needs_text, numbers_text, entry_text, cert_text, certs_text}
-use Rattle.pat_derivation_text.specs.LineReading.{cut_polarity, found, mailbox_in, mailbox_of, read_mailbox, read_base, read_type, cut_usage, used_mailbox, read_used, named_in, named_of, read_named, read_next, read_all, if_ascending, read_needs, read_numbers, entry_with, entry_of, read_entry, read_cover, cert_by, read_cert, read_certs}
+use Rattle.pat_derivation_text.specs.DerivationText.{numbers_text, entry_text, cert_text}
+use Rattle.pat_derivation_text.specs.LineReading.{read_numbers, entry_with, entry_of, read_entry, cert_by, read_cert}
 use Rattle.pat_derivation_text_laws.proofs.Cutting.{CutInPieces, cut_pieces}
 
 -- ---- cuts

@@ -1,5 +1,5 @@
 -- What is read of a type, of an environment and of certificates is its text.
-use Rattle.std.proofs.Common.{◌≡◌, ℕ, zero, suc, ◌==◌, Bool, true, false, List, [], ◌∷◌, ◌++◌, map, refl, sym, ap, ◌∙◌, subst, if◌then◌else◌, append_assoc}
+use Rattle.std.proofs.Common.{◌≡◌, ℕ, zero, suc, ◌==◌, Bool, true, false, List, [], ◌∷◌, ◌++◌, map, refl, sym, ap, ◌∙◌, subst, if◌then◌else◌}
 use Rattle.std.specs.Prelude.{Option, Some, None, option_map, option_and_then, bytes_eq, slice_get, slice_index_or, codes}
 use Rattle.std.specs.List.{flat_map}
 use Rattle.std.specs.Fmt.{decimal}
@@ -15,11 +15,11 @@ use Rattle.pat_validity.specs.Derivations.{ascends_from}
 use Rattle.pat_pattern_text.specs.Numbers.{read_number}
 use Rattle.pat_pattern_text.specs.PatternText.{pat_text}
 use Rattle.pat_pattern_text.specs.PatternReading.{read_pattern, behind}
-use Rattle.pat_pattern_text_laws.proofs.Choices.{taken, Made, made, made_next}
+use Rattle.pat_pattern_text_laws.proofs.Choices.{taken, made, made_next}
 use Rattle.pat_pattern_text_laws.proofs.Decimals.{number_spelled}
 use Rattle.pat_pattern_text_laws.proofs.Spelled.{pattern_spelled, behind_is}
 use Rattle.pat_derivation_text.specs.Joined.{joined, cut, pieces, read_each, before}
-use Rattle.pat_derivation_text.specs.DerivationText.{interface_name, tags_named, tag_names, base_word, polarity_mark, mailbox_text, type_text, usage_word, named_text, needs_text, cert_text, certs_text}
+use Rattle.pat_derivation_text.specs.DerivationText.{tags_named, base_word, polarity_mark, mailbox_text, type_text, usage_word, named_text, needs_text, cert_text, certs_text}
 use Rattle.pat_derivation_text.specs.LineReading.{cut_polarity, found, mailbox_in, mailbox_of, read_mailbox, read_base, type_by, read_type, usage_by, cut_usage, used_mailbox, read_used, named_in, named_of, read_named, read_next, read_all, if_ascending, read_needs, read_cert, read_certs}
 use Rattle.pat_derivation_text_laws.proofs.LinesSpelled.{cut_is, before_is, joined_pieces, some_piece, each_is, cert_is}
 
@@ -149,7 +149,7 @@ needs_is p (b ∷ bs) es e =
     let same : m.from ≡ es = cc in
     sym (joined_pieces 44 (b ∷ bs)) ∙ all_is p (pieces 44 (b ∷ bs)) m.from m.there ∙ ap (needs_text p) same
 
-spaced : (certs : List Cert) → flat_map (λ y. 32 ∷ y) (map cert_text certs) ≡ certs_text certs
+pub spaced : (certs : List Cert) → flat_map (λ y. 32 ∷ y) (map cert_text certs) ≡ certs_text certs
 spaced [] = refl
 spaced (c ∷ cs) = ap (λ l. (32 ∷ cert_text c) ++ l) (spaced cs)
 

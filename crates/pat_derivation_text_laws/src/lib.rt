@@ -1,9 +1,26 @@
-// That what a text is read as has this text. No code of the product.
+// That the text of a derivation is read as this derivation, and that what a text is read as has this text. No code of the product.
 #![tactic(auto)]
 
-ghost use Rattle.pat_derivation_text_laws.specs.Laws.{ReadIsText};
+ghost use Rattle.pat_derivation_text_laws.specs.Laws.{ReadIsText, ReadingIsOne, TextIsRead, TextIsOne, UnreadIsFirst};
+
+use pat_pattern_text_laws::pattern_text_laws;
 
 /// What a text is read as has this text.
 pub fn read_is_text_law()
     ensures { ReadIsText }
 {}
+
+/// A text is read as one derivation at most.
+pub fn reading_is_one_law()
+    ensures { ReadingIsOne }
+{}
+
+/// For a resolved program the text of each derivation that a reader takes is read as this derivation. So no two of them have one text, and
+/// where a line isn't read, no text of theirs goes beyond its beginning.
+pub fn text_is_read_law()
+    ensures read { TextIsRead }
+    ensures one { TextIsOne }
+    ensures first { UnreadIsFirst }
+{
+    pattern_text_laws();
+}

@@ -1,0 +1,26 @@
+-- For a resolved program the text of each derivation that a reader takes is read as it.
+use Rattle.std.proofs.Common.{◌≡◌, ℕ, ◌≤◌, true, List, [], ◌++◌, length, sym, subst, append-nil}
+use Rattle.pat_model.specs.Programs.{Program}
+use Rattle.pat_names.specs.Places.{Places}
+use Rattle.pat_names.specs.Resolved.{IsResolved}
+use Rattle.pat_validity.specs.Derivations.{Derivation}
+use Rattle.pat_pattern_text_laws.specs.Laws.{PatternIsRead}
+use Rattle.pat_derivation_text.specs.DerivationText.{derivation_text}
+use Rattle.pat_derivation_text.specs.Reading.{ReadsTo, ReadsAs, Unread}
+use Rattle.pat_derivation_text_laws.specs.Readable.{can_be_read}
+use Rattle.pat_derivation_text_laws.proofs.LinesRead.{text_reads}
+use Rattle.pat_derivation_text_laws.proofs.Naming.{names_fit}
+use Rattle.pat_derivation_text_laws.proofs.Ways.{reads_one, reads_before}
+
+module _ (pattern_read : PatternIsRead) (p : Program) (q : Places) (r : IsResolved p q) where
+  front_read : (d : Derivation) → can_be_read p d ≡ true → (rest : List ℕ) → ReadsTo p (derivation_text p d ++ rest) d rest
+  front_read = text_reads pattern_read p (names_fit p r.well_formed r.named)
+
+  pub text_is_read : (d : Derivation) → can_be_read p d ≡ true → ReadsAs p (derivation_text p d) d
+  text_is_read d h = subst (λ t. ReadsTo p t d []) (append-nil (derivation_text p d)) (front_read d h [])
+
+  pub text_is_one : (d e : Derivation) → can_be_read p d ≡ true → can_be_read p e ≡ true → derivation_text p d ≡ derivation_text p e → d ≡ e
+  text_is_one d e h k same = reads_one p (derivation_text p e) d e (subst (λ t. ReadsAs p t d) same (text_is_read d h)) (text_is_read e k)
+
+  pub unread_is_first : (text : List ℕ) (offset : ℕ) → Unread p text offset → (d : Derivation) (rest : List ℕ) → can_be_read p d ≡ true → text ≡ derivation_text p d ++ rest → length (derivation_text p d) ≤ offset
+  unread_is_first text offset u d rest h same = reads_before p text offset u d rest (subst (λ t. ReadsTo p t d rest) (sym same) (front_read d h rest))
