@@ -9,7 +9,8 @@ use Rattle.pat_derivation_text.specs.DerivationText.{derivation_text}
 use Rattle.pat_derivation_text.specs.Reading.{ReadsTo, ReadsAs, Unread}
 use Rattle.pat_derivation_text_laws.specs.Readable.{can_be_read}
 use Rattle.pat_derivation_text_laws.proofs.LinesRead.{text_reads}
-use Rattle.pat_derivation_text_laws.proofs.Naming.{names_fit}
+use Rattle.pat_derivation_text_laws.proofs.Naming.{have_tags, names_fit}
+use Rattle.pat_derivation_text_laws.proofs.Sound.{reads_readable}
 use Rattle.pat_derivation_text_laws.proofs.Ways.{reads_one, reads_before}
 
 module _ (pattern_read : PatternIsRead) (p : Program) (q : Places) (r : IsResolved p q) where
@@ -24,3 +25,7 @@ module _ (pattern_read : PatternIsRead) (p : Program) (q : Places) (r : IsResolv
 
   pub unread_is_first : (text : List ℕ) (offset : ℕ) → Unread p text offset → (d : Derivation) (rest : List ℕ) → can_be_read p d ≡ true → text ≡ derivation_text p d ++ rest → length (derivation_text p d) ≤ offset
   unread_is_first text offset u d rest h same = reads_before p text offset u d rest (subst (λ t. ReadsTo p t d rest) (sym same) (front_read d h rest))
+
+-- what is read of a text, up to any line, is a derivation that a reader takes
+pub read_is_readable : (p : Program) (q : Places) → IsResolved p q → (text : List ℕ) (d : Derivation) (rest : List ℕ) → ReadsTo p text d rest → can_be_read p d ≡ true
+read_is_readable p q r = reads_readable p (have_tags p p.interfaces r.well_formed.interfaces)

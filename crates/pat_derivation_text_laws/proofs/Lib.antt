@@ -6,6 +6,7 @@ mod Exact
 mod LinesRead
 mod LinesSpelled
 mod Naming
+mod Sound
 mod TypesRead
 mod TypesSpelled
 mod Ways

@@ -193,3 +193,9 @@ names_fit p w n =
       inner = λ k. (tags k).inner;
       few = λ k. (tags k).few;
     }
+
+-- an interface that is there has a tag
+pub have_tags : (p : Program) (is : List Interface) → AllByRecursion (InterfaceFits p) is → (k : ℕ) → k < length is → 0 < length (tags_named (slice_get is k))
+have_tags p [] a k l = absurd (omega (arith, l))
+have_tags p (i ∷ is) a zero l = let some = a.0.some in omega (arith, some, length-map i.tags (λ t. t.name))
+have_tags p (i ∷ is) a (suc k) l = have_tags p is a.1 k (omega (arith, l))

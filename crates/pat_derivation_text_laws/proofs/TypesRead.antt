@@ -126,7 +126,7 @@ pattern_inner names n (Prod e f) h =
     let k = and_parts (has_numbers e) (has_numbers f) h in
     all_append is_inner (enclosed (is_sum e) (pat_text names e)) (46 ∷ enclosed (is_sum_or_product f) (pat_text names f)) (enclosed_inner (is_sum e) (pat_text names e) (pattern_inner names n e k.0)) (enclosed_inner (is_sum_or_product f) (pat_text names f) (pattern_inner names n f k.1))
 
-numbers_same : (e : Pat) → numbers_fit e ≡ has_numbers e
+pub numbers_same : (e : Pat) → numbers_fit e ≡ has_numbers e
 numbers_same Zero = refl
 numbers_same One = refl
 numbers_same (Tag m) = refl

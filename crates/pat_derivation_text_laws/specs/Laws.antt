@@ -5,7 +5,7 @@ use Rattle.pat_names.specs.Places.{Places}
 use Rattle.pat_names.specs.Resolved.{IsResolved}
 use Rattle.pat_validity.specs.Derivations.{Derivation}
 use Rattle.pat_derivation_text.specs.DerivationText.{derivation_text}
-use Rattle.pat_derivation_text.specs.Reading.{ReadsAs, Unread}
+use Rattle.pat_derivation_text.specs.Reading.{ReadsTo, ReadsAs, Unread}
 use Rattle.pat_derivation_text_laws.specs.Readable.{can_be_read}
 
 -- what a text is read as has this text
@@ -20,7 +20,11 @@ ReadingIsOne = (p : Program) (text : List ℕ) (d e : Derivation) → ReadsAs p 
 abbrev pub TextIsRead : Type 0
 TextIsRead = (p : Program) (q : Places) → IsResolved p q → (d : Derivation) → can_be_read p d ≡ true → ReadsAs p (derivation_text p d) d
 
--- so no two of them have one text
+-- and what is read of a text, up to any line, is one that a reader takes
+abbrev pub ReadIsReadable : Type 0
+ReadIsReadable = (p : Program) (q : Places) → IsResolved p q → (text : List ℕ) (d : Derivation) (rest : List ℕ) → ReadsTo p text d rest → can_be_read p d ≡ true
+
+-- no two of them have one text
 abbrev pub TextIsOne : Type 0
 TextIsOne =
     (p : Program) (q : Places) → IsResolved p q → (d e : Derivation) → can_be_read p d ≡ true → can_be_read p e ≡ true → derivation_text p d ≡ derivation_text p e → d ≡ e

@@ -1,7 +1,7 @@
 // That the text of a derivation is read as this derivation, and that what a text is read as has this text. No code of the product.
 #![tactic(auto)]
 
-ghost use Rattle.pat_derivation_text_laws.specs.Laws.{ReadIsText, ReadingIsOne, TextIsRead, TextIsOne, UnreadIsFirst};
+ghost use Rattle.pat_derivation_text_laws.specs.Laws.{ReadIsText, ReadingIsOne, ReadIsReadable, TextIsRead, TextIsOne, UnreadIsFirst};
 
 use pat_pattern_text_laws::pattern_text_laws;
 
@@ -15,10 +15,11 @@ pub fn reading_is_one_law()
     ensures { ReadingIsOne }
 {}
 
-/// For a resolved program the text of each derivation that a reader takes is read as this derivation. So no two of them have one text, and
-/// where a line isn't read, no text of theirs goes beyond its beginning.
+/// For a resolved program the text of each derivation that a reader takes is read as this derivation, and nothing else is read, up to any
+/// line. So no two of them have one text, and where a line isn't read, no text of theirs goes beyond its beginning.
 pub fn text_is_read_law()
     ensures read { TextIsRead }
+    ensures only { ReadIsReadable }
     ensures one { TextIsOne }
     ensures first { UnreadIsFirst }
 {
