@@ -1,0 +1,8 @@
+use Rattle.std.proofs.Common.{ℕ, ◌<◌}
+use Rattle.pat_grid_tables.specs.Views.{setting_of}
+use Rattle.pat_certs_searches.specs.Readings.{IsMissing}
+use Rattle.pat_certs_searches.proofs.reading.find_missing.Given as goal
+
+abbrev pub invariant-loop-number : goal.invariant-loop-number
+invariant-loop-number l =
+    (c : ℕ) → c < l.number → IsMissing (setting_of l.board) l.entries l.left l.right l.most c → ⊥
