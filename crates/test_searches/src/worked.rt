@@ -1,0 +1,170 @@
+// Worked rows, with answers by hand. A pattern is spelled with its parts first: `mn.` is m.n, `mn+` is m + n, and `m*` is
+// *m; `$` is the one variable.
+ghost use Rattle.std.specs.Prelude.{◌≡◌, ◌^◌, ◌-◌, min, IsTrue};
+ghost use Rattle.pat_words.specs.Flats.{degree_of};
+ghost use Rattle.pat_patterns.specs.Views.{pattern_view};
+ghost use Rattle.pat_inclusions.specs.Points.{grid_fits};
+
+use pat_certs_searches::refute;
+use pat_certs_trees::Search;
+use pat_grid_symbols::has_tags;
+use pat_patterns::Pattern;
+use pat_residuals::is_flat;
+use std::alloc::{AllocError, Global};
+use std::process::Abort;
+use std::test::Fail;
+
+/// What is found: no word, a word of so many m and n, or only trees that are too large.
+#[derive(Clone, Copy)]
+enum Want {
+    Inside,
+    Word(u32, u32),
+    Large,
+}
+
+/// The pattern that is spelled so.
+fn pattern(alloc: Global, text: &str) -> Result<Pattern, AllocError> {
+    let mut done = Vec::new(alloc);
+    for letter in text.bytes() {
+        let right = match letter {
+            b'+' | b'.' => take(&mut done),
+            _ => Pattern::Zero,
+        };
+        let node = match letter {
+            b'1' => Pattern::One,
+            b'm' => Pattern::Tag(0),
+            b'n' => Pattern::Tag(1),
+            b'$' => Pattern::Var(0),
+            b'+' => Pattern::Sum(Box::new(alloc, take(&mut done))?, Box::new(alloc, right)?),
+            b'.' => Pattern::Prod(Box::new(alloc, take(&mut done))?, Box::new(alloc, right)?),
+            b'*' => Pattern::Star(Box::new(alloc, take(&mut done))?),
+            _ => Pattern::Zero,
+        };
+        done.push(node)?;
+    }
+    Ok(take(&mut done))
+}
+
+fn take(done: &mut Vec<Pattern>) -> Pattern {
+    done.pop().unwrap_or(Pattern::Zero)
+}
+
+/// So many m at most.
+fn at_most(alloc: Global, count: u32) -> Result<Pattern, AllocError> {
+    let mut all = Pattern::One;
+    for _ in 0..count {
+        let one = pattern(alloc, "1m+")?;
+        all = Pattern::Prod(Box::new(alloc, all)?, Box::new(alloc, one)?);
+    }
+    Ok(all)
+}
+
+/// The degree of the pattern, up to `u32::MAX`.
+fn degree_within(p: &Pattern) -> u32
+    ensures { result ≡ min (degree_of (pattern_view p.now)) (2 ^ 32 - 1) }
+{
+    match p {
+        Pattern::Zero | Pattern::One | Pattern::Star(_) | Pattern::Var(_) => 0,
+        Pattern::Tag(_) => 1,
+        Pattern::Sum(left, right) => degree_within(left).max(degree_within(right)),
+        Pattern::Prod(left, right) => degree_within(left).saturating_add(degree_within(right)),
+    }
+}
+
+/// What the search answers.
+fn answer(
+    rt: &impl Abort,
+    alloc: Global,
+    lower: &str,
+    left: &str,
+    right: &Pattern,
+    k: u32,
+    tags: u8,
+) -> Result<Search, AllocError>
+    requires { IsTrue (grid_fits k tags) }
+{
+    let bound = pattern(alloc, lower)?;
+    let e = pattern(alloc, left)?;
+    assert!(rt; has_tags(&bound, tags), "tags of {lower}");
+    assert!(rt; has_tags(&e, tags), "tags of {left}");
+    assert!(rt; has_tags(right, tags), "tags on the right of {left}");
+    assert!(rt; is_flat(right), "right of {left}");
+    assert!(rt; degree_within(right) < k, "degree on the right of {left}");
+    let system = vec![in alloc; bound]?;
+    refute(alloc, system.as_slice(), &e, right, k, tags)
+}
+
+/// Whether it is what is wanted.
+fn is_wanted(found: &Search, want: Want) -> bool {
+    match (found, want) {
+        (Search::Inside, Want::Inside) | (Search::Large, Want::Large) => true,
+        (Search::Found(it), Want::Word(m, n)) => it.word.get(0) == m && it.word.get(1) == n,
+        _ => false,
+    }
+}
+
+/// The search finds this.
+fn finds(
+    rt: &impl Abort,
+    alloc: Global,
+    lower: &str,
+    left: &str,
+    right: &Pattern,
+    k: u32,
+    tags: u8,
+    want: Want,
+) -> Result<(), AllocError>
+    requires { IsTrue (grid_fits k tags) }
+{
+    let found = answer(rt, alloc, lower, left, right, k, tags)?;
+    assert!(rt; is_wanted(&found, want), "answer of {left}");
+    Ok(())
+}
+
+/// So for a right side that is spelled.
+fn row(
+    rt: &impl Abort,
+    alloc: Global,
+    lower: &str,
+    left: &str,
+    right: &str,
+    k: u32,
+    tags: u8,
+    want: Want,
+) -> Result<(), AllocError>
+    requires { IsTrue (grid_fits k tags) }
+{
+    let f = pattern(alloc, right)?;
+    finds(rt, alloc, lower, left, &f, k, tags, want)
+}
+
+#[test]
+fn searches_by_hand(rt: HostRuntime) -> Result<(), Fail> {
+    let alloc = rt.alloc();
+    row(&rt, alloc, "0", "mm.", "m", 2, 1, Want::Word(2, 0))?;
+    row(&rt, alloc, "0", "mm.", "mm.", 3, 1, Want::Inside)?;
+    row(&rt, alloc, "0", "m*", "1", 1, 1, Want::Word(1, 0))?;
+    row(&rt, alloc, "0", "1", "m", 2, 1, Want::Word(0, 0))?;
+    row(&rt, alloc, "0", "mn+", "m", 2, 2, Want::Word(0, 1))?;
+    row(&rt, alloc, "0", "mn+*", "m*n*.", 1, 2, Want::Inside)?;
+    row(&rt, alloc, "0", "mn.*", "m*", 1, 2, Want::Word(1, 1))?;
+    row(&rt, alloc, "m$.1+", "$", "1", 1, 1, Want::Word(1, 0))?;
+    row(&rt, alloc, "m$.1+", "$", "1m+", 2, 1, Want::Word(2, 0))?;
+    row(&rt, alloc, "m$.1+", "$", "m*", 1, 1, Want::Inside)?;
+    row(&rt, alloc, "m$.", "$", "0", 1, 1, Want::Inside)?;
+    // The word of 2,047 messages has a tree of 4,095 nodes as a star.
+    let right = at_most(alloc, 2046)?;
+    finds(&rt, alloc, "0", "m*", &right, 2047, 1, Want::Word(2047, 0))?;
+    finds(
+        &rt,
+        alloc,
+        "0",
+        "m*0+",
+        &right,
+        2047,
+        1,
+        Want::Word(2047, 0),
+    )?;
+    finds(&rt, alloc, "0", "m*1.", &right, 2047, 1, Want::Large)?;
+    Ok(())
+}
