@@ -1,0 +1,92 @@
+-- Functions, by their signatures.
+use Rattle.std.proofs.Common.{◌≡◌, ℕ, suc, ◌<◌, drop, arith, ◌+◌, List, [], ◌∷◌, ◌++◌, length, map, Some, None, Result, Err, refl, sym, ap, ◌∙◌, subst}
+use Rattle.std.specs.Prelude.{slice_get}
+use Rattle.std.proofs.lemmas.List.{append-nil, append_assoc, at_drop_more}
+use Rattle.pat_model.specs.Programs.{Function}
+use Rattle.pat_model.specs.Programs as core
+use Rattle.pat_typing.specs.Types.{TypeEnv}
+use Rattle.pat_open_types.specs.NodeTypes.{Needs, need_of}
+use Rattle.pat_open_types.specs.Signatures.{open_param, open_result}
+use Rattle.pat_inference.specs.Constraints.{Found}
+use Rattle.pat_inference.specs.Binders.{Binder, binder_findings, binder_constraints, name_before, names_bound, param_names}
+use Rattle.pat_inference.specs.Walk.{function_binders, function_found}
+use Rattle.pat_core.specs.declared.program.Program.{Program}
+use Rattle.pat_core.specs.declared.program.Sort.{Sort as CodeSort}
+use Rattle.pat_core.specs.Views.{program_view, sort_view}
+use Rattle.pat_types.specs.Views.{needs_view}
+use Rattle.pat_types.specs.declared.types.MailboxType.{MailboxType}
+use Rattle.pat_infer_problems.specs.Views.{placed_variable_of, placed_constraint}
+use Rattle.pat_infer_problems.specs.Results.{first_of, Refuses}
+use Rattle.pat_infer_problems.specs.Growing.{Grows}
+use Rattle.pat_infer_problems.specs.declared.problem.Problem.{Problem}
+use Rattle.pat_infer_problems.specs.declared.error.InferError.{InferError}
+use Rattle.pat_infer_signatures.specs.Opened.{Signature, signatures_from}
+use Rattle.pat_infer_needs.specs.Types.{types_at}
+use Rattle.pat_infer_walk.specs.Walking.{IsWalked, HasGrown, Finds}
+use Rattle.pat_infer_walk.proofs.Parts.{first_behind, refuses_behind, grows_then}
+use Rattle.pat_infer_walk.proofs.SignedNumbers.{signed_as}
+
+names_same : (f g : TypeEnv) → ((k : ℕ) → f k ≡ g k) → (k : ℕ) (xs : List ℕ) (needs : Needs) → names_bound f k xs needs ≡ names_bound g k xs needs
+names_same f g h k [] needs = refl
+names_same f g h k (x ∷ xs) needs =
+    ap (λ o. name_before x o (need_of needs x) (names_bound f (suc k) xs needs)) (h k)
+    ∙ ap (λ bs. name_before x (g k) (need_of needs x) bs) (names_same f g h (suc k) xs needs)
+
+some_is : (a b : Signature) → Some a ≡ Some b → a ≡ b
+some_is a b h = cc
+
+module _ (p : core.Program) (f : ℕ) (g : Function) (s : Signature) where
+  -- a signature that is at hand has the types of the definition
+  pub result_same : slice_get p.functions f ≡ Some g → slice_get (signatures_from 1 p.functions) f ≡ Some s → s.result ≡ open_result p f g
+  result_same h e =
+      let q = signed_as 1 p.functions f g h in
+      sym (ap (λ (z : Signature). z.result) (some_is q.signature s (sym q.there ∙ e))) ∙ q.result
+
+  pub binders_same : (needs : Needs) → slice_get p.functions f ≡ Some g → slice_get (signatures_from 1 p.functions) f ≡ Some s → names_bound (types_at s.params) 0 (param_names 0 g.params) needs ≡ function_binders p f g needs
+  binders_same needs h e =
+      let q = signed_as 1 p.functions f g h in
+      let same : q.signature ≡ s = some_is q.signature s (sym q.there ∙ e) in
+      names_same (types_at s.params) (open_param p f g) (λ j. sym (ap (λ (z : Signature). types_at z.params j) same) ∙ q.params j) 0 (param_names 0 g.params) needs
+
+-- a function, whose body is walked, and whose parameters are constrained
+pub function_walked : (p : Program) (old mid new : Problem) (f : ℕ) (g : Function) (needs : List (ℕ × MailboxType)) (bs : List Binder) (b : Found) → IsWalked p old mid needs b → bs ≡ function_binders (program_view p) f g (needs_view needs) → first_of (binder_findings f bs) ≡ None → Grows mid new [] (map (placed_constraint p) (binder_constraints f bs)) [] → HasGrown p old new (function_found (program_view p) f g b)
+function_walked p old mid new f g needs bs b w e clean h =
+    let own : List Binder = function_binders (program_view p) f g b.needs in
+    let same : bs ≡ own = e ∙ ap (function_binders (program_view p) f g) w.needed in
+    let i : Grows mid new [] (map (placed_constraint p) (binder_constraints f own)) [] =
+    subst (λ (z : List Binder). Grows mid new [] (map (placed_constraint p) (binder_constraints f z)) []) same h in
+    let j : first_of (binder_findings f own) ≡ None = subst (λ (z : List Binder). first_of (binder_findings f z) ≡ None) same clean in
+    record {
+      grows = record {
+        vars = i.vars ∙ append-nil (map placed_variable_of mid.vars) ∙ w.grows.vars;
+        constraints = (grows_then p old mid new b.vars [] b.constraints (binder_constraints f own) b.nodes w.grows i).constraints;
+        nodes = i.nodes ∙ w.grows.nodes;
+      };
+      clean = first_behind b.findings (binder_findings f own) w.clean ∙ j;
+    }
+
+-- names that break a rule
+pub function_refused : (p : Program) (old mid : Problem) (f : ℕ) (g : Function) (e : InferError) (needs : List (ℕ × MailboxType)) (bs : List Binder) (b : Found) → IsWalked p old mid needs b → bs ≡ function_binders (program_view p) f g (needs_view needs) → Refuses p e (binder_findings f bs) → Refuses p e (function_found (program_view p) f g b).findings
+function_refused p old mid f g e needs bs b w h r =
+    let own : List Binder = function_binders (program_view p) f g b.needs in
+    refuses_behind p e b.findings (binder_findings f own) w.clean
+    (subst (λ (z : List Binder). Refuses p e (binder_findings f z)) (h ∙ ap (function_binders (program_view p) f g) w.needed) r)
+
+-- the exit of a `?`
+pub finds_exits : {A : Type 0} (p : Program) (res : Result A InferError) (given e : InferError) (old new : Problem) (r : Found) → res ≡ Err given → given ≡ e → Refuses p e r.findings → Finds p old new res r
+finds_exits {A} p res given e old new r is from h =
+    subst (λ (v : Result A InferError). Finds p old new v r) (sym (is ∙ ap (λ (z : InferError). Err z) from)) h
+
+-- one parameter's name more
+pub names_more : (xs : List CodeSort) (n : ℕ) (names more : List ℕ) → n < length xs → more ≡ names ++ n ∷ [] → more ++ param_names (n + 1) (map sort_view (drop (n + 1) xs)) ≡ names ++ param_names n (map sort_view (drop n xs))
+names_more [] n names more h e = absurd (not_below n h)
+  where
+    not_below : (k : ℕ) → k < 0 → ⊥
+    not_below k l = omega (arith, l)
+names_more (y ∷ ys) n names more h e =
+    let row = at_drop_more (λ zs. zs) (y ∷ ys) n y h in
+    let next : n + 1 ≡ suc n = omega arith in
+    ap (λ zs. zs ++ param_names (n + 1) (map sort_view (drop (n + 1) (y ∷ ys)))) e
+    ∙ append_assoc names (n ∷ []) (param_names (n + 1) (map sort_view (drop (n + 1) (y ∷ ys))))
+    ∙ ap (λ z. names ++ n ∷ param_names z (map sort_view (drop (n + 1) (y ∷ ys)))) next
+    ∙ ap (λ zs. names ++ param_names n (map sort_view zs)) (sym row)

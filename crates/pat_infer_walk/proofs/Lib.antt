@@ -1,0 +1,4 @@
+mod SignedNumbers
+mod Climbing
+mod Parts
+mod Functions

@@ -1,0 +1,110 @@
+// The walk of a function: its body, and the names of its parameters.
+ghost use Rattle.std.specs.Prelude.{◌≡◌, ◌+◌, ◌++◌, Some, length, map, option_map, slice_get, IfOk, OnOk};
+ghost use Rattle.pat_inference.specs.Binders.{names_bound, param_names};
+ghost use Rattle.pat_inference.specs.Walk.{walk_function as found_of_function};
+ghost use Rattle.pat_core.specs.Views.{program_view, function_view, sort_view};
+ghost use Rattle.pat_types.specs.Views.{needs_view};
+ghost use Rattle.pat_infer_signatures.specs.Views.{signature_view};
+ghost use Rattle.pat_infer_needs.specs.Types.{types_at};
+ghost use Rattle.pat_infer_terms.specs.Views.{binder_view};
+ghost use Rattle.pat_infer_walk.specs.Walking.{IsSigned, Finds};
+
+use crate::walk::{Signed, signature_of, walk};
+use pat_core::{Function, Program, Sort};
+use pat_infer_problems::{InferError, Problem};
+use pat_infer_signatures::Signature;
+use pat_infer_terms::{Binder, bind_all, check_names, constrain_names};
+use pat_sequences::Sequence;
+use pat_types::MailboxType;
+use std::alloc::{AllocError, Global};
+
+/// Walks a function, whose number this is: adds to the problem just the variables, constraints and types of nodes that backward
+/// typing finds in it, or answers the first broken rule with its place, or want of memory.
+pub fn walk_function(
+    alloc: Global,
+    signed: &Signed,
+    number: u32,
+    function: &Function,
+    problem: &mut Problem,
+) -> Result<(), InferError>
+    requires signed { IsSigned signed.now }
+    requires function { slice_get (program_view signed.now.program.now).functions number ≡ Some (function_view function.now) }
+    ensures { Finds signed.now.program.now problem.old problem.new result (found_of_function (program_view signed.now.program.now) number (function_view function.now) (1 + length problem.old.vars)) }
+{
+    match signature_of(signed.signatures, number) {
+        None => Err(InferError::NoMemory),
+        Some(signature) => walk_signed(alloc, signed, number, function, signature, problem),
+    }
+}
+
+fn walk_signed(
+    alloc: Global,
+    signed: &Signed,
+    number: u32,
+    function: &Function,
+    signature: &Signature,
+    problem: &mut Problem,
+) -> Result<(), InferError>
+    requires signed { IsSigned signed.now }
+    requires function { slice_get (program_view signed.now.program.now).functions number ≡ Some (function_view function.now) }
+    requires signature { slice_get (map signature_view signed.now.signatures.now) number ≡ Some (signature_view signature.now) }
+    ensures { Finds signed.now.program.now problem.old problem.new result (found_of_function (program_view signed.now.program.now) number (function_view function.now) (1 + length problem.old.vars)) }
+{
+    let levels = count_of(signed.program.nodes.len())?;
+    let needs = walk(
+        alloc,
+        signed,
+        levels,
+        function.body,
+        &signature.result,
+        problem,
+    )?;
+    let binders = binders_of(alloc, function, signature, needs.as_slice())?;
+    check_names(signed.program, number, binders.as_slice())?;
+    constrain_names(alloc, signed.program, number, binders.as_slice(), problem)?;
+    Ok(())
+}
+
+/// The parameters with their types, and what is needed of them.
+fn binders_of(
+    alloc: Global,
+    function: &Function,
+    signature: &Signature,
+    needs: &[(u32, MailboxType)],
+) -> Result<Sequence<Binder>, AllocError>
+    ensures { IfOk result (λ bs. map binder_view bs ≡ names_bound (types_at (signature_view signature.now).params) 0 (param_names 0 (function_view function.now).params) (needs_view needs.now)) }
+{
+    let mut binders = Sequence::new(alloc);
+    let names = parameter_names(alloc, function.params.as_slice())?;
+    bind_all(
+        alloc,
+        signature.params.as_slice(),
+        names.as_slice(),
+        needs,
+        &mut binders,
+    )?;
+    Ok(binders)
+}
+
+/// The number, if it is below 2^32; want of memory comes where it isn't.
+fn count_of(count: usize) -> Result<u32, AllocError>
+    ensures { IfOk result (λ n. n ≡ count) }
+{
+    if count > u32::MAX as usize {
+        Err(AllocError)
+    } else {
+        Ok(count as u32)
+    }
+}
+
+/// Parameters are the first variables.
+fn parameter_names(alloc: Global, params: &[Sort]) -> Result<Sequence<u32>, AllocError>
+    ensures { IfOk result (λ names. names ≡ param_names 0 (map sort_view params.now)) }
+{
+    let count = count_of(params.len())?;
+    let mut names = Sequence::new(alloc);
+    for number in 0..count {
+        names.push(number)?;
+    }
+    Ok(names)
+}
