@@ -1,6 +1,6 @@
 -- Constraints of one interface, written out.
 use Rattle.std.specs.Prelude.{List, [], ◌∷◌}
-use Rattle.pat_words.specs.Patterns.{Pat, Zero, One, Tag, Sum, Prod, Star, Var}
+use Rattle.pat_words.specs.Patterns.{Pat, One, Tag, Prod, Star, Var}
 use Rattle.pat_inference.specs.Constraints.{AtNode, Constraint, constraint}
 
 -- a constraint of interface 0
