@@ -8,7 +8,9 @@ use Rattle.pat_inclusions.specs.Certificates.{CoverCert, GridCert}
 use Rattle.pat_validity.specs.Scopes.{is_in_scope}
 use Rattle.pat_validity.specs.Validity.{ShapeRule, EmptyRule, AliasRule, UseRule, DropRule, PayloadRule, CoversRule, CertRule, broken_rule, first_bad}
 use Rattle.pat_validity_examples.specs.Build.{unit, gives_receiving, variable, receives, sends, receives_second, line, derivation, entry}
-use Rattle.pat_validity_examples.specs.Programs.{one_message, sends_twice, handing_on, pairs, apart, one_tag, any, some_or_none, with_grid, delegation, future, leak, alias, beside, uncovered, sends_on}
+use Rattle.pat_examples.specs.Safe.{one_message, delegation, future}
+use Rattle.pat_examples.specs.Unsafe.{leak, alias, beside}
+use Rattle.pat_validity_examples.specs.Programs.{sends_twice, handing_on, pairs, apart, one_tag, any, some_or_none, with_grid, uncovered, sends_on}
 use Rattle.pat_validity_examples.specs.Derivations.{one_message_derived, with_line, with_more, with_value, with_second, sends_twice_cut, handed_on, pairs_cover, wrong_cover, pairs_again, grid_derived, delegation_derived, future_derived, leak_derived, alias_derived, beside_derived, uncovered_derived, sends_on_derived}
 use Rattle.pat_validity_examples.specs.Claims.{Accepted, RejectedAt, HasForm, HasCuts}
 

@@ -9,7 +9,9 @@ ghost use Rattle.pat_inclusions.specs.CutWords.{cuts_lie};
 ghost use Rattle.pat_inclusions.specs.Certificates.{CoverCert, GridCert};
 ghost use Rattle.pat_validity.specs.Validity.{ShapeRule, EmptyRule, AliasRule, UseRule, DropRule, PayloadRule, CoversRule, CertRule};
 ghost use Rattle.pat_validity_examples.specs.Build.{unit, gives_receiving, variable, receives, sends, receives_second, line, derivation, entry};
-ghost use Rattle.pat_validity_examples.specs.Programs.{one_message, sends_twice, handing_on, pairs, apart, one_tag, any, some_or_none, with_grid, delegation, future, leak, alias, beside, uncovered, sends_on};
+ghost use Rattle.pat_examples.specs.Safe.{one_message, delegation, future};
+ghost use Rattle.pat_examples.specs.Unsafe.{leak, alias, beside};
+ghost use Rattle.pat_validity_examples.specs.Programs.{sends_twice, handing_on, pairs, apart, one_tag, any, some_or_none, with_grid, uncovered, sends_on};
 ghost use Rattle.pat_validity_examples.specs.Derivations.{one_message_derived, with_line, with_more, with_value, with_second, sends_twice_cut, handed_on, pairs_cover, wrong_cover, pairs_again, grid_derived, delegation_derived, future_derived, leak_derived, alias_derived, beside_derived, uncovered_derived, sends_on_derived};
 ghost use Rattle.pat_validity_examples.specs.Claims.{Accepted, RejectedAt, HasForm, HasCuts};
 
