@@ -1,19 +1,19 @@
 -- What is listed of a whole term is what the definitions demand of it.
-use Rattle.std.proofs.Common.{◌≡◌, ℕ, zero, suc, ◌+◌, Bool, true, false, nat_lt, if◌then◌else◌, List, [], ◌∷◌, ◌++◌, map, Option, Some, None, option_map, refl, sym, ap, ◌∙◌, arith}
+use Rattle.std.proofs.Common.{◌≡◌, ℕ, suc, ◌+◌, Bool, true, false, nat_lt, if◌then◌else◌, List, [], ◌∷◌, ◌++◌, map, Option, Some, None, option_map, refl, sym, ap, ◌∙◌, arith}
 use Rattle.std.specs.Prelude.{slice_get, option_and_then}
 use Rattle.std.specs.Map.{keys_of}
 use Rattle.std.proofs.lemmas.Option.{slice_get-map}
 use Rattle.pat_words.specs.Patterns.{Pat, One, Tag, residual}
 use Rattle.pat_model.specs.Values.{Kind, Plain, MailboxOf, Expr, VarExpr, Literal, OpExpr}
 use Rattle.pat_model.specs.Programs.{Sending, Receiving, Sort, TagDecl, Function, Clause, Core, Val, Let, Call, If, Print, New, Send, Spawn, Guard, Program, function_at, tag_at}
-use Rattle.pat_typing.specs.Types.{Second, Returnable, MailboxType, TypeOf, BaseTerm, MailboxTerm, mailbox_type, TypeEnv, no_types, with_type, without, returnable}
+use Rattle.pat_typing.specs.Types.{Second, Returnable, MailboxType, TypeOf, BaseTerm, MailboxTerm, mailbox_type, TypeEnv, no_types, with_type}
 use Rattle.pat_typing.specs.Typings.{Typing, param_type, result_type, payload_sort, payload_type, with_option, args_need, mailbox_args, with_payloads, clause_env, without_name}
-use Rattle.pat_open_types.specs.NodeTypes.{Needs, NodeType, need_of}
+use Rattle.pat_open_types.specs.NodeTypes.{Needs, need_of}
 use Rattle.pat_validity.specs.Derivations.{Line, Derivation, line_at, written_typing}
-use Rattle.pat_validity.specs.Demands.{Demand, Pass, Divide, There, Name}
-use Rattle.pat_validity.specs.Conditions.{then_others, but_not, but_not_name, passes, divides, of_line, to_part, result_passes, value_asks, value_names, name_demands, named_demands, part_demands, let_demands, call_demands, send_demands, clause_demands, free_demands, clauses_demand, bodies_demand, guard_demands, target_demands, term_demands}
+use Rattle.pat_validity.specs.Demands.{Demand, Pass}
+use Rattle.pat_validity.specs.Conditions.{then_others, but_not, but_not_name, passes, divides, of_line, to_part, result_passes, value_asks, value_names, name_demands, named_demands, let_demands, call_demands, send_demands, clause_demands, free_demands, clauses_demand, bodies_demand, guard_demands, target_demands, term_demands}
 use Rattle.pat_environments.specs.Lists.{without_entry, returnable_entries, with_others}
-use Rattle.pat_demands.specs.Listed.{Signature, asked_args, asked_value, entry_before, named_payloads, clause_entries, passes_in, divides_in, theres_in, passes_to, listed_name, listed_named, asks, drops, listed_call, listed_send, listed_target, listed_part, let_names, listed_let, listed_clause, listed_free, free_before, waits_after, free_last, listed_one, listed_clauses, listed_bodies, listed_guard, listed_term}
+use Rattle.pat_demands.specs.Listed.{Signature, asked_args, asked_value, entry_before, named_payloads, clause_entries, passes_in, divides_in, passes_to, listed_name, listed_named, asks, drops, listed_call, listed_send, listed_target, let_names, listed_let, listed_clause, listed_free, listed_clauses, listed_bodies, listed_guard, listed_term}
 use Rattle.pat_demands_terms.proofs.Listing.{cons_is, before_is, returnable_is, with_are, passes_are, divides_are, theres_are, without_is, joined, StandAt, first_at, later_at, none_at, none_later, args_are, args_named}
 
 append_assoc : {A : Type 0} (xs ys zs : List A) → (xs ++ ys) ++ zs ≡ xs ++ (ys ++ zs)
@@ -22,7 +22,7 @@ append_assoc (x ∷ xs) ys zs = ap (λ l. x ∷ l) (append_assoc xs ys zs)
 
 -- ---- along names
 
-passed : (xs ys : List ℕ) (g h : Needs) → passes_in (with_others xs ys) g h ≡ passes (then_others xs ys) (need_of g) (need_of h)
+pub passed : (xs ys : List ℕ) (g h : Needs) → passes_in (with_others xs ys) g h ≡ passes (then_others xs ys) (need_of g) (need_of h)
 passed xs ys g h = ap (λ zs. passes_in zs g h) (with_are xs ys) ∙ passes_are (then_others xs ys) g h
 
 part_is : (d : Derivation) (xs : List ℕ) (g : Needs) (m : ℕ) → passes_to xs g (line_at d m) ≡ to_part d xs (need_of g) m
@@ -50,7 +50,7 @@ value_is needs (MailboxTerm i q f) (VarExpr x) =
 value_is needs (MailboxTerm i q f) (Literal c) = asks_are needs [] [] no_types refl refl
 value_is needs (MailboxTerm i q f) (OpExpr op a b) = asks_are needs [] [] no_types refl refl
 
-payload_stand : (decl : TagDecl) → StandAt (payload_type decl) 0 (map payload_sort decl.payloads)
+pub payload_stand : (decl : TagDecl) → StandAt (payload_type decl) 0 (map payload_sort decl.payloads)
 payload_stand decl j = let e : 0 + j ≡ j = omega arith in ap (payload_type decl) e ∙ go (slice_get decl.payloads j) ∙ sym (ap joined (slice_get-map payload_sort decl.payloads j))
   where
     go : (o : Option Sort) → option_and_then payload_sort o ≡ joined (option_map payload_sort o)

@@ -1,5 +1,6 @@
-mod Demanded
-mod Listing
+pub mod Demanded
+pub mod Listing
+mod NodeDemands
 mod Numbers
-mod Signatures
+pub mod OpenedSignatures
 mod Turns

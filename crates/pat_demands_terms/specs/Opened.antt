@@ -1,6 +1,6 @@
 -- The types of all signatures, as one pass makes them, where the first variable has number k.
-use Rattle.std.specs.Prelude.{ℕ, ◌+◌, List, [], ◌∷◌, Option}
-use Rattle.pat_words.specs.Patterns.{Var}
+use Rattle.std.specs.Prelude.{ℕ, ◌+◌, List, [], ◌∷◌, Option, Some, None}
+use Rattle.pat_words.specs.Patterns.{Pat, Var}
 use Rattle.pat_model.specs.Programs.{Sort, Function}
 use Rattle.pat_typing.specs.Types.{MailboxType}
 use Rattle.pat_typing.specs.Typings.{sort_type, result_of}
@@ -20,3 +20,13 @@ opened k g = record { params = opened_params k g.params; result = result_of (Var
 abbrev pub opened_from : ℕ → List Function → List Signature
 opened_from k [] = []
 opened_from k (g ∷ gs) = opened k g ∷ opened_from (result_number k g + omits g.result) gs
+
+-- the written pattern, or this one
+abbrev pub written_or : Pat → Option Pat → Pat
+written_or e None = e
+written_or e (Some f) = f
+
+-- how many variables stand for a pattern: one, if it isn't written
+abbrev pub omits_pattern : Option Pat → ℕ
+omits_pattern None = 1
+omits_pattern (Some f) = 0

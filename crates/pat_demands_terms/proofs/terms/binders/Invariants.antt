@@ -1,4 +1,4 @@
-use Rattle.std.proofs.Common.{◌≡◌, ◌++◌, ◌∷◌, drop, ◌+◌, ◌-◌}
+use Rattle.std.proofs.Common.{◌≡◌, ◌++◌, ◌∷◌, drop}
 use Rattle.pat_demands_terms.proofs.terms.binders.Given as goal
 
 abbrev pub invariant-loop-name : goal.invariant-loop-name

@@ -7,7 +7,6 @@ use Rattle.pat_typing.specs.Typings.{sort_type, result_of, param_type, result_ty
 use Rattle.pat_open_types.specs.Signatures.{omits, number_at, result_number, function_number, first_number}
 use Rattle.pat_open_types.specs.Typings.{param_pattern_open, result_pattern_open}
 use Rattle.pat_validity.specs.Derivations.{Derivation, written_typing}
-use Rattle.pat_demands.specs.Listed.{Signature}
 use Rattle.pat_demands_terms.specs.Opened.{opened_params, opened, opened_from}
 use Rattle.pat_demands_terms.proofs.Listing.{joined, StandAt}
 use Rattle.pat_demands_terms.proofs.Demanded.{IsSignatureOf}
