@@ -1,0 +1,4 @@
+mod LookUps
+mod Closed
+mod Flags
+mod Grids
