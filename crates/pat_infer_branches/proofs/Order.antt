@@ -1,4 +1,4 @@
--- What is found first in lists one behind the other, and a guard put together.
+-- A guard put together.
 use Rattle.std.proofs.Common.{◌≡◌, ℕ, ◌+◌, List, [], ◌∷◌, ◌++◌, length, map, Option, Some, None, refl, sym, ap, ◌∙◌, subst, arith}
 use Rattle.std.proofs.lemmas.List.{append-nil, append_assoc, map-append, length-map}
 use Rattle.pat_model.specs.Programs.{Receiving}
@@ -18,24 +18,13 @@ use Rattle.pat_infer_problems.specs.Results.{first_of}
 use Rattle.pat_infer_problems.specs.Growing.{Grows}
 use Rattle.pat_infer_problems.specs.declared.problem.Problem.{Problem}
 use Rattle.pat_infer_needs.specs.Gathering.{IsGathered}
-use Rattle.pat_infer_branches.specs.Guards.{own_guard, IsJoined}
+use Rattle.pat_infer_problems.specs.Walked.{IsWalked}
+use Rattle.pat_infer_branches.specs.Guards.{own_guard}
 use Rattle.pat_infer_branches.specs.declared.guards.Guarded.{Guarded}
-
--- where nothing is found in the front, the rest decides
-pub first_behind : (xs ys : List Finding) → first_of xs ≡ None → first_of (xs ++ ys) ≡ first_of ys
-first_behind [] ys e = refl
-first_behind (x ∷ xs) ys e = cc
-
--- what is found first in the front is first
-pub first_front : (xs ys : List Finding) (x : Finding) → first_of xs ≡ Some x → first_of (xs ++ ys) ≡ Some x
-first_front [] ys x e = cc
-first_front (y ∷ xs) ys x e = e
-
-pub ruleset in_order = (first_front, first_behind)
 
 module _ (p : CodeProgram) (g : Guarded) (old mid new : Problem) (arms : List Arm) where
   -- a guard whose names are constrained, and whose branches are gathered
-  pub guard_joined : (found final : List (ℕ × MailboxType)) → Grows old mid [] (map (placed_constraint p) (binder_constraints g.function (guard_binders (program_view p) g.interface (pattern_view g.pattern.now) arms))) [] → IsGathered p mid new found (arms_gathered g.node (1 + length mid.vars) arms) → needs_view final ≡ put g.variable (mailbox_type g.interface Receiving (pattern_view g.pattern.now) Returnable) (needs_view found) → first_of (own_guard (program_view p) g (1 + length old.vars) arms).findings ≡ None → IsJoined p old new final (own_guard (program_view p) g (1 + length old.vars) arms)
+  pub guard_joined : (found final : List (ℕ × MailboxType)) → Grows old mid [] (map (placed_constraint p) (binder_constraints g.function (guard_binders (program_view p) g.interface (pattern_view g.pattern.now) arms))) [] → IsGathered p mid new found (arms_gathered g.node (1 + length mid.vars) arms) → needs_view final ≡ put g.variable (mailbox_type g.interface Receiving (pattern_view g.pattern.now) Returnable) (needs_view found) → first_of (own_guard (program_view p) g (1 + length old.vars) arms).findings ≡ None → IsWalked p old new final (own_guard (program_view p) g (1 + length old.vars) arms)
   guard_joined found final m h e clean =
       let same : map placed_variable_of mid.vars ≡ map placed_variable_of old.vars = m.vars ∙ append-nil (map placed_variable_of old.vars) in
       let count : length mid.vars ≡ length old.vars =

@@ -23,14 +23,3 @@ bare arms = record { arms = arms; vars = []; constraints = []; nodes = []; findi
 -- the guard's own, where new variables are numbered from k
 abbrev pub own_guard : Program → Guarded → ℕ → List Arm → Found
 own_guard p g k arms = guard_found p g.function g.node k g.variable (pattern_view g.pattern.now) g.interface g.has_free (map clause_view g.clauses.now) (bare arms)
-
--- no rule is broken, and what is needed and added is found
-pub record IsJoined (p : CodeProgram) (old new : Problem) (needs : List (ℕ × MailboxType)) (r : Found) : Type 0 where
-  pub needed : needs_view needs ≡ r.needs
-  pub grows : Grows old new (map (placed_variable p) r.vars) (map (placed_constraint p) r.constraints) []
-  pub clean : first_of r.findings ≡ None
-
--- the same, or the first broken rule
-abbrev pub Joins : CodeProgram → Problem → Problem → Result (List (ℕ × MailboxType)) InferError → Found → Type 0
-Joins p old new (Ok needs) r = IsJoined p old new needs r
-Joins p old new (Err e) r = Refuses p e r.findings

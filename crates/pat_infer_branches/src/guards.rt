@@ -17,7 +17,8 @@ ghost use Rattle.pat_types.specs.Views.{needs_view};
 ghost use Rattle.pat_infer_problems.specs.Results.{Meets, first_of};
 ghost use Rattle.pat_infer_terms.specs.Views.{binder_view};
 ghost use Rattle.pat_infer_branches.specs.Arms.{arm_view};
-ghost use Rattle.pat_infer_branches.specs.Guards.{Joins, own_guard};
+ghost use Rattle.pat_infer_branches.specs.Guards.{own_guard};
+ghost use Rattle.pat_infer_problems.specs.Walked.{Infers};
 
 use crate::arms::{WalkedArm, check_arms, clause_names, gather_arms};
 use crate::covering::is_covered;
@@ -45,7 +46,7 @@ pub struct Guarded<'a> {
 }
 
 /// What a guard needs, where its branches need this.
-#[tactic(auto, using(crate::proofs::Order::in_order, crate::proofs::Order::guard_joined))]
+#[tactic(auto, using(pat_infer_problems::proofs::Joining::in_order, crate::proofs::Order::guard_joined))]
 pub fn guard_needs(
     alloc: Global,
     program: &Program,
@@ -53,18 +54,18 @@ pub fn guard_needs(
     arms: &[WalkedArm],
     problem: &mut Problem,
 ) -> Result<Sequence<(u32, MailboxType)>, InferError>
-    ensures { Joins program.now problem.old problem.new result (own_guard (program_view program.now) guarded.now (1 + length problem.old.vars) (map arm_view arms.now)) }
+    ensures { Infers program.now problem.old problem.new result (own_guard (program_view program.now) guarded.now (1 + length problem.old.vars) (map arm_view arms.now)) }
 {
     check_order(program, guarded.node, guarded.variable, arms)?;
     check_arms(alloc, program, guarded.node, arms)?;
     check_payloads(alloc, program, guarded.node, guarded.interface, arms)?;
     check_cover(program, guarded)?;
     let binders = binders_of(alloc, program, guarded, arms)?;
-    check_names(program, guarded.function, binders.as_slice())?;
+    check_names(program, guarded.function as usize, binders.as_slice())?;
     constrain_names(
         alloc,
         program,
-        guarded.function,
+        guarded.function as usize,
         binders.as_slice(),
         problem,
     )?;
@@ -123,7 +124,7 @@ fn none_needs(node: u32, variable: u32, arms: &[WalkedArm]) -> bool
     ensures { first_of (unless result OrderRule (AtNode node)) ≡ first_of (each_unless (λ a. is_none (need_of a.needs variable)) OrderRule (λ a. AtNode node) (map arm_view arms.now)) }
 {
     for arm in arms {
-        if find(arm.needs.as_slice(), variable).is_some() {
+        if find(arm.needs.as_slice(), variable as usize).is_some() {
             return false;
         }
     }
@@ -278,7 +279,7 @@ fn add_clause(
         pattern: rest,
         usage: Usage::Returnable,
     };
-    let binder = bind(alloc, clause.from, left, needs)?;
+    let binder = bind(alloc, clause.from as usize, left, needs)?;
     binders.push(binder)?;
     add_payloads(
         alloc,

@@ -10,7 +10,8 @@ ghost use Rattle.pat_core.specs.Views.{kind_view, program_view};
 ghost use Rattle.pat_types.specs.Views.{type_view, result_view, needs_view};
 ghost use Rattle.pat_infer_problems.specs.Results.{Meets, first_of};
 ghost use Rattle.pat_infer_needs.specs.Combining.{need_ref};
-ghost use Rattle.pat_infer_lets.specs.Lets.{Joins, own_let};
+ghost use Rattle.pat_infer_lets.specs.Lets.{own_let};
+ghost use Rattle.pat_infer_problems.specs.Walked.{Infers};
 
 use pat_core::{Kind, Program};
 use pat_infer_needs::{find, gather_parts, is_receiver, is_second, names_of_parts};
@@ -42,7 +43,7 @@ fn needed_of(name: Option<u32>, body: &[(u32, MailboxType)]) -> Option<&MailboxT
     ensures { need_ref result ≡ name_need name (needs_view body.now) }
 {
     match name {
-        Some(variable) => find(body, variable),
+        Some(variable) => find(body, variable as usize),
         None => None,
     }
 }
@@ -74,7 +75,7 @@ fn asked_as(alloc: Global, kind: Kind, need: Option<&MailboxType>) -> Result<Typ
 }
 
 /// The rules of the let at a node, and what it needs, from what its bound part needs and what its body needs beside the name.
-#[tactic(auto, using(crate::proofs::Order::in_order))]
+#[tactic(auto, using(pat_infer_problems::proofs::Joining::in_order))]
 pub fn join_let(
     alloc: Global,
     program: &Program,
@@ -83,7 +84,7 @@ pub fn join_let(
     body: &[(u32, MailboxType)],
     problem: &mut Problem,
 ) -> Result<Sequence<(u32, MailboxType)>, InferError>
-    ensures { Joins program.now problem.old problem.new result (own_let node (1 + length problem.old.vars) (needs_view bound.now) (needs_view body.now)) }
+    ensures { Infers program.now problem.old problem.new result (own_let node (1 + length problem.old.vars) (needs_view bound.now) (needs_view body.now)) }
 {
     check_order(alloc, program, node, bound, body)?;
     check_double(alloc, program, node, bound, body)?;
@@ -114,7 +115,7 @@ fn are_in_order(
     ensures { first_of (unless result OrderRule (AtNode node)) ≡ first_of (each_unless (λ z. in_order (need_of (needs_view bound.now) z) (need_of (needs_view body.now) z)) OrderRule (λ z. AtNode node) names.now) }
 {
     for name in names {
-        if !is_in_order(find(bound, *name), find(body, *name)) {
+        if !is_in_order(find(bound, *name as usize), find(body, *name as usize)) {
             return false;
         }
     }
@@ -154,7 +155,7 @@ fn receive_once(
     ensures { first_of (unless result DoubleRule (AtNode node)) ≡ first_of (each_unless (λ z. one_receives (need_of (needs_view bound.now) z) (need_of (needs_view body.now) z)) DoubleRule (λ z. AtNode node) names.now) }
 {
     for name in names {
-        if !receives_once(find(bound, *name), find(body, *name)) {
+        if !receives_once(find(bound, *name as usize), find(body, *name as usize)) {
             return false;
         }
     }

@@ -13,6 +13,7 @@ use Rattle.pat_types.specs.declared.types.MailboxType.{MailboxType}
 use Rattle.pat_infer_problems.specs.Views.{PlacedVariable, PlacedConstraint, placed_variable, placed_variable_of, placed_constraint, constraint_view}
 use Rattle.pat_infer_problems.specs.Growing.{Grows}
 use Rattle.pat_infer_problems.specs.declared.problem.Problem.{Problem}
+use Rattle.pat_infer_problems.proofs.Joining.{grown}
 use Rattle.pat_infer_needs.specs.Combining.{IsCombined, combined_need}
 use Rattle.pat_infer_needs.specs.Gathering.{IsGathered, need_here}
 
@@ -34,23 +35,12 @@ here_before : (x : ℕ) (o : Option Combined) (needs : Needs) → need_before x 
 here_before x None needs = refl
 here_before x (Some c) needs = refl
 
--- how many variables there are with those that are added
-grown : (p : Program) (a b : Problem) (vs : List Variable) (cs : List PlacedConstraint) → Grows a b (map (placed_variable p) vs) cs [] → 1 + length b.vars ≡ 1 + length a.vars + length vs
-grown p a b vs cs g =
-    let counts : length b.vars ≡ length a.vars + length vs =
-    sym (length-map b.vars placed_variable_of)
-    ∙ ap length g.vars
-    ∙ length-append (map placed_variable_of a.vars) (map (placed_variable p) vs)
-    ∙ ap (λ n. n + length (map (placed_variable p) vs)) (length-map a.vars placed_variable_of)
-    ∙ ap (λ n. length a.vars + n) (length-map vs (placed_variable p)) in
-    omega (arith, counts)
-
 -- one name more
 pub one_more : (p : Program) (f : ℕ → ℕ → Option Combined) (old now next : Problem) (found more : List (ℕ × MailboxType)) (need : Option MailboxType) (all left : List ℕ) (x : ℕ) → StillToGather p f old now found all (x ∷ left) → IsCombined p now next need (f (1 + length now.vars) x) → needs_view more ≡ needs_view found ++ need_here x (option_map type_view need) → StillToGather p f old next more all left
 one_more p f old now next found more need all left x s c e =
     let o : Option Combined = f (1 + length now.vars) x in
     let k : ℕ = 1 + length now.vars + length (vars_with o) in
-    let number : k ≡ 1 + length next.vars = sym (grown p now next (vars_with o) (map (placed_constraint p) (constraints_with o)) c.grows) in
+    let number : k ≡ 1 + length next.vars = sym (grown p now next (vars_with o) (map (placed_constraint p) (constraints_with o)) [] c.grows) in
     subst (λ n. Gathering p f old next more all left n) number (record {
       needs =
           ap (λ zs. zs ++ (gather f k left).needs) (e ∙ ap (λ w. needs_view found ++ need_here x w) c.need)

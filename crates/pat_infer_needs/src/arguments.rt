@@ -79,7 +79,7 @@ fn add_variable(
     ensures twice { OnOk result (all.new.has_twice ≡ (is_some (need_of (needs_view all.old.needs) variable) || all.old.has_twice)) }
 {
     let copy = of.copy(alloc)?;
-    all.has_twice = find(all.needs.as_slice(), variable).is_some() || all.has_twice;
+    all.has_twice = find(all.needs.as_slice(), variable as usize).is_some() || all.has_twice;
     put(&mut all.needs, variable, copy)
 }
 

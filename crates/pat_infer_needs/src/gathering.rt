@@ -35,8 +35,8 @@ pub fn gather_parts(
             program,
             node,
             *name,
-            find(bound, *name),
-            find(body, *name),
+            find(bound, *name as usize),
+            find(body, *name as usize),
             problem,
         )?;
         push_need(&mut needs, *name, need)?;
@@ -98,7 +98,7 @@ pub fn column_of<'a>(
 {
     let mut column = Vec::new(alloc);
     for needs in branches {
-        column.push(find(needs.as_slice(), name))?;
+        column.push(find(needs.as_slice(), name as usize))?;
     }
     Ok(column)
 }

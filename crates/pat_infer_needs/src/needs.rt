@@ -13,11 +13,11 @@ use pat_types::MailboxType;
 use std::alloc::AllocError;
 
 /// What is needed of a variable, if anything is.
-pub fn find(needs: &[(u32, MailboxType)], variable: u32) -> Option<&MailboxType>
+pub fn find(needs: &[(u32, MailboxType)], variable: usize) -> Option<&MailboxType>
     ensures { option_map (λ a. type_view a.now) result ≡ need_of (needs_view needs.now) variable }
 {
     for (other, of) in needs {
-        if variable == *other {
+        if variable == *other as usize {
             return Some(of);
         }
     }

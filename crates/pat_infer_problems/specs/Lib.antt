@@ -2,3 +2,4 @@ pub mod Places
 pub mod Views
 pub mod Results
 pub mod Growing
+pub mod Walked

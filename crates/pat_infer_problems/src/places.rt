@@ -20,11 +20,11 @@ pub fn node_span(program: &Program, node: u32) -> Span
 }
 
 /// Where a variable's name stands; the beginning of the text for one that isn't there.
-pub fn name_span(program: &Program, function: u32, variable: u32) -> Span
+pub fn name_span(program: &Program, function: usize, variable: usize) -> Span
     ensures { result ≡ place_of program.now (AtName function variable) }
 {
-    match program.functions.as_slice().get(function as usize) {
-        Some(there) => match there.spans.as_slice().get(variable as usize) {
+    match program.functions.as_slice().get(function) {
+        Some(there) => match there.spans.as_slice().get(variable) {
             Some(span) => *span,
             None => Span { from: 0, to: 0 },
         },
@@ -51,8 +51,8 @@ pub fn check_name(
     program: &Program,
     holds: bool,
     rule: Rule,
-    function: u32,
-    variable: u32,
+    function: usize,
+    variable: usize,
 ) -> Result<(), InferError>
     ensures { Meets program.now result (unless holds (rule_view rule) (AtName function variable)) }
 {

@@ -55,7 +55,7 @@ send_twice types k es x = ap (λ b. b || has_twice (mailbox_args types k es)) (a
 
 -- ---- names
 
-names_same : (f g : TypeEnv) → ((k : ℕ) → f k ≡ g k) → (k : ℕ) (xs : List ℕ) (needs : Needs) → names_bound f k xs needs ≡ names_bound g k xs needs
+pub names_same : (f g : TypeEnv) → ((k : ℕ) → f k ≡ g k) → (k : ℕ) (xs : List ℕ) (needs : Needs) → names_bound f k xs needs ≡ names_bound g k xs needs
 names_same f g h k [] needs = refl
 names_same f g h k (x ∷ xs) needs =
     ap (λ o. name_before x o (need_of needs x) (names_bound f (suc k) xs needs)) (h k)

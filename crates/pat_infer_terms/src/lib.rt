@@ -4,5 +4,5 @@
 mod names;
 mod terms;
 
-pub use names::{Binder, bind, bind_all, check_names, constrain_names};
+pub use names::{Binder, bind, bind_all, bind_at, check_names, constrain_names};
 pub use terms::{call_needs, constrain_new, send_needs, tag_of, types_of_tag, value_needs};

@@ -25,7 +25,7 @@ use std::alloc::{AllocError, Global};
 /// A name that is bound with a type, and what is needed of it.
 #[derive(Drop)]
 pub struct Binder {
-    pub name: u32,
+    pub name: usize,
     pub of: MailboxType,
     pub need: Option<MailboxType>,
 }
@@ -33,7 +33,7 @@ pub struct Binder {
 /// The name with what is needed of it.
 pub fn bind(
     alloc: Global,
-    name: u32,
+    name: usize,
     of: MailboxType,
     needs: &[(u32, MailboxType)],
 ) -> Result<Binder, AllocError>
@@ -57,7 +57,7 @@ pub fn bind(
 }
 
 /// Refuses a name that breaks a rule: first one that isn't needed, then one of the other polarity, then one needed as returnable.
-pub fn check_names(program: &Program, function: u32, binders: &[Binder]) -> Result<(), InferError>
+pub fn check_names(program: &Program, function: usize, binders: &[Binder]) -> Result<(), InferError>
     ensures { Meets program.now result (binder_findings function (map binder_view binders.now)) }
 {
     check_found(program, function, Rule::Unused, unused(function, binders))?;
@@ -67,9 +67,9 @@ pub fn check_names(program: &Program, function: u32, binders: &[Binder]) -> Resu
 
 fn check_found(
     program: &Program,
-    function: u32,
+    function: usize,
     rule: Rule,
-    found: Option<u32>,
+    found: Option<usize>,
 ) -> Result<(), InferError>
     ensures { Meets program.now result (broken_name (rule_view rule) function found) }
 {
@@ -80,7 +80,7 @@ fn check_found(
 }
 
 /// The first receiving name that isn't needed.
-fn unused(function: u32, binders: &[Binder]) -> Option<u32>
+fn unused(function: usize, binders: &[Binder]) -> Option<usize>
     ensures { first_of (broken_name UnusedRule function result) ≡ first_of (each_unless (λ b. used_as b.type.polarity b.need) UnusedRule (λ b. AtName function b.name) (map binder_view binders.now)) }
 {
     for binder in binders {
@@ -92,7 +92,7 @@ fn unused(function: u32, binders: &[Binder]) -> Option<u32>
 }
 
 /// The first name that is needed as the other polarity.
-fn turned(function: u32, binders: &[Binder]) -> Option<u32>
+fn turned(function: usize, binders: &[Binder]) -> Option<usize>
     ensures { first_of (broken_name PolarityRule function result) ≡ first_of (each_unless (λ b. polarity_as b.type.polarity b.need) PolarityRule (λ b. AtName function b.name) (map binder_view binders.now)) }
 {
     for binder in binders {
@@ -104,7 +104,7 @@ fn turned(function: u32, binders: &[Binder]) -> Option<u32>
 }
 
 /// The first second-class name that is needed as returnable.
-fn returned(function: u32, binders: &[Binder]) -> Option<u32>
+fn returned(function: usize, binders: &[Binder]) -> Option<usize>
     ensures { first_of (broken_name SecondRule function result) ≡ first_of (each_unless (λ b. usage_as b.type.usage b.need) SecondRule (λ b. AtName function b.name) (map binder_view binders.now)) }
 {
     for binder in binders {
@@ -156,7 +156,7 @@ pub fn same_polarity(first: Polarity, second: Polarity) -> bool
 pub fn constrain_names(
     alloc: Global,
     program: &Program,
-    function: u32,
+    function: usize,
     binders: &[Binder],
     problem: &mut Problem,
 ) -> Result<(), AllocError>
@@ -172,7 +172,7 @@ pub fn constrain_names(
 fn constrain_name(
     alloc: Global,
     program: &Program,
-    function: u32,
+    function: usize,
     binder: &Binder,
     problem: &mut Problem,
 ) -> Result<(), AllocError>
@@ -207,16 +207,17 @@ pub fn bind_all(
     ensures { OnOk result (map binder_view binders.new ≡ map binder_view binders.old ++ names_bound (types_at (map (option_map type_view) types.now)) 0 names.now (needs_view needs.now)) }
 {
     for (place, name) in names.iter().enumerate() {
-        bind_at(alloc, types, place, *name, needs, binders)?;
+        bind_at(alloc, types, place, *name as usize, needs, binders)?;
     }
     Ok(())
 }
 
-fn bind_at(
+/// A name with the type at a place, if this is a mailbox, and what is needed of it.
+pub fn bind_at(
     alloc: Global,
     types: &[Option<MailboxType>],
     place: usize,
-    name: u32,
+    name: usize,
     needs: &[(u32, MailboxType)],
     binders: &mut Sequence<Binder>,
 ) -> Result<(), AllocError>

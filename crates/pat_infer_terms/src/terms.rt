@@ -192,7 +192,7 @@ fn send_args(
 fn stands_twice(target: u32, all: &Arguments) -> bool
     ensures { result ≡ (is_some (need_of (needs_view all.now.needs) target) || all.now.has_twice) }
 {
-    find(all.needs.as_slice(), target).is_some() || all.has_twice
+    find(all.needs.as_slice(), target as usize).is_some() || all.has_twice
 }
 
 /// A send of a tag of an interface to a variable.

@@ -1,10 +1,10 @@
 -- Functions, by their signatures.
-use Rattle.std.proofs.Common.{◌≡◌, ℕ, suc, ◌<◌, drop, arith, ◌+◌, List, [], ◌∷◌, ◌++◌, length, map, Some, None, Result, Err, refl, sym, ap, ◌∙◌, subst}
+use Rattle.std.proofs.Common.{◌≡◌, ℕ, suc, ◌<◌, drop, arith, ◌+◌, List, [], ◌∷◌, ◌++◌, length, map, Option, Some, None, Result, Err, refl, sym, ap, ◌∙◌, subst}
 use Rattle.std.specs.Prelude.{slice_get}
 use Rattle.std.proofs.lemmas.List.{append-nil, append_assoc, at_drop_more}
 use Rattle.pat_model.specs.Programs.{Function}
 use Rattle.pat_model.specs.Programs as core
-use Rattle.pat_typing.specs.Types.{TypeEnv}
+use Rattle.pat_typing.specs.Types.{TypeEnv, MailboxType as MailboxTypeOf}
 use Rattle.pat_open_types.specs.NodeTypes.{Needs, need_of}
 use Rattle.pat_open_types.specs.Signatures.{open_param, open_result}
 use Rattle.pat_inference.specs.Constraints.{Found}
@@ -22,15 +22,12 @@ use Rattle.pat_infer_problems.specs.declared.problem.Problem.{Problem}
 use Rattle.pat_infer_problems.specs.declared.error.InferError.{InferError}
 use Rattle.pat_infer_signatures.specs.Opened.{Signature, signatures_from}
 use Rattle.pat_infer_needs.specs.Types.{types_at}
-use Rattle.pat_infer_walk.specs.Walking.{IsWalked, HasGrown, Finds}
-use Rattle.pat_infer_walk.proofs.Parts.{first_behind, refuses_behind, grows_then}
+use Rattle.pat_infer_walk.specs.Walking.{HasGrown, Finds}
+use Rattle.pat_infer_problems.specs.Walked.{IsWalked}
+use Rattle.pat_infer_terms.proofs.Payloads.{names_same}
+use Rattle.pat_infer_walk.proofs.Parts.{grows_then}
+use Rattle.pat_infer_problems.proofs.Joining.{first_behind, refuses_behind}
 use Rattle.pat_infer_walk.proofs.SignedNumbers.{signed_as}
-
-names_same : (f g : TypeEnv) → ((k : ℕ) → f k ≡ g k) → (k : ℕ) (xs : List ℕ) (needs : Needs) → names_bound f k xs needs ≡ names_bound g k xs needs
-names_same f g h k [] needs = refl
-names_same f g h k (x ∷ xs) needs =
-    ap (λ o. name_before x o (need_of needs x) (names_bound f (suc k) xs needs)) (h k)
-    ∙ ap (λ bs. name_before x (g k) (need_of needs x) bs) (names_same f g h (suc k) xs needs)
 
 some_is : (a b : Signature) → Some a ≡ Some b → a ≡ b
 some_is a b h = cc
@@ -77,16 +74,23 @@ pub finds_exits : {A : Type 0} (p : Program) (res : Result A InferError) (given 
 finds_exits {A} p res given e old new r is from h =
     subst (λ (v : Result A InferError). Finds p old new v r) (sym (is ∙ ap (λ (z : InferError). Err z) from)) h
 
+name_then : (x : ℕ) (o : Option MailboxTypeOf) (need : Option MailboxTypeOf) (bs : List Binder) → name_before x o need [] ++ bs ≡ name_before x o need bs
+name_then x None need bs = refl
+name_then x (Some a) need bs = refl
+
 -- one parameter's name more
-pub names_more : (xs : List CodeSort) (n : ℕ) (names more : List ℕ) → n < length xs → more ≡ names ++ n ∷ [] → more ++ param_names (n + 1) (map sort_view (drop (n + 1) xs)) ≡ names ++ param_names n (map sort_view (drop n xs))
-names_more [] n names more h e = absurd (not_below n h)
+pub bound_more : (types : TypeEnv) (needs : Needs) (xs : List CodeSort) (n : ℕ) (bs more : List Binder) → n < length xs → more ≡ bs ++ name_before n (types n) (need_of needs n) [] → more ++ names_bound types (n + 1) (param_names (n + 1) (map sort_view (drop (n + 1) xs))) needs ≡ bs ++ names_bound types n (param_names n (map sort_view (drop n xs))) needs
+bound_more types needs [] n bs more h e = absurd (not_below n h)
   where
     not_below : (k : ℕ) → k < 0 → ⊥
     not_below k l = omega (arith, l)
-names_more (y ∷ ys) n names more h e =
+bound_more types needs (y ∷ ys) n bs more h e =
     let row = at_drop_more (λ zs. zs) (y ∷ ys) n y h in
     let next : n + 1 ≡ suc n = omega arith in
-    ap (λ zs. zs ++ param_names (n + 1) (map sort_view (drop (n + 1) (y ∷ ys)))) e
-    ∙ append_assoc names (n ∷ []) (param_names (n + 1) (map sort_view (drop (n + 1) (y ∷ ys))))
-    ∙ ap (λ z. names ++ n ∷ param_names z (map sort_view (drop (n + 1) (y ∷ ys)))) next
-    ∙ ap (λ zs. names ++ param_names n (map sort_view zs)) (sym row)
+    let left : List CodeSort = drop (n + 1) (y ∷ ys) in
+    let own : List Binder = name_before n (types n) (need_of needs n) [] in
+    ap (λ zs. zs ++ names_bound types (n + 1) (param_names (n + 1) (map sort_view left)) needs) e
+    ∙ append_assoc bs own (names_bound types (n + 1) (param_names (n + 1) (map sort_view left)) needs)
+    ∙ ap (λ z. bs ++ (own ++ names_bound types z (param_names z (map sort_view left)) needs)) next
+    ∙ ap (λ zs. bs ++ zs) (name_then n (types n) (need_of needs n) (names_bound types (suc n) (param_names (suc n) (map sort_view left)) needs))
+    ∙ ap (λ zs. bs ++ names_bound types n (param_names n (map sort_view zs)) needs) (sym row)

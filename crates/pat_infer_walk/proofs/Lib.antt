@@ -1,4 +1,4 @@
 mod SignedNumbers
 mod Climbing
 mod Parts
-mod Functions
+pub mod Functions

@@ -24,79 +24,26 @@ use Rattle.pat_infer_problems.specs.declared.problem.Problem.{Problem}
 use Rattle.pat_infer_problems.specs.declared.error.InferError.{InferError}
 use Rattle.pat_infer_problems.specs.declared.error.InferError.TheVariants.{Untypable, NoMemory}
 use Rattle.pat_infer_needs.specs.Gathering.{IsGathered}
-use Rattle.pat_infer_lets.specs.Lets as lets
 use Rattle.pat_infer_lets.specs.Lets.{own_let}
 use Rattle.pat_infer_terms.specs.Adding.{IsAdded}
-use Rattle.pat_infer_branches.specs.Guards as guards
 use Rattle.pat_infer_branches.specs.Guards.{own_guard}
 use Rattle.pat_infer_branches.specs.Arms.{arm_view}
 use Rattle.pat_infer_branches.specs.declared.guards.Guarded.{Guarded}
 use Rattle.pat_infer_branches.specs.declared.arms.WalkedArm.{WalkedArm}
 use Rattle.pat_infer_walk.specs.declared.walk.Branch.{Branch}
 use Rattle.pat_infer_walk.specs.Chains.{core_bound, node_bound, let_core, let_around, climbed}
-use Rattle.pat_infer_walk.specs.Walking.{branch_view, IsWalked, Infers, AreWalked}
+use Rattle.pat_infer_walk.specs.Walking.{branch_view, AreWalked}
+use Rattle.pat_infer_problems.specs.Walked.{IsWalked, Infers}
+use Rattle.pat_infer_problems.proofs.Joining.{first_behind, refuses_front, refuses_behind, refuses_by, settled_both, grows_none, grows_both, grown}
 use Rattle.pat_infer_walk.proofs.Climbing.{first_up}
-
--- ---- first findings
-
--- where nothing is found in the front, the rest decides
-pub first_behind : (xs ys : List Finding) → first_of xs ≡ None → first_of (xs ++ ys) ≡ first_of ys
-first_behind [] ys e = refl
-first_behind (x ∷ xs) ys e = cc
-
-pub refuses_front : (p : Program) (e : InferError) (xs ys : List Finding) → Refuses p e xs → Refuses p e (xs ++ ys)
-refuses_front p (Untypable s r) [] ys h = cc
-refuses_front p (Untypable s r) (x ∷ xs) ys h = h
-refuses_front p NoMemory xs ys h = tt
-
-pub refuses_behind : (p : Program) (e : InferError) (xs ys : List Finding) → first_of xs ≡ None → Refuses p e ys → Refuses p e (xs ++ ys)
-refuses_behind p e [] ys n h = h
-refuses_behind p e (x ∷ xs) ys n h = cc
-
-pub refuses_by : (p : Program) (e : InferError) (xs ys : List Finding) → ((x : Finding) → first_of xs ≡ Some x → first_of ys ≡ Some x) → Refuses p e xs → Refuses p e ys
-refuses_by p (Untypable s r) [] ys f h = cc
-refuses_by p (Untypable s r) (x ∷ xs) ys f h = ap (option_map (placed_finding p)) (f x refl) ∙ h
-refuses_by p NoMemory xs ys f h = tt
 
 -- ---- problems that grow
 
-settled_both : (xs ys : List (ℕ × NodeType)) (ts : List NodeType) → settled (xs ++ ys) ts ≡ settled ys (settled xs ts)
-settled_both [] ys ts = refl
-settled_both (x ∷ xs) ys ts = settled_both xs ys (slice_set ts x.0 x.1)
-
-pub grows_none : (q : Problem) → Grows q q [] [] []
-grows_none q = record {
-  vars = sym (append-nil (map placed_variable_of q.vars));
-  constraints = sym (append-nil (map constraint_view q.constraints));
-  nodes = refl;
-}
-
-added_both : {A B : Type 0} (f : A → B) (a b c : List B) (v w : List A) → b ≡ a ++ map f v → c ≡ b ++ map f w → c ≡ a ++ map f (v ++ w)
-added_both f a b c v w h k = k ∙ ap (λ x. x ++ map f w) h ∙ append_assoc a (map f v) (map f w) ∙ ap (λ x. a ++ x) (sym (map-append f v w))
-
-pub grows_both : (p : Program) (a b c : Problem) (v1 v2 : List Variable) (c1 c2 : List found.Constraint) (n1 n2 : List (ℕ × NodeType)) → Grows a b (map (placed_variable p) v1) (map (placed_constraint p) c1) n1 → Grows b c (map (placed_variable p) v2) (map (placed_constraint p) c2) n2 → Grows a c (map (placed_variable p) (v1 ++ v2)) (map (placed_constraint p) (c1 ++ c2)) (n1 ++ n2)
-grows_both p a b c v1 v2 c1 c2 n1 n2 g h = record {
-  vars = added_both (placed_variable p) (map placed_variable_of a.vars) (map placed_variable_of b.vars) (map placed_variable_of c.vars) v1 v2 g.vars h.vars;
-  constraints = added_both (placed_constraint p) (map constraint_view a.constraints) (map constraint_view b.constraints) (map constraint_view c.constraints) c1 c2 g.constraints h.constraints;
-  nodes = h.nodes ∙ ap (settled n2) g.nodes ∙ sym (settled_both n1 n2 (map node_type_view a.nodes));
-}
-
--- the same where no node is set at last
+-- one part behind another, where no node is set at last
 pub grows_then : (p : Program) (a b c : Problem) (v1 v2 : List Variable) (c1 c2 : List found.Constraint) (n1 : List (ℕ × NodeType)) → Grows a b (map (placed_variable p) v1) (map (placed_constraint p) c1) n1 → Grows b c (map (placed_variable p) v2) (map (placed_constraint p) c2) [] → Grows a c (map (placed_variable p) (v1 ++ v2)) (map (placed_constraint p) (c1 ++ c2)) n1
 grows_then p a b c v1 v2 c1 c2 n1 g h =
     let q = grows_both p a b c v1 v2 c1 c2 n1 [] g h in
     record { vars = q.vars; constraints = q.constraints; nodes = h.nodes ∙ g.nodes }
-
--- how many variables there are then
-pub grown : (p : Program) (a b : Problem) (vs : List Variable) (cs : List PlacedConstraint) (ns : List (ℕ × NodeType)) → Grows a b (map (placed_variable p) vs) cs ns → 1 + length b.vars ≡ 1 + length a.vars + length vs
-grown p a b vs cs ns g =
-    let counts : length b.vars ≡ length a.vars + length vs =
-    sym (length-map b.vars placed_variable_of)
-    ∙ ap length g.vars
-    ∙ length-append (map placed_variable_of a.vars) (map (placed_variable p) vs)
-    ∙ ap (λ n. n + length (map (placed_variable p) vs)) (length-map a.vars placed_variable_of)
-    ∙ ap (λ n. length a.vars + n) (length-map vs (placed_variable p)) in
-    omega (arith, counts)
 
 -- ---- terms
 
@@ -141,16 +88,16 @@ kept_walked p old mid new needs r n t w g =
 -- ---- lets
 
 module _ (p : Program) (a b c : Problem) (n : ℕ) (x : Option ℕ) (r s : Found) where
-  pub let_walked : (d : Problem) (body bound inner needs : List (ℕ × MailboxType)) → IsWalked p a b body r → IsWalked p b c bound s → needs_view inner ≡ body_needs x (needs_view body) → lets.IsJoined p c d needs (own_let n (1 + length c.vars) (needs_view bound) (needs_view inner)) → IsWalked p a d needs (let_found n (1 + length a.vars + length r.vars + length s.vars) x r s)
+  pub let_walked : (d : Problem) (body bound inner needs : List (ℕ × MailboxType)) → IsWalked p a b body r → IsWalked p b c bound s → needs_view inner ≡ body_needs x (needs_view body) → IsWalked p c d needs (own_let n (1 + length c.vars) (needs_view bound) (needs_view inner)) → IsWalked p a d needs (let_found n (1 + length a.vars + length r.vars + length s.vars) x r s)
   let_walked d body bound inner needs w v e j =
       let number : 1 + length c.vars ≡ 1 + length a.vars + length r.vars + length s.vars =
       grown p b c s.vars (map (placed_constraint p) s.constraints) s.nodes v.grows ∙ ap (λ z. z + length s.vars) (grown p a b r.vars (map (placed_constraint p) r.constraints) r.nodes w.grows) in
       let k : ℕ = 1 + length a.vars + length r.vars + length s.vars in
       let inside : needs_view inner ≡ body_needs x r.needs = e ∙ ap (body_needs x) w.needed in
-      let i : lets.IsJoined p c d needs (own_let n k s.needs (body_needs x r.needs)) =
-      subst (λ (z : Needs). lets.IsJoined p c d needs (own_let n k s.needs z)) inside
-      (subst (λ (z : Needs). lets.IsJoined p c d needs (own_let n k z (needs_view inner))) v.needed
-      (subst (λ (z : ℕ). lets.IsJoined p c d needs (own_let n z (needs_view bound) (needs_view inner))) number j)) in
+      let i : IsWalked p c d needs (own_let n k s.needs (body_needs x r.needs)) =
+      subst (λ (z : Needs). IsWalked p c d needs (own_let n k s.needs z)) inside
+      (subst (λ (z : Needs). IsWalked p c d needs (own_let n k z (needs_view inner))) v.needed
+      (subst (λ (z : ℕ). IsWalked p c d needs (own_let n z (needs_view bound) (needs_view inner))) number j)) in
       let own : Found = own_let n k s.needs (body_needs x r.needs) in
       record {
         needed = i.needed;
@@ -201,14 +148,14 @@ module _ (p : Program) (old mid new : Problem) (g : Guarded) (arms : List Walked
   abbrev whole : ℕ → Found
   whole k = guard_found (program_view p) g.function g.node k g.variable (pattern_view g.pattern.now) g.interface g.has_free (map clause_view g.clauses.now) r
 
-  pub guard_walked : (res : Result (List (ℕ × MailboxType)) InferError) → AreWalked p old mid arms r → guards.Joins p mid new res (own_guard (program_view p) g (1 + length mid.vars) (map arm_view arms)) → Infers p old new res (whole (1 + length old.vars + length r.vars))
+  pub guard_walked : (res : Result (List (ℕ × MailboxType)) InferError) → AreWalked p old mid arms r → Infers p mid new res (own_guard (program_view p) g (1 + length mid.vars) (map arm_view arms)) → Infers p old new res (whole (1 + length old.vars + length r.vars))
   guard_walked (Ok needs) w j =
       let number : 1 + length mid.vars ≡ 1 + length old.vars + length r.vars = grown p old mid r.vars (map (placed_constraint p) r.constraints) r.nodes w.grows in
       let k : ℕ = 1 + length old.vars + length r.vars in
       let own : Found = own_guard (program_view p) g k r.arms in
-      let i : guards.IsJoined p mid new needs own =
-      subst (λ (z : List branches.Arm). guards.IsJoined p mid new needs (own_guard (program_view p) g k z)) w.parts
-      (subst (λ (z : ℕ). guards.IsJoined p mid new needs (own_guard (program_view p) g z (map arm_view arms))) number j) in
+      let i : IsWalked p mid new needs own =
+      subst (λ (z : List branches.Arm). IsWalked p mid new needs (own_guard (program_view p) g k z)) w.parts
+      (subst (λ (z : ℕ). IsWalked p mid new needs (own_guard (program_view p) g z (map arm_view arms))) number j) in
       record {
         needed = i.needed;
         grows = grows_then p old mid new r.vars own.vars r.constraints own.constraints r.nodes w.grows i.grows;
@@ -381,7 +328,7 @@ module _ (p : Program) (first now : Problem) (levels n : ℕ) (t : TypeOf) (x : 
       subst (λ (z : Found). Refuses p e z.findings) (sym (around_is v (walk levels v) levels n (1 + length first.vars) t x m r (node_at v n) b))
       (let_refused p first now mid n x r s e body bound inner (1 + length first.vars + length r.vars + length s.vars) (1 + length mid.vars) w i g h)
 
-  pub let_closes : (mid join new : Problem) (bound inner needs : List (ℕ × MailboxType)) → node_bound (node_at v n) ≡ Some (x, m) → wanted ≡ asked_of (node_at v m) (name_need x (needs_view body)) → IsWalked p first now body r → IsWalked p now mid bound (walk levels v m wanted (1 + length now.vars)) → needs_view inner ≡ body_needs x (needs_view body) → lets.IsJoined p mid join needs (own_let n (1 + length mid.vars) (needs_view bound) (needs_view inner)) → Grows join new [] [] ((n, record { result = t; needs = needs_view needs }) ∷ []) → IsWalked p first new needs whole_let
+  pub let_closes : (mid join new : Problem) (bound inner needs : List (ℕ × MailboxType)) → node_bound (node_at v n) ≡ Some (x, m) → wanted ≡ asked_of (node_at v m) (name_need x (needs_view body)) → IsWalked p first now body r → IsWalked p now mid bound (walk levels v m wanted (1 + length now.vars)) → needs_view inner ≡ body_needs x (needs_view body) → IsWalked p mid join needs (own_let n (1 + length mid.vars) (needs_view bound) (needs_view inner)) → Grows join new [] [] ((n, record { result = t; needs = needs_view needs }) ∷ []) → IsWalked p first new needs whole_let
   let_closes mid join new bound inner needs b f w u g j h =
       let s : Found = bound_of (1 + length first.vars + length r.vars) in
       let i : IsWalked p now mid bound s = subst (IsWalked p now mid bound) (same_bound b f w) u in

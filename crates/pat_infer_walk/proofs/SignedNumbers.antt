@@ -22,7 +22,8 @@ use Rattle.pat_infer_signatures.specs.Opened.{Signature, open_params, params_end
 use Rattle.pat_infer_needs.specs.Types.{types_at}
 use Rattle.pat_infer_terms.specs.Adding.{Adds}
 use Rattle.pat_infer_terms.specs.Calls.{signed_call}
-use Rattle.pat_infer_walk.specs.Walking.{Infers}
+use Rattle.pat_infer_terms.proofs.Payloads.{needs_same, args_same}
+use Rattle.pat_infer_problems.specs.Walked.{Infers}
 
 -- the type at a place
 pub params_at : (k : ℕ) (ss : List Sort) (j : ℕ) → types_at (open_params k ss) j ≡ option_and_then (sort_type (Var (number_at k ss j))) (slice_get ss j)
@@ -85,20 +86,6 @@ of_signature k (g ∷ gs) zero s h = record { function = g; there = refl }
 of_signature k (g ∷ gs) (suc f) s h =
     let q = of_signature (signature_end k g) gs f s h in
     record { function = q.function; there = q.there }
-
-needs_same : (f g : TypeEnv) → ((k : ℕ) → f k ≡ g k) → (k : ℕ) (es : List Expr) → args_needs f k es ≡ args_needs g k es
-needs_same f g h k [] = refl
-needs_same f g h k (VarExpr x ∷ es) =
-    ap (λ o. put_option x o (args_needs f (suc k) es)) (h k) ∙ ap (λ w. put_option x (g k) w) (needs_same f g h (suc k) es)
-needs_same f g h k (Literal c ∷ es) = needs_same f g h (suc k) es
-needs_same f g h k (OpExpr op a b ∷ es) = needs_same f g h (suc k) es
-
-args_same : (f g : TypeEnv) → ((k : ℕ) → f k ≡ g k) → (k : ℕ) (es : List Expr) → mailbox_args f k es ≡ mailbox_args g k es
-args_same f g h k [] = refl
-args_same f g h k (VarExpr x ∷ es) =
-    ap (λ o. if_mailbox o x (mailbox_args f (suc k) es)) (h k) ∙ ap (λ w. if_mailbox (g k) x w) (args_same f g h (suc k) es)
-args_same f g h k (Literal c ∷ es) = args_same f g h (suc k) es
-args_same f g h k (OpExpr op a b ∷ es) = args_same f g h (suc k) es
 
 module _ (p : Program) (n f : ℕ) (asked : TypeOf) (es : List Expr) where
   abbrev found_by : List ℕ → Needs → TypeOf → Found

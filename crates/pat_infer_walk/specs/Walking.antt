@@ -5,8 +5,6 @@ use Rattle.pat_inference.specs.Branches as branches
 use Rattle.pat_inference.specs.Walk.{Arms}
 use Rattle.pat_core.specs.declared.program.Program.{Program}
 use Rattle.pat_core.specs.Views.{program_view, clause_view}
-use Rattle.pat_types.specs.Views.{needs_view}
-use Rattle.pat_types.specs.declared.types.MailboxType.{MailboxType}
 use Rattle.pat_infer_problems.specs.Views.{placed_variable, placed_constraint}
 use Rattle.pat_infer_problems.specs.Results.{Refuses, first_of}
 use Rattle.pat_infer_problems.specs.Growing.{Grows}
@@ -26,18 +24,7 @@ IsSigned s = map signature_view s.signatures.now ≡ signatures_from 1 (program_
 abbrev pub branch_view : Branch → branches.Branch
 branch_view b = record { body = b.body; clause = option_map (λ r. clause_view r.now) b.clause }
 
--- no rule is broken; what is needed is found, and the problem has the variables, the constraints and the nodes
-pub record IsWalked (p : Program) (old new : Problem) (needs : List (ℕ × MailboxType)) (r : Found) : Type 0 where
-  pub needed : needs_view needs ≡ r.needs
-  pub grows : Grows old new (map (placed_variable p) r.vars) (map (placed_constraint p) r.constraints) r.nodes
-  pub clean : first_of r.findings ≡ None
-
--- the same, or the first broken rule
-abbrev pub Infers : Program → Problem → Problem → Result (List (ℕ × MailboxType)) InferError → Found → Type 0
-Infers p old new (Ok needs) r = IsWalked p old new needs r
-Infers p old new (Err e) r = Refuses p e r.findings
-
--- the same of branches
+-- branches of which no rule is broken
 pub record AreWalked (p : Program) (old new : Problem) (arms : List WalkedArm) (r : Arms) : Type 0 where
   pub parts : map arm_view arms ≡ r.arms
   pub grows : Grows old new (map (placed_variable p) r.vars) (map (placed_constraint p) r.constraints) r.nodes

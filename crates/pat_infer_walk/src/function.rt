@@ -3,44 +3,27 @@ ghost use Rattle.std.specs.Prelude.{◌≡◌, ◌+◌, ◌++◌, Some, length, 
 ghost use Rattle.pat_inference.specs.Binders.{names_bound, param_names};
 ghost use Rattle.pat_inference.specs.Walk.{walk_function as found_of_function};
 ghost use Rattle.pat_core.specs.Views.{program_view, function_view, sort_view};
-ghost use Rattle.pat_types.specs.Views.{needs_view};
+ghost use Rattle.pat_types.specs.Views.{type_view, needs_view};
 ghost use Rattle.pat_infer_signatures.specs.Views.{signature_view};
 ghost use Rattle.pat_infer_needs.specs.Types.{types_at};
 ghost use Rattle.pat_infer_terms.specs.Views.{binder_view};
 ghost use Rattle.pat_infer_walk.specs.Walking.{IsSigned, Finds};
 
-use crate::walk::{Signed, signature_of, walk};
+use crate::walk::{Signed, walk};
 use pat_core::{Function, Program, Sort};
 use pat_infer_problems::{InferError, Problem};
 use pat_infer_signatures::Signature;
-use pat_infer_terms::{Binder, bind_all, check_names, constrain_names};
+use pat_infer_terms::{Binder, bind_at, check_names, constrain_names};
 use pat_sequences::Sequence;
 use pat_types::MailboxType;
 use std::alloc::{AllocError, Global};
 
-/// Walks a function, whose number this is: adds to the problem just the variables, constraints and types of nodes that backward
-/// typing finds in it, or answers the first broken rule with its place, or want of memory.
+/// Walks a function, whose number and signature these are: adds to the problem just the variables, constraints and types of
+/// nodes that backward typing finds in it, or answers the first broken rule with its place, or want of memory.
 pub fn walk_function(
     alloc: Global,
     signed: &Signed,
-    number: u32,
-    function: &Function,
-    problem: &mut Problem,
-) -> Result<(), InferError>
-    requires signed { IsSigned signed.now }
-    requires function { slice_get (program_view signed.now.program.now).functions number ≡ Some (function_view function.now) }
-    ensures { Finds signed.now.program.now problem.old problem.new result (found_of_function (program_view signed.now.program.now) number (function_view function.now) (1 + length problem.old.vars)) }
-{
-    match signature_of(signed.signatures, number) {
-        None => Err(InferError::NoMemory),
-        Some(signature) => walk_signed(alloc, signed, number, function, signature, problem),
-    }
-}
-
-fn walk_signed(
-    alloc: Global,
-    signed: &Signed,
-    number: u32,
+    number: usize,
     function: &Function,
     signature: &Signature,
     problem: &mut Problem,
@@ -50,7 +33,7 @@ fn walk_signed(
     requires signature { slice_get (map signature_view signed.now.signatures.now) number ≡ Some (signature_view signature.now) }
     ensures { Finds signed.now.program.now problem.old problem.new result (found_of_function (program_view signed.now.program.now) number (function_view function.now) (1 + length problem.old.vars)) }
 {
-    let levels = count_of(signed.program.nodes.len())?;
+    let levels = signed.program.nodes.len();
     let needs = walk(
         alloc,
         signed,
@@ -74,37 +57,26 @@ fn binders_of(
 ) -> Result<Sequence<Binder>, AllocError>
     ensures { IfOk result (λ bs. map binder_view bs ≡ names_bound (types_at (signature_view signature.now).params) 0 (param_names 0 (function_view function.now).params) (needs_view needs.now)) }
 {
-    let mut binders = Sequence::new(alloc);
-    let names = parameter_names(alloc, function.params.as_slice())?;
-    bind_all(
+    bind_parameters(
         alloc,
+        function.params.as_slice(),
         signature.params.as_slice(),
-        names.as_slice(),
         needs,
-        &mut binders,
-    )?;
-    Ok(binders)
-}
-
-/// The number, if it is below 2^32; want of memory comes where it isn't.
-fn count_of(count: usize) -> Result<u32, AllocError>
-    ensures { IfOk result (λ n. n ≡ count) }
-{
-    if count > u32::MAX as usize {
-        Err(AllocError)
-    } else {
-        Ok(count as u32)
-    }
+    )
 }
 
 /// Parameters are the first variables.
-fn parameter_names(alloc: Global, params: &[Sort]) -> Result<Sequence<u32>, AllocError>
-    ensures { IfOk result (λ names. names ≡ param_names 0 (map sort_view params.now)) }
+fn bind_parameters(
+    alloc: Global,
+    params: &[Sort],
+    types: &[Option<MailboxType>],
+    needs: &[(u32, MailboxType)],
+) -> Result<Sequence<Binder>, AllocError>
+    ensures { IfOk result (λ bs. map binder_view bs ≡ names_bound (types_at (map (option_map type_view) types.now)) 0 (param_names 0 (map sort_view params.now)) (needs_view needs.now)) }
 {
-    let count = count_of(params.len())?;
-    let mut names = Sequence::new(alloc);
-    for number in 0..count {
-        names.push(number)?;
+    let mut binders = Sequence::new(alloc);
+    for place in 0..params.len() {
+        bind_at(alloc, types, place, place, needs, &mut binders)?;
     }
-    Ok(names)
+    Ok(binders)
 }

@@ -14,7 +14,8 @@ ghost use Rattle.pat_types.specs.Views.{needs_view, result_view};
 ghost use Rattle.pat_infer_problems.specs.Growing.{Grows};
 ghost use Rattle.pat_infer_problems.specs.declared.problem.Problem.{Problem as GhostProblem};
 ghost use Rattle.pat_infer_walk.specs.Chains.{core_body, node_body, next_body, node_bound, let_around, climbed};
-ghost use Rattle.pat_infer_walk.specs.Walking.{IsSigned, IsWalked, Infers, InfersArms, branch_view};
+ghost use Rattle.pat_infer_walk.specs.Walking.{IsSigned, InfersArms, branch_view};
+ghost use Rattle.pat_infer_problems.specs.Walked.{IsWalked, Infers};
 
 use pat_core::{Clause, Core, Kind, Node, Program};
 use pat_infer_branches::{Guarded, WalkedArm, check_arms, gather_arms, guard_needs};
@@ -48,7 +49,7 @@ pub struct Branch<'a> {
 pub fn walk(
     alloc: Global,
     signed: &Signed,
-    levels: u32,
+    levels: usize,
     node: u32,
     asked: &TypeOf,
     problem: &mut Problem,
@@ -73,11 +74,11 @@ pub fn walk(
 #[derive(Drop)]
 struct Chain {
     lets: Stack<u32>,
-    level: u32,
+    level: usize,
     last: u32,
 }
 
-fn chain_of(alloc: Global, program: &Program, levels: u32, node: u32) -> Result<Chain, AllocError>
+fn chain_of(alloc: Global, program: &Program, levels: usize, node: u32) -> Result<Chain, AllocError>
     ensures climbs { IfOk result (λ c. (t : types.TypeOf) (k : ℕ) → climbed (program_view program.now) t k c.level c.lets (walk_of c.level (program_view program.now) c.last t k) ≡ walk_of levels (program_view program.now) node t k) }
     ensures count { IfOk result (λ c. length c.lets + c.level ≡ levels) }
     ensures last { IfOk result (λ c. next_body c.level (node_at (program_view program.now) c.last) ≡ None) }
@@ -94,7 +95,7 @@ fn chain_of(alloc: Global, program: &Program, levels: u32, node: u32) -> Result<
 }
 
 /// The body of a let, where a level is left.
-fn body_below(program: &Program, level: u32, node: u32) -> Option<u32>
+fn body_below(program: &Program, level: usize, node: u32) -> Option<u32>
     ensures { result ≡ next_body level (node_at (program_view program.now) node) }
 {
     if level == 0 {
@@ -122,7 +123,7 @@ fn let_body(program: &Program, node: u32) -> Option<u32>
 fn walk_inner(
     alloc: Global,
     signed: &Signed,
-    level: u32,
+    level: usize,
     node: u32,
     asked: &TypeOf,
     problem: &mut Problem,
@@ -143,14 +144,14 @@ fn walk_inner(
 fn close_lets(
     alloc: Global,
     signed: &Signed,
-    level: u32,
+    level: usize,
     lets: Stack<u32>,
     asked: &TypeOf,
     inner: Sequence<(u32, MailboxType)>,
     problem: &mut Problem,
 ) -> Result<Sequence<(u32, MailboxType)>, InferError>
     requires signed { IsSigned signed.now }
-    requires fits { length lets + level < 4294967296 }
+    requires fits { length lets + level < 18446744073709551616 }
     ensures { (first : GhostProblem) (r : Found) → IsWalked signed.now.program.now first problem.old inner r → Infers signed.now.program.now first problem.new result (climbed (program_view signed.now.program.now) (result_view asked.now) (1 + length first.vars) level lets r) }
 {
     let mut left = lets;
@@ -168,7 +169,7 @@ fn close_lets(
 fn walk_last(
     alloc: Global,
     signed: &Signed,
-    levels: u32,
+    levels: usize,
     node: u32,
     asked: &TypeOf,
     problem: &mut Problem,
@@ -195,7 +196,7 @@ fn node_of(program: &Program, node: u32) -> Option<&Node>
 }
 
 /// A function's signature, if it is there.
-pub fn signature_of(signatures: &[Signature], function: u32) -> Option<&Signature>
+fn signature_of(signatures: &[Signature], function: u32) -> Option<&Signature>
     ensures { option_map (λ s. signature_view s.now) result ≡ slice_get (map signature_view signatures.now) function }
 {
     signatures.get(function as usize)
@@ -221,7 +222,7 @@ fn keep_node(
 fn walk_core(
     alloc: Global,
     signed: &Signed,
-    levels: u32,
+    levels: usize,
     node: u32,
     there: &Node,
     asked: &TypeOf,
@@ -332,7 +333,7 @@ fn taken_as_second(
 fn walk_choice(
     alloc: Global,
     signed: &Signed,
-    levels: u32,
+    levels: usize,
     node: u32,
     yes: u32,
     no: u32,
@@ -362,7 +363,7 @@ fn walk_choice(
 fn walk_guard(
     alloc: Global,
     signed: &Signed,
-    levels: u32,
+    levels: usize,
     guarded: &Guarded,
     free: Option<u32>,
     asked: &TypeOf,
@@ -436,7 +437,7 @@ fn add_branch<'a>(
 fn walk_branches<'a>(
     alloc: Global,
     signed: &Signed,
-    levels: u32,
+    levels: usize,
     branches: &[Branch<'a>],
     asked: &TypeOf,
     problem: &mut Problem,
@@ -460,7 +461,7 @@ fn walk_branches<'a>(
 fn close_let(
     alloc: Global,
     signed: &Signed,
-    levels: u32,
+    levels: usize,
     node: u32,
     asked: &TypeOf,
     body: Sequence<(u32, MailboxType)>,

@@ -17,9 +17,11 @@ use Rattle.pat_types.specs.Views.{result_view}
 use Rattle.pat_infer_problems.specs.Results.{Refuses}
 use Rattle.pat_model.specs.Programs.{Node, node_at}
 use Rattle.pat_infer_walk.specs.Chains.{climbed, let_around}
-use Rattle.pat_infer_walk.specs.Walking.{IsWalked, Infers, AreWalked, branch_view}
+use Rattle.pat_infer_walk.specs.Walking.{AreWalked, branch_view}
+use Rattle.pat_infer_problems.specs.Walked.{IsWalked, Infers}
+use Rattle.pat_infer_problems.proofs.Joining.{refuses_by}
 use Rattle.pat_infer_walk.proofs.Climbing.{first_up}
-use Rattle.pat_infer_walk.proofs.Parts.{Closing, StillToWalk, closing_refused, refuses_by, exits, row_from, bound_stops, let_stops, let_closes, guard_walked, one_more, nothing_walked, kept_walked}
+use Rattle.pat_infer_walk.proofs.Parts.{Closing, StillToWalk, closing_refused, exits, row_from, bound_stops, let_stops, let_closes, guard_walked, one_more, nothing_walked, kept_walked}
 use Rattle.pat_infer_walk.proofs.walk.+terms.Goals as goal
 
 pub close_let-returns-in_err-bound-in-Some : goal.close_let-returns-in_err-bound-in-Some

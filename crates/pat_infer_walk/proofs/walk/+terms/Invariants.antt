@@ -4,7 +4,7 @@ use Rattle.pat_inference.specs.Walk.{walk}
 use Rattle.pat_core.specs.Views.{program_view}
 use Rattle.pat_types.specs.Views.{result_view}
 use Rattle.pat_infer_problems.specs.declared.problem.Problem.{Problem}
-use Rattle.pat_infer_walk.specs.Walking.{IsWalked}
+use Rattle.pat_infer_problems.specs.Walked.{IsWalked}
 use Rattle.pat_infer_walk.proofs.Parts.{Closing, StillToWalk}
 use Rattle.pat_infer_walk.proofs.walk.+terms.Given as goal
 

@@ -13,10 +13,10 @@ use Rattle.pat_infer_problems.specs.Results.{Refuses}
 use Rattle.pat_infer_signatures.specs.Opened.{Signature, signatures_from}
 use Rattle.pat_infer_signatures.specs.Views.{signature_view}
 use Rattle.pat_infer_terms.specs.Views.{binder_view}
-use Rattle.pat_infer_walk.specs.Walking.{IsWalked}
-use Rattle.pat_infer_walk.proofs.Parts.{refuses_front}
+use Rattle.pat_infer_problems.specs.Walked.{IsWalked}
+use Rattle.pat_infer_problems.proofs.Joining.{refuses_front}
 use Rattle.pat_infer_walk.proofs.Functions.{result_same, binders_same, function_walked, function_refused, finds_exits}
-use Rattle.pat_infer_walk.proofs.function.walk_signed.Goals as goal
+use Rattle.pat_infer_walk.proofs.function.walk_function.Goals as goal
 
 pub returns-in_err-needs : goal.returns-in_err-needs
 returns-in_err-needs c =
@@ -27,13 +27,13 @@ returns-in_err-needs c =
     let s = signature_view c.args.signature.now in
     let k : ℕ = 1 + length c.args.problem.now.vars in
     let there : slice_get (signatures_from 1 v.functions) f ≡ Some s = ap (λ (ss : List Signature). slice_get ss f) (sym c.requires.signed) ∙ c.requires.signature in
-    let many : c.in_ok-levels.levels ≡ length v.nodes = c.in_ok-levels.ensures ∙ c.len.ensures ∙ sym (length-map p.nodes node_view) in
-    let same : walk c.in_ok-levels.levels v g.body s.result k ≡ walk (length v.nodes) v g.body (open_result v f g) k =
+    let many : c.len-levels.result ≡ length v.nodes = c.len-levels.ensures ∙ sym (length-map p.nodes node_view) in
+    let same : walk c.len-levels.result v g.body s.result k ≡ walk (length v.nodes) v g.body (open_result v f g) k =
     ap (λ (n : ℕ). walk n v g.body s.result k) many ∙ ap (λ (z : TypeOf). walk (length v.nodes) v g.body z k) (result_same v f g s c.requires.function there) in
     let b : Found = walk (length v.nodes) v g.body (open_result v f g) k in
     let e = c.in_err-needs.field-0.0 in
-    let q = err_from_is_err_and c.from_residual-in_err-needs.result c.from_residual-in_err-needs.ensures.1 in
-    finds_exits p c.from_residual-in_err-needs.result q.0 e c.args.problem.now c.walk.new.problem (function_found v f g b) q.1 q.2
+    let q = err_from_is_err_and c.from_residual.result c.from_residual.ensures.1 in
+    finds_exits p c.from_residual.result q.0 e c.args.problem.now c.walk.new.problem (function_found v f g b) q.1 q.2
     (refuses_front p e b.findings (binder_findings f (function_binders v f g b.needs)) (subst (λ (z : Found). Refuses p e z.findings) same c.in_err-needs.ensures))
 
 pub returns-in_err-check_names : goal.returns-in_err-check_names
@@ -45,8 +45,8 @@ returns-in_err-check_names c =
     let s = signature_view c.args.signature.now in
     let k : ℕ = 1 + length c.args.problem.now.vars in
     let there : slice_get (signatures_from 1 v.functions) f ≡ Some s = ap (λ (ss : List Signature). slice_get ss f) (sym c.requires.signed) ∙ c.requires.signature in
-    let many : c.in_ok-levels.levels ≡ length v.nodes = c.in_ok-levels.ensures ∙ c.len.ensures ∙ sym (length-map p.nodes node_view) in
-    let same : walk c.in_ok-levels.levels v g.body s.result k ≡ walk (length v.nodes) v g.body (open_result v f g) k =
+    let many : c.len-levels.result ≡ length v.nodes = c.len-levels.ensures ∙ sym (length-map p.nodes node_view) in
+    let same : walk c.len-levels.result v g.body s.result k ≡ walk (length v.nodes) v g.body (open_result v f g) k =
     ap (λ (n : ℕ). walk n v g.body s.result k) many ∙ ap (λ (z : TypeOf). walk (length v.nodes) v g.body z k) (result_same v f g s c.requires.function there) in
     let b : Found = walk (length v.nodes) v g.body (open_result v f g) k in
     let e = c.in_err-check_names.field-0.0 in
@@ -65,8 +65,8 @@ returns c =
     let s = signature_view c.args.signature.now in
     let k : ℕ = 1 + length c.args.problem.now.vars in
     let there : slice_get (signatures_from 1 v.functions) f ≡ Some s = ap (λ (ss : List Signature). slice_get ss f) (sym c.requires.signed) ∙ c.requires.signature in
-    let many : c.in_ok-levels.levels ≡ length v.nodes = c.in_ok-levels.ensures ∙ c.len.ensures ∙ sym (length-map p.nodes node_view) in
-    let same : walk c.in_ok-levels.levels v g.body s.result k ≡ walk (length v.nodes) v g.body (open_result v f g) k =
+    let many : c.len-levels.result ≡ length v.nodes = c.len-levels.ensures ∙ sym (length-map p.nodes node_view) in
+    let same : walk c.len-levels.result v g.body s.result k ≡ walk (length v.nodes) v g.body (open_result v f g) k =
     ap (λ (n : ℕ). walk n v g.body s.result k) many ∙ ap (λ (z : TypeOf). walk (length v.nodes) v g.body z k) (result_same v f g s c.requires.function there) in
     let b : Found = walk (length v.nodes) v g.body (open_result v f g) k in
     let w : IsWalked p c.args.problem.now c.walk.new.problem c.in_ok-needs.needs b = subst (IsWalked p c.args.problem.now c.walk.new.problem c.in_ok-needs.needs) same c.in_ok-needs.ensures in
