@@ -9,8 +9,8 @@ mod state;
 pub use fault::Fault;
 pub use lists::{message_added, param_added, with_clause, with_decl, with_expr, with_type};
 pub use place::{
-    at, boxed_term, done, has_room, leading, levels, name_of, naming, open, open_here, over,
-    parts_before, refused, too_deep, top, waiting, with_control,
+    at, boxed_term, done, has_room, leading, name_of, naming, open, open_here, over, parts_before,
+    refused, too_deep, top, with_control,
 };
 pub use state::{
     Before, BlockFrame, ClauseControl, ClauseFrame, ClauseHead, Control, DeclControl, Defining,

@@ -3,13 +3,12 @@ ghost use Rattle.std.specs.Prelude.{◌≡◌, ◌∷◌, ◌+◌, nat_lt, suc, 
 ghost use Rattle.pat_grammar.specs.Machine as m;
 ghost use Rattle.pat_grammar.specs.Trees as trees;
 ghost use Rattle.pat_tree.specs.Views.{span_view, name_view, term_at, term_view};
-ghost use Rattle.pat_parser_states.specs.Views.{pending_view, waiting_view, before_view, leading_view, naming_view, frame_view, stack_view, control_view, state_view};
+ghost use Rattle.pat_parser_states.specs.Views.{before_view, leading_view, naming_view, frame_view, stack_view, control_view, state_view};
 ghost use Rattle.pat_parser_states.specs.Answers.{Gives, Makes, Tops};
 
 use crate::fault::Fault;
 use crate::state::{
-    Before, Control, Frame, Frames, Leading, NameControl, Naming, Pending, Place, State,
-    TermControl, Waiting,
+    Before, Control, Frame, Frames, Leading, NameControl, Naming, Place, State, TermControl,
 };
 use pat_sequences::{Sequence, Text};
 use pat_syntax::Span;
@@ -62,27 +61,6 @@ pub fn boxed_term(alloc: Global, form: Form, from: u32, to: u32) -> Result<Box<T
 {
     let span = Span { from, to };
     Ok(Box::new(alloc, Term { form, span })?)
-}
-
-/// What stands before an operand, level by level.
-pub fn levels(waiting: Waiting) -> Pending
-    ensures { pending_view result ≡ waiting_view waiting }
-{
-    match waiting {
-        Some(pending) => Box::into_inner(pending),
-        None => Pending {
-            compared: None,
-            added: None,
-            multiplied: None,
-        },
-    }
-}
-
-/// What stands before the next operand.
-pub fn waiting(alloc: Global, pending: Pending) -> Result<Waiting, Fault>
-    ensures { Gives waiting_view result (Ok (pending_view pending)) }
-{
-    Ok(Some(Box::new(alloc, pending)?))
 }
 
 /// What stands before a factor: sum, product and stars.

@@ -1,5 +1,5 @@
 // Expressions.
-ghost use Rattle.std.specs.Prelude.{ℕ, ◌≡◌, ◌∷◌, ◌+◌, map, option_map, suc, Some, None, Ok, true, false};
+ghost use Rattle.std.specs.Prelude.{ℕ, ◌≡◌, ◌∷◌, ◌+◌, map, option_map, is_some, suc, Some, None, Ok, true, false};
 ghost use Rattle.pat_grammar.specs.Trees as trees;
 ghost use Rattle.pat_grammar.specs.Grammar as grammar;
 ghost use Rattle.pat_grammar.specs.Machine as m;
@@ -12,8 +12,8 @@ ghost use Rattle.pat_parser_states.specs.Answers.{Gives, Makes};
 use pat_parser_ends::behind_simple;
 use pat_parser_states::{
     BlockFrame, Control, ExprControl, ExprFrame, Fault, Frame, Frames, Head, Operand, Pending,
-    Place, State, TermControl, Waiting, at, boxed_term, done, has_room, levels, over, refused,
-    too_deep, top, waiting, with_expr,
+    Place, State, TermControl, Waiting, at, boxed_term, done, has_room, over, refused, too_deep,
+    top, with_expr,
 };
 use pat_primitives::Op;
 use pat_sequences::Sequence;
@@ -264,65 +264,82 @@ fn behind_expr(
     }
 }
 
+/// The box for what stands before the next operand: the one that is there, or a new one.
+fn boxed(alloc: Global, waiting: Waiting) -> Result<Box<Pending>, Fault>
+    ensures { Gives (λ p. pending_view p.value) result (Ok (waiting_view waiting)) }
+{
+    if let Some(pending) = waiting {
+        return Ok(pending);
+    }
+    let nothing = Pending {
+        compared: None,
+        added: None,
+        multiplied: None,
+    };
+    Ok(Box::new(alloc, nothing)?)
+}
+
 fn add(
     alloc: Global,
     place: Place,
-    pending: Pending,
+    waiting: Waiting,
     last: Operand,
     to: u32,
     op: Op,
 ) -> Result<State, Fault>
-    ensures { Makes result (m.add_step (stack_view place.stack) place.opened place.operators place.statements (pending_view pending) (operand_view last) to (op_view op)) }
+    ensures { Makes result (m.add_step (stack_view place.stack) place.opened place.operators place.statements (waiting_view waiting) (operand_view last) to (op_view op)) }
 {
     if !has_room(place.opened, place.operators) {
-        return too_deep((place, pending, last));
+        return too_deep((place, waiting, last));
     }
-    let operators = place.operators + 1;
-    let left = sum_with(alloc, pending.added, pending.multiplied, last, to)?;
-    let next = Pending {
-        compared: pending.compared,
-        added: Some((op, left)),
-        multiplied: None,
-    };
-    let waiting = waiting(alloc, next)?;
+    let mut pending = boxed(alloc, waiting)?;
+    let (added, multiplied) = (pending.added.take(), pending.multiplied.take());
+    let left = sum_with(alloc, added, multiplied, last, to)?;
+    pending.added = Some((op, left));
     Ok(at(
-        Control::Expr(ExprControl::Want(waiting)),
+        Control::Expr(ExprControl::Want(Some(pending))),
         place.stack,
         place.opened,
-        operators,
+        place.operators + 1,
         place.statements,
     ))
+}
+
+/// Whether a comparison stands before an operand.
+fn is_compared(waiting: &Waiting) -> bool
+    ensures { result ≡ is_some (waiting_view waiting.now).compared }
+{
+    match waiting {
+        None => false,
+        Some(pending) => pending.compared.is_some(),
+    }
 }
 
 fn compare(
     alloc: Global,
     place: Place,
-    pending: Pending,
+    waiting: Waiting,
     last: Operand,
     to: u32,
     op: Op,
 ) -> Result<State, Fault>
-    ensures { Makes result (m.compare_step (stack_view place.stack) place.opened place.operators place.statements (pending_view pending) (operand_view last) to (op_view op) (left_view pending.compared)) }
+    ensures { Makes result (m.compare_step (stack_view place.stack) place.opened place.operators place.statements (waiting_view waiting) (operand_view last) to (op_view op) (waiting_view waiting).compared) }
 {
-    if pending.compared.is_some() {
-        return refused((place, pending, last));
+    if is_compared(&waiting) {
+        return refused((place, waiting, last));
     }
     if !has_room(place.opened, place.operators) {
-        return too_deep((place, pending, last));
+        return too_deep((place, waiting, last));
     }
-    let operators = place.operators + 1;
-    let sum = sum_with(alloc, pending.added, pending.multiplied, last, to)?;
-    let next = Pending {
-        compared: Some((op, sum)),
-        added: None,
-        multiplied: None,
-    };
-    let waiting = waiting(alloc, next)?;
+    let mut pending = boxed(alloc, waiting)?;
+    let (added, multiplied) = (pending.added.take(), pending.multiplied.take());
+    let left = sum_with(alloc, added, multiplied, last, to)?;
+    pending.compared = Some((op, left));
     Ok(at(
-        Control::Expr(ExprControl::Want(waiting)),
+        Control::Expr(ExprControl::Want(Some(pending))),
         place.stack,
         place.opened,
-        operators,
+        place.operators + 1,
         place.statements,
     ))
 }
@@ -330,28 +347,23 @@ fn compare(
 fn multiply(
     alloc: Global,
     place: Place,
-    pending: Pending,
+    waiting: Waiting,
     last: Operand,
     to: u32,
 ) -> Result<State, Fault>
-    ensures { Makes result (m.times_step (stack_view place.stack) place.opened place.operators place.statements (pending_view pending) (operand_view last) to) }
+    ensures { Makes result (m.times_step (stack_view place.stack) place.opened place.operators place.statements (waiting_view waiting) (operand_view last) to) }
 {
     if !has_room(place.opened, place.operators) {
-        return too_deep((place, pending, last));
+        return too_deep((place, waiting, last));
     }
-    let operators = place.operators + 1;
-    let product = product_with(alloc, pending.multiplied, last, to)?;
-    let next = Pending {
-        compared: pending.compared,
-        added: pending.added,
-        multiplied: Some(product),
-    };
-    let waiting = waiting(alloc, next)?;
+    let mut pending = boxed(alloc, waiting)?;
+    let product = product_with(alloc, pending.multiplied.take(), last, to)?;
+    pending.multiplied = Some(product);
     Ok(at(
-        Control::Expr(ExprControl::Want(waiting)),
+        Control::Expr(ExprControl::Want(Some(pending))),
         place.stack,
         place.opened,
-        operators,
+        place.operators + 1,
         place.statements,
     ))
 }
@@ -384,18 +396,11 @@ pub fn have(
     ensures { Makes result (m.have_step (stack_view place.stack) place.opened place.operators place.statements (waiting_view pending) (operand_view last) to (kind_view kind) (span_view span)) }
 {
     match kind {
-        TokenKind::Mark(Mark::Star) => multiply(alloc, place, levels(pending), last, to),
-        TokenKind::Mark(Mark::Plus) => add(alloc, place, levels(pending), last, to, Op::Add),
-        TokenKind::Mark(Mark::Minus) => add(alloc, place, levels(pending), last, to, Op::Sub),
-        TokenKind::Mark(Mark::DoubleEquals) => compare(
-            alloc,
-            place,
-            levels(pending),
-            last,
-            to,
-            Op::Equal,
-        ),
-        TokenKind::Mark(Mark::Less) => compare(alloc, place, levels(pending), last, to, Op::Less),
+        TokenKind::Mark(Mark::Star) => multiply(alloc, place, pending, last, to),
+        TokenKind::Mark(Mark::Plus) => add(alloc, place, pending, last, to, Op::Add),
+        TokenKind::Mark(Mark::Minus) => add(alloc, place, pending, last, to, Op::Sub),
+        TokenKind::Mark(Mark::DoubleEquals) => compare(alloc, place, pending, last, to, Op::Equal),
+        TokenKind::Mark(Mark::Less) => compare(alloc, place, pending, last, to, Op::Less),
         _ => behind_whole(alloc, place, pending, last, to, kind, span),
     }
 }
