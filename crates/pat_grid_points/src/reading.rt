@@ -3,12 +3,13 @@ ghost use Rattle.std.specs.Prelude.{◌≡◌, ◌↔◌, IsTrue, IfSome, IfNone
 ghost use Rattle.pat_words.specs.Words.{Word};
 ghost use Rattle.pat_words.specs.Cuts.{cut_at};
 ghost use Rattle.pat_bags.specs.Views.{word_of};
-ghost use Rattle.pat_inclusions.specs.Points.{grid_fits};
+ghost use Rattle.pat_inclusions.specs.Points.{grid_fits, points_fit};
 ghost use Rattle.pat_grid_points.specs.Views.{HasPoint, points_of, held_from, IsLike};
 
 use crate::grid::Grid;
 use crate::numbers::{bag_of, number_of};
 use pat_bags::Bag;
+use pat_bounds_laws::number_laws;
 use pat_sequences::Sequence;
 use std::alloc::{AllocError, Global};
 
@@ -43,8 +44,10 @@ impl Grid {
 
     /// Its points in ascending order, the count of the first tag being the highest digit.
     pub fn points(&self, alloc: Global) -> Result<Sequence<Bag>, AllocError>
-        ensures { IfOk result (λ bags. map word_of bags ≡ points_of self.now) }
+        ensures all { IfOk result (λ bags. map word_of bags ≡ points_of self.now) }
+        ensures ascend { IfOk result (λ bags. IsTrue (points_fit self.now.k self.now.tags (map (λ b. b.counts) bags))) }
     {
+        number_laws();
         let mut bags = Sequence::new(alloc);
         let held = self.held.as_slice();
         for number in 0..held.len() {

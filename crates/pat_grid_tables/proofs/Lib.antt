@@ -2,3 +2,4 @@ mod Relaxing
 mod Closing
 mod Turns
 mod Done
+mod Waiting

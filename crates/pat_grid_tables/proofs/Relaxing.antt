@@ -1,8 +1,8 @@
 -- Relaxing, one call after another.
-use Rattle.std.proofs.Common.{◌≡◌, ℕ, suc, ◌+◌, ◌*◌, ◌<◌, ◌≤◌, min, ◌⊎◌, inl, inr, ⊎_elim, Bool, true, false, List, [], ◌∷◌, ◌++◌, length, length-set, length-append, append-nil, get_or, set, refl, sym, ap, ap₂, ◌∙◌, subst, arith, suc-mul, mul-le-mul_right}
+use Rattle.std.proofs.Common.{◌≡◌, ◌≢◌, ℕ, suc, ◌+◌, ◌*◌, ◌<◌, ◌≤◌, min, ◌⊎◌, inl, inr, ⊎_elim, Bool, true, false, List, [], ◌∷◌, ◌++◌, length, length-set, length-append, append-nil, get_or, set, refl, sym, ap, ap₂, ◌∙◌, subst, arith, suc-mul, mul-le-mul_right}
 use Rattle.std.specs.Prelude.{if◌then◌else◌}
-use Rattle.std.proofs.lemmas.Bool.{cases_lt}
-use Rattle.std.proofs.lemmas.List.{get_or-set_same, get_or_past, get_or_default, get_or_append_left, get_or_at, length-map}
+use Rattle.std.proofs.lemmas.Bool.{cases_lt, cases_eq}
+use Rattle.std.proofs.lemmas.List.{get_or-set_same, get_or-set_other, get_or_past, get_or_default, get_or_append_left, get_or_at, length-map}
 use Rattle.pat_words.specs.Words.{plus}
 use Rattle.pat_words.specs.Cuts.{cut_at}
 use Rattle.pat_words.specs.Tags.{HasTagsBelow}
@@ -13,24 +13,43 @@ use Rattle.pat_bounds.specs.Numbers.{points_in, point_of, place_of, table_of, un
 use Rattle.pat_bounds_laws.proofs.NumberLaws.{number_point, point_number, point_fits, write_steps, write_falls}
 use Rattle.pat_bounds_laws.proofs.TableLaws.{steps_sound}
 use Rattle.pat_grid_points.specs.Views.{summed}
+use Rattle.pat_grid_points.proofs.Digits.{summed_below as summed_small}
 use Rattle.pat_grid_symbols.specs.Views.{symbol_view}
 use Rattle.pat_grid_tables.specs.declared.board.Board.{Board}
 use Rattle.pat_grid_tables.specs.Views.{setting_of, IsBoard}
-use Rattle.pat_grid_tables.specs.Moves.{entry_at, total, IsPlace, Moved, PartAt, PairAt, Lists}
+use Rattle.pat_grid_tables.specs.Moves.{entry_at, total, IsPlace, Lowers, Moved, PartAt, PartBefore, AreOthers, PairAt, RowBefore, RowsBefore, HeldBefore, Lists}
+
+-- ---- rows
+
+-- nothing was written
+pub lowers_none : (g : Setting) (s : ℕ) (x : List ℕ) → Lowers g s x x
+lowers_none g s x = record { elsewhere = λ a c d l. refl; here = λ c l. omega arith }
+
+pub lowers_both : (g : Setting) (s : ℕ) (x y z : List ℕ) → Lowers g s x y → Lowers g s y z → Lowers g s x z
+lowers_both g s x y z first second = record {
+  elsewhere = λ a c d l. second.elsewhere a c d l ∙ first.elsewhere a c d l;
+  here = λ c l. let i = first.here c l in let j = second.here c l in omega arith;
+}
+
+-- the row of another symbol, or any row where nothing was written, is what it was
+pub same_row : (g : Setting) (s a c : ℕ) (x y : List ℕ) → Lowers g s x y → c < points_in g.bound g.tags → (y ≡ x) ⊎ (a ≡ s → ⊥) → entry_at g y a c ≡ entry_at g x a c
+same_row g s a c x y m l o = ⊎_elim (λ e. ap (λ es. entry_at g es a c) e) (λ d. m.elsewhere a c d l) o
 
 -- nothing was done
-pub moved_none : (g : Setting) (Claim : List ℕ → Type 0) (old : List ℕ) (was : Bool) → Claim old → Moved g Claim old was old was
-moved_none g Claim old was h = record {
+pub moved_none : (g : Setting) (s : ℕ) (Apart : Type 0) (Claim : List ℕ → Type 0) (old : List ℕ) (was : Bool) → Claim old → Moved g s Apart Claim old was old was
+moved_none g s Apart Claim old was h = record {
   as_long = refl;
   sound = λ s. s;
   at_most = omega arith;
   falls = λ e. inl e;
-  stays = λ e. (e, refl, h);
+  stays = λ e. (e, refl);
+  lowers = lowers_none g s old;
+  claim = λ e. h;
 }
 
--- one after the other
-pub moved_both : (g : Setting) (A B C : List ℕ → Type 0) (x y z : List ℕ) (a b c : Bool) → Moved g A x a y b → Moved g B y b z c → (A x → B x → C x) → Moved g C x a z c
-moved_both g A B C x y z a b c first second h = record {
+-- one after the other; what the first one claims is kept by the second one where the parts are apart
+pub moved_both : (g : Setting) (s : ℕ) (Apart : Type 0) (A B C : List ℕ → Type 0) (x y z : List ℕ) (a b c : Bool) → Moved g s Apart A x a y b → Moved g s Apart B y b z c → (Apart → Lowers g s y z → A y → A z) → (A z → B z → C z) → Moved g s Apart C x a z c
+moved_both g s Apart A B C x y z a b c first second keeps h = record {
   as_long = second.as_long ∙ first.as_long;
   sound = λ s. second.sound (first.sound s);
   at_most = let p = first.at_most in let q = second.at_most in omega arith;
@@ -38,20 +57,24 @@ moved_both g A B C x y z a b c first second h = record {
       (λ f. ⊎_elim (λ k. inl k) (λ l. inr (let q = second.at_most in omega arith)) (first.falls f))
       (λ l. inr (let p = first.at_most in omega arith))
       (second.falls e);
-  stays = λ e.
-      let s = second.stays e in
-      let f = first.stays s.0 in
-      (f.0, s.1 ∙ f.1, h f.2 (subst B f.1 s.2));
+  stays = λ e. let t = second.stays e in let f = first.stays t.0 in (f.0, t.1 ∙ f.1);
+  lowers = lowers_both g s x y z first.lowers second.lowers;
+  claim = λ e. ⊎_elim
+      (λ f. let t = second.stays f in h (subst A (sym t.1) (first.claim (inl t.0))) (second.claim (inl f)))
+      (λ p. h (keeps p second.lowers (first.claim (inr p))) (second.claim (inr p)))
+      e;
 }
 
--- what is claimed may be said otherwise
-pub moved_as : (g : Setting) (A B : List ℕ → Type 0) (x y : List ℕ) (a b : Bool) → Moved g A x a y b → (A x → B x) → Moved g B x a y b
-moved_as g A B x y a b m h = record {
+-- what is claimed may be said otherwise, and of parts that are apart in another sense
+pub moved_as : (g : Setting) (s : ℕ) (P Q : Type 0) (A B : List ℕ → Type 0) (x y : List ℕ) (a b : Bool) → Moved g s P A x a y b → (Q → P) → ((y ≡ x) ⊎ Q → A y → B y) → Moved g s Q B x a y b
+moved_as g s P Q A B x y a b m to h = record {
   as_long = m.as_long;
   sound = m.sound;
   at_most = m.at_most;
   falls = m.falls;
-  stays = λ e. let s = m.stays e in (s.0, s.1, h s.2);
+  stays = m.stays;
+  lowers = m.lowers;
+  claim = λ e. ⊎_elim (λ f. h (inl (m.stays f).1) (m.claim (inl f))) (λ q. h (inr q) (m.claim (inr (to q)))) e;
 }
 
 -- ---- entries
@@ -74,8 +97,34 @@ entry_point g entries s c l = ap (entry_at g entries s) (point_number g.bound g.
 pub symbol_within : (b : Board) (s : ℕ) → s < length b.symbols.now → s < length (setting_of b).flat.symbols
 symbol_within b s l = subst (λ x. s < x) (sym (length-map b.symbols.now symbol_view)) l
 
+-- places of other symbols, and of other points of one symbol
+place_apart : (p a s c d : ℕ) → a < s → c < p → a * p + c < s * p + d
+place_apart p a s c d l m =
+    let grown : suc a * p ≤ s * p = mul-le-mul_right p l in
+    let more = suc-mul a p in
+    omega arith
+
+other_place : (p a s c d : ℕ) → (a ≡ s → ⊥) → c < p → d < p → a * p + c ≢ s * p + d
+other_place p a s c d n l m e =
+    ⊎_elim
+    (λ less. let h = place_apart p a s c d less l in absurd (omega arith))
+    (λ ge. ⊎_elim
+    (λ greater. let h = place_apart p s a d c greater m in absurd (omega arith))
+    (λ le. absurd (n (omega arith)))
+    (cases_lt s a))
+    (cases_lt a s)
+
+lowers_one : (g : Setting) (entries : List ℕ) (s d size : ℕ) → d < points_in g.bound g.tags → s * points_in g.bound g.tags + d < length entries → size ≤ entry_at g entries s d → Lowers g s entries (set entries (s * points_in g.bound g.tags + d) size)
+lowers_one g entries s d size l within less = record {
+  elsewhere = λ a c n m. get_or-set_other entries (s * points_in g.bound g.tags + d) (a * points_in g.bound g.tags + c) size (unknown g.limit) (other_place (points_in g.bound g.tags) a s c d n m l);
+  here = λ c m. ⊎_elim
+      (λ e. let h = ap (λ i. get_or (set entries (s * points_in g.bound g.tags + d) size) (s * points_in g.bound g.tags + i) (unknown g.limit)) e in let same = get_or-set_same entries (s * points_in g.bound g.tags + d) size (unknown g.limit) within in let at = ap (entry_at g entries s) e in omega arith)
+      (λ n. let h = get_or-set_other entries (s * points_in g.bound g.tags + d) (s * points_in g.bound g.tags + c) size (unknown g.limit) (λ e. n (omega arith)) in omega arith)
+      (cases_eq c d);
+}
+
 -- an entry was lowered
-pub lowered : (b : Board) (entries : List ℕ) (was : Bool) (s c size : ℕ) → IsBoard b → HasAllEntries (setting_of b) entries → IsPlace b s c → Step (setting_of b) (table_of (setting_of b) entries) s (point_of b.k b.tags c) size → size < get_or entries (s * b.points + c) 0 → Moved (setting_of b) (λ es. entry_at (setting_of b) es s c ≤ size) entries was (set entries (s * b.points + c) size) true
+pub lowered : (b : Board) (entries : List ℕ) (was : Bool) (s c size : ℕ) → IsBoard b → HasAllEntries (setting_of b) entries → IsPlace b s c → Step (setting_of b) (table_of (setting_of b) entries) s (point_of b.k b.tags c) size → size < get_or entries (s * b.points + c) 0 → Moved (setting_of b) s (Unit {0}) (λ es. entry_at (setting_of b) es s c ≤ size) entries was (set entries (s * b.points + c) size) true
 lowered b entries was s c size board all place step less =
     let g = setting_of b in
     let m : c < points_in b.k b.tags = subst (λ x. c < x) board.points place.1 in
@@ -88,21 +137,25 @@ lowered b entries was s c size board all place step less =
     let steps = write_steps g entries s u size (point_fits b.k b.tags c) (subst (λ x. x < length entries) (sym at) within) step in
     let here : get_or (set entries i size) (s * points_in b.k b.tags + c) (unknown g.limit) ≡ size =
     ap (λ x. get_or (set entries i size) (s * x + c) (unknown g.limit)) (sym board.points) ∙ get_or-set_same entries i size (unknown g.limit) within in
+    let old : get_or entries i 0 ≡ entry_at g entries s c =
+    get_or_default entries i 0 (unknown g.limit) within ∙ ap (λ x. get_or entries (s * x + c) (unknown g.limit)) board.points in
     record {
       as_long = length-set entries i size;
       sound = λ h. subst (λ x. IsSound g (table_of g (set entries x size))) at (steps_sound g (table_of g entries) (table_of g (set entries (place_of g s u) size)) h steps);
       at_most = omega arith;
       falls = λ e. inr fall;
       stays = λ e. absurd (cc);
+      lowers = subst (λ x. Lowers g s entries (set entries (s * x + c) size)) (sym board.points) (lowers_one g entries s c size m (entry_within g entries s c all l m) (omega arith));
+      claim = λ e. omega arith;
     }
 
 -- it wasn't greater
-pub not_lowered : (b : Board) (entries : List ℕ) (was : Bool) (s c size : ℕ) → IsBoard b → HasAllEntries (setting_of b) entries → IsPlace b s c → get_or entries (s * b.points + c) 0 ≤ size → Moved (setting_of b) (λ es. entry_at (setting_of b) es s c ≤ size) entries was entries was
+pub not_lowered : (b : Board) (entries : List ℕ) (was : Bool) (s c size : ℕ) → IsBoard b → HasAllEntries (setting_of b) entries → IsPlace b s c → get_or entries (s * b.points + c) 0 ≤ size → Moved (setting_of b) s (Unit {0}) (λ es. entry_at (setting_of b) es s c ≤ size) entries was entries was
 not_lowered b entries was s c size board all place least =
     let g = setting_of b in
     let m : c < points_in b.k b.tags = subst (λ x. c < x) board.points place.1 in
     let within : s * b.points + c < length entries = subst (λ x. s * x + c < length entries) (sym board.points) (entry_within g entries s c all (symbol_within b s place.0) m) in
-    moved_none g (λ es. entry_at g es s c ≤ size) entries was
+    moved_none g s (Unit {0}) (λ es. entry_at g es s c ≤ size) entries was
     (subst (λ x. get_or entries (s * x + c) (unknown g.limit) ≤ size) board.points
     (subst (λ x. x ≤ size) (get_or_default entries (s * b.points + c) 0 (unknown g.limit) within) least))
 
@@ -132,21 +185,60 @@ pair_step g entries a b v w e f number r lv lw he hf ke kf sums is =
 
 -- ---- what was claimed at each turn
 
-pub part_at : (g : Setting) (s a c e r : ℕ) (x y : List ℕ) (p q : Bool) → e ≡ entry_at g x a c → r ≡ min (e + 1) (g.limit + 1) → Moved g (λ es. entry_at g es s c ≤ r) x p y q → Moved g (PartAt g s a c) x p y q
-part_at g s a c e r x y p q h is m =
-    moved_as g (λ es. entry_at g es s c ≤ r) (PartAt g s a c) x y p q m (λ l known. omega arith)
+pub part_at : (g : Setting) (s a c e r : ℕ) (x y : List ℕ) (p q : Bool) → c < points_in g.bound g.tags → e ≡ entry_at g x a c → r ≡ min (e + 1) (g.limit + 1) → Moved g s (Unit {0}) (λ es. entry_at g es s c ≤ r) x p y q → Moved g s (a ≡ s → ⊥) (PartAt g s a c) x p y q
+part_at g s a c e r x y p q l h is m =
+    moved_as g s (Unit {0}) (a ≡ s → ⊥) (λ es. entry_at g es s c ≤ r) (PartAt g s a c) x y p q m (λ d. tt)
+    (λ o least known. let same = same_row g s a c x y m.lowers l o in omega arith)
 
-pub part_unknown : (g : Setting) (s a c e : ℕ) (x : List ℕ) (p : Bool) → e ≡ entry_at g x a c → g.limit + 1 < e → Moved g (PartAt g s a c) x p x p
-part_unknown g s a c e x p h l = moved_none g (PartAt g s a c) x p (λ known. absurd (omega arith))
+pub part_unknown : (g : Setting) (s a c e : ℕ) (x : List ℕ) (p : Bool) → e ≡ entry_at g x a c → g.limit + 1 < e → Moved g s (a ≡ s → ⊥) (PartAt g s a c) x p x p
+part_unknown g s a c e x p h l = moved_none g s (a ≡ s → ⊥) (PartAt g s a c) x p (λ known. absurd (omega arith))
 
-pub pair_at : (g : Setting) (s a b v w e f number r : ℕ) (x y : List ℕ) (p q : Bool) → e ≡ entry_at g x a v → f ≡ entry_at g x b w → number ≡ summed g.bound g.tags v w → r ≡ min (e + f + 1) (g.limit + 1) → Moved g (λ es. entry_at g es s number ≤ r) x p y q → Moved g (PairAt g s a b v w) x p y q
-pair_at g s a b v w e f number r x y p q he hf sums is m =
-    moved_as g (λ es. entry_at g es s number ≤ r) (PairAt g s a b v w) x y p q m
-    (λ l ka kb. let l2 = subst (λ i. entry_at g x s i ≤ r) sums l in omega arith)
+pub pair_at : (g : Setting) (s a b v w e f number r : ℕ) (x y : List ℕ) (p q : Bool) → v < points_in g.bound g.tags → w < points_in g.bound g.tags → e ≡ entry_at g x a v → f ≡ entry_at g x b w → number ≡ summed g.bound g.tags v w → r ≡ min (e + f + 1) (g.limit + 1) → Moved g s (Unit {0}) (λ es. entry_at g es s number ≤ r) x p y q → Moved g s (AreOthers a b s) (PairAt g s a b v w) x p y q
+pair_at g s a b v w e f number r x y p q lv lw he hf sums is m =
+    moved_as g s (Unit {0}) (AreOthers a b s) (λ es. entry_at g es s number ≤ r) (PairAt g s a b v w) x y p q m (λ d. tt)
+    (λ o least ka kb.
+    let l2 = subst (λ i. entry_at g y s i ≤ r) sums least in
+    let one = same_row g s a v x y m.lowers lv (⊎_elim (λ t. inl t) (λ t. inr t.0) o) in
+    let other = same_row g s b w x y m.lowers lw (⊎_elim (λ t. inl t) (λ t. inr t.1) o) in
+    omega arith)
 
-pub pair_unknown : (g : Setting) (s a b v w : ℕ) (x : List ℕ) (p : Bool) → (g.limit + 1 < entry_at g x a v) ⊎ (g.limit + 1 < entry_at g x b w) → Moved g (PairAt g s a b v w) x p x p
+pub pair_unknown : (g : Setting) (s a b v w : ℕ) (x : List ℕ) (p : Bool) → (g.limit + 1 < entry_at g x a v) ⊎ (g.limit + 1 < entry_at g x b w) → Moved g s (AreOthers a b s) (PairAt g s a b v w) x p x p
 pair_unknown g s a b v w x p l =
-    moved_none g (PairAt g s a b v w) x p (λ ka kb. ⊎_elim (λ h. absurd (omega arith)) (λ h. absurd (omega arith)) l)
+    moved_none g s (AreOthers a b s) (PairAt g s a b v w) x p (λ ka kb. ⊎_elim (λ h. absurd (omega arith)) (λ h. absurd (omega arith)) l)
+
+-- ---- what is claimed is kept where the row of s falls and the parts are apart
+
+pub part_kept : (g : Setting) (s a c : ℕ) (y z : List ℕ) → c < points_in g.bound g.tags → (a ≡ s → ⊥) → Lowers g s y z → PartAt g s a c y → PartAt g s a c z
+part_kept g s a c y z l d m h known =
+    let same = m.elsewhere a c d l in
+    let less = m.here c l in
+    let old = h (subst (IsKnown g.limit) same known) in
+    omega arith
+
+pub parts_kept : (g : Setting) (s a m : ℕ) (y z : List ℕ) → m ≤ points_in g.bound g.tags → (a ≡ s → ⊥) → Lowers g s y z → PartBefore g s a m y → PartBefore g s a m z
+parts_kept g s a m y z l d lowers h c k = part_kept g s a c y z (omega arith) d lowers (h c k)
+
+pub pair_kept : (g : Setting) (s a b v w : ℕ) (y z : List ℕ) → v < points_in g.bound g.tags → w < points_in g.bound g.tags → AreOthers a b s → Lowers g s y z → PairAt g s a b v w y → PairAt g s a b v w z
+pair_kept g s a b v w y z lv lw d m h ka kb =
+    let one = m.elsewhere a v d.0 lv in
+    let other = m.elsewhere b w d.1 lw in
+    let less = m.here (summed g.bound g.tags v w) (summed_small g.bound g.tags v w) in
+    let old = h (subst (IsKnown g.limit) one ka) (subst (IsKnown g.limit) other kb) in
+    omega arith
+
+pub row_kept : (g : Setting) (s a b v m : ℕ) (seconds y z : List ℕ) → v < points_in g.bound g.tags → ((j : ℕ) → j < m → get_or seconds j 0 < points_in g.bound g.tags) → AreOthers a b s → Lowers g s y z → RowBefore g s a b v seconds m y → RowBefore g s a b v seconds m z
+row_kept g s a b v m seconds y z lv ls d lowers h j k =
+    pair_kept g s a b v (get_or seconds j 0) y z lv (ls j k) d lowers (h j k)
+
+pub rows_kept : (g : Setting) (s a b m : ℕ) (firsts seconds y z : List ℕ) → ((i : ℕ) → i < m → get_or firsts i 0 < points_in g.bound g.tags) → ((j : ℕ) → j < length seconds → get_or seconds j 0 < points_in g.bound g.tags) → AreOthers a b s → Lowers g s y z → RowsBefore g s a b firsts seconds m y → RowsBefore g s a b firsts seconds m z
+rows_kept g s a b m firsts seconds y z lf ls d lowers h i k =
+    row_kept g s a b (get_or firsts i 0) (length seconds) seconds y z (lf i k) ls d lowers (h i k)
+
+pub held_kept : (g : Setting) (s m : ℕ) (held : List Bool) (y z : List ℕ) → m ≤ points_in g.bound g.tags → Lowers g s y z → HeldBefore g s held m y → HeldBefore g s held m z
+held_kept g s m held y z l lowers h c k is =
+    let less = lowers.here c (omega arith) in
+    let old = h c k is in
+    omega arith
 
 -- claims of the first m, and of one more
 pub before_none : (P : ℕ → Type 0) (c : ℕ) → c < 0 → P c

@@ -1,5 +1,5 @@
 -- A symbol of each kind, relaxed.
-use Rattle.std.proofs.Common.{◌≡◌, ℕ, zero, suc, ◌<◌, ◌≤◌, Bool, true, false, List, [], ◌∷◌, length, get_or, Some, sym, ap, subst, arith}
+use Rattle.std.proofs.Common.{◌≡◌, ℕ, zero, suc, ◌<◌, ◌≤◌, ◌⊎◌, inl, inr, ⊎_elim, refl, ◌∙◌, Bool, true, false, List, [], ◌∷◌, length, get_or, Some, sym, ap, subst, arith}
 use Rattle.std.specs.Prelude.{slice_get}
 use Rattle.std.proofs.lemmas.Option.{slice_get_past}
 use Rattle.pat_words.specs.Words.{one}
@@ -11,8 +11,9 @@ use Rattle.pat_grid_points.specs.declared.grid.Grid.{Grid}
 use Rattle.pat_grid_points.specs.Views.{points_of}
 use Rattle.pat_grid_tables.specs.declared.board.Board.{Board}
 use Rattle.pat_grid_tables.specs.Views.{setting_of, IsBoard, points_in_grid}
-use Rattle.pat_grid_tables.specs.Moves.{entry_at, Moved, ClosedAt, PartBefore, TakesParts, RowsBefore, Lists, HeldBefore}
-use Rattle.pat_grid_tables.proofs.Relaxing.{moved_none, moved_both, moved_as}
+use Rattle.pat_grid_tables.specs.Moves.{entry_at, Lowers, Moved, ClosedAt, PartBefore, TakesParts, AreOthers, RowsBefore, Lists, HeldBefore}
+use Rattle.pat_grid_tables.specs.Waiting.{IsPartOf, IsPart, IsNoPart}
+use Rattle.pat_grid_tables.proofs.Relaxing.{same_row, moved_none, moved_both, moved_as, parts_kept}
 use Rattle.pat_grid_tables.proofs.Closing.{closed_zero, closed_one, closed_tag, closed_sum, closed_lower, closed_product, closed_star, closed_none_given, closed_given, step_given, takes_star}
 
 -- a grid that is read by its place
@@ -21,43 +22,94 @@ there [] i grid l h = absurd (omega arith)
 there (k ∷ grids) zero grid l h = ap Some (sym h)
 there (k ∷ grids) (suc i) grid l h = there grids i grid (omega arith) h
 
+-- a star is made of itself
+own_star : (g : Setting) (s a : ℕ) → symbol_at g.flat s ≡ StarSymbol a → IsNoPart g s → ⊥
+own_star g s a e n = n (subst (λ y. IsPartOf g.flat s y s) (sym e) (inr refl))
+
+sum_apart : (g : Setting) (s a c : ℕ) → symbol_at g.flat s ≡ SumSymbol a c → IsNoPart g s → AreOthers a c s
+sum_apart g s a c e n = (
+  λ h. n (subst (λ y. IsPartOf g.flat s y s) (sym e) (inl h)),
+  λ h. n (subst (λ y. IsPartOf g.flat s y s) (sym e) (inr h)),
+)
+
+product_apart : (g : Setting) (s a c : ℕ) → symbol_at g.flat s ≡ ProdSymbol a c → IsNoPart g s → AreOthers a c s
+product_apart g s a c e n = (
+  λ h. n (subst (λ y. IsPartOf g.flat s y s) (sym e) (inl h)),
+  λ h. n (subst (λ y. IsPartOf g.flat s y s) (sym e) (inr h)),
+)
+
+lists_as : (P Q : ℕ → Type 0) (from upto : ℕ) (numbers : List ℕ) → ((c : ℕ) → c < upto → Q c → P c) → Lists P from upto numbers → Lists Q from upto numbers
+lists_as P Q from upto numbers f h = record {
+  within = h.within;
+  all = λ c l m k. h.all c l m (f c m k);
+}
+
+-- what was known of the row of another symbol
+known_as : (g : Setting) (s a from upto : ℕ) (numbers x y : List ℕ) → upto ≤ points_in g.bound g.tags → Lowers g s x y → (y ≡ x) ⊎ (a ≡ s → ⊥) → Lists (λ i. IsKnown g.limit (entry_at g x a i)) from upto numbers → Lists (λ i. IsKnown g.limit (entry_at g y a i)) from upto numbers
+known_as g s a from upto numbers x y l m o h =
+    lists_as (λ i. IsKnown g.limit (entry_at g x a i)) (λ i. IsKnown g.limit (entry_at g y a i)) from upto numbers
+    (λ c k known. let same = same_row g s a c x y m (omega arith) o in subst (IsKnown g.limit) same known)
+    h
+
 module _ (b : Board) (board : IsBoard b) (s : ℕ) (x : List ℕ) (p : Bool) where
   abbrev g : Setting
   g = setting_of b
 
-  pub zero_moved : symbol_at g.flat s ≡ NoSymbol → Moved g (ClosedAt g s) x p x p
-  zero_moved e = moved_none g (ClosedAt g s) x p (closed_zero g s x e)
+  abbrev None : Type 0
+  None = IsNoPart g s
 
-  pub one_moved : (y : List ℕ) (q : Bool) → symbol_at g.flat s ≡ OneSymbol → Moved g (λ es. entry_at g es s 0 ≤ 1) x p y q → Moved g (ClosedAt g s) x p y q
-  one_moved y q e m = moved_as g (λ es. entry_at g es s 0 ≤ 1) (ClosedAt g s) x y p q m (closed_one g s x e)
+  few : b.points ≤ points_in g.bound g.tags
+  few = let e = board.points in omega arith
 
-  pub tag_moved : (m c : ℕ) (y : List ℕ) (q : Bool) → symbol_at g.flat s ≡ TagSymbol m → c ≡ number_of g.bound g.tags (cut_at g.bound (one m)) → Moved g (λ es. entry_at g es s c ≤ 1) x p y q → Moved g (ClosedAt g s) x p y q
-  tag_moved m c y q e is h = moved_as g (λ es. entry_at g es s c ≤ 1) (ClosedAt g s) x y p q h (closed_tag g s m c x e is)
+  pub zero_moved : symbol_at g.flat s ≡ NoSymbol → Moved g s None (ClosedAt g s) x p x p
+  zero_moved e = moved_none g s None (ClosedAt g s) x p (closed_zero g s x e)
+
+  pub one_moved : (y : List ℕ) (q : Bool) → symbol_at g.flat s ≡ OneSymbol → Moved g s (Unit {0}) (λ es. entry_at g es s 0 ≤ 1) x p y q → Moved g s None (ClosedAt g s) x p y q
+  one_moved y q e m =
+      moved_as g s (Unit {0}) None (λ es. entry_at g es s 0 ≤ 1) (ClosedAt g s) x y p q m (λ n. tt) (λ o. closed_one g s y e)
+
+  pub tag_moved : (m c : ℕ) (y : List ℕ) (q : Bool) → symbol_at g.flat s ≡ TagSymbol m → c ≡ number_of g.bound g.tags (cut_at g.bound (one m)) → Moved g s (Unit {0}) (λ es. entry_at g es s c ≤ 1) x p y q → Moved g s None (ClosedAt g s) x p y q
+  tag_moved m c y q e is h =
+      moved_as g s (Unit {0}) None (λ es. entry_at g es s c ≤ 1) (ClosedAt g s) x y p q h (λ n. tt) (λ o. closed_tag g s m c y e is)
 
   whole : (a : ℕ) (es : List ℕ) → PartBefore g s a b.points es → PartBefore g s a (points_in g.bound g.tags) es
   whole a es h = subst (λ n. PartBefore g s a n es) board.points h
 
-  pub sum_moved : (a c : ℕ) (y z : List ℕ) (q r : Bool) → symbol_at g.flat s ≡ SumSymbol a c → Moved g (PartBefore g s a b.points) x p y q → Moved g (PartBefore g s c b.points) y q z r → Moved g (ClosedAt g s) x p z r
+  pub sum_moved : (a c : ℕ) (y z : List ℕ) (q r : Bool) → symbol_at g.flat s ≡ SumSymbol a c → Moved g s (a ≡ s → ⊥) (PartBefore g s a b.points) x p y q → Moved g s (c ≡ s → ⊥) (PartBefore g s c b.points) y q z r → Moved g s None (ClosedAt g s) x p z r
   sum_moved a c y z q r e first second =
-      moved_both g (PartBefore g s a b.points) (PartBefore g s c b.points) (ClosedAt g s) x y z p q r first second
-      (λ h k. closed_sum g s a c x e (whole a x h) (whole c x k))
+      moved_both g s None (PartBefore g s a b.points) (PartBefore g s c b.points) (ClosedAt g s) x y z p q r
+      (moved_as g s (a ≡ s → ⊥) None (PartBefore g s a b.points) (PartBefore g s a b.points) x y p q first (λ n. (sum_apart g s a c e n).0) (λ o h. h))
+      (moved_as g s (c ≡ s → ⊥) None (PartBefore g s c b.points) (PartBefore g s c b.points) y z q r second (λ n. (sum_apart g s a c e n).1) (λ o h. h))
+      (λ n lowers h. parts_kept g s a b.points y z few (sum_apart g s a c e n).0 lowers h)
+      (λ h k. closed_sum g s a c z e (whole a z h) (whole c z k))
 
-  pub lower_moved : (k a : ℕ) (y : List ℕ) (q : Bool) → symbol_at g.flat s ≡ LowerSymbol k → a ≡ root_at g.flat k → Moved g (PartBefore g s a b.points) x p y q → Moved g (ClosedAt g s) x p y q
+  pub lower_moved : (k a : ℕ) (y : List ℕ) (q : Bool) → symbol_at g.flat s ≡ LowerSymbol k → a ≡ root_at g.flat k → Moved g s (a ≡ s → ⊥) (PartBefore g s a b.points) x p y q → Moved g s None (ClosedAt g s) x p y q
   lower_moved k a y q e root m =
-      moved_as g (PartBefore g s a b.points) (ClosedAt g s) x y p q m (λ h. closed_lower g s k a x e root (whole a x h))
+      moved_as g s (a ≡ s → ⊥) None (PartBefore g s a b.points) (ClosedAt g s) x y p q m
+      (λ n h. n (subst (λ i. IsPartOf g.flat s i s) (sym e) (sym root ∙ h)))
+      (λ o h. closed_lower g s k a y e root (whole a y h))
 
   counted : (P : ℕ → Type 0) (from : ℕ) (numbers : List ℕ) → Lists P from b.points numbers → Lists P from (points_in g.bound g.tags) numbers
   counted P from numbers h = subst (λ n. Lists P from n numbers) board.points h
 
-  pub product_moved : (a c : ℕ) (firsts seconds y : List ℕ) (q : Bool) → symbol_at g.flat s ≡ ProdSymbol a c → Lists (λ i. IsKnown g.limit (entry_at g x a i)) 0 b.points firsts → Lists (λ i. IsKnown g.limit (entry_at g x c i)) 0 b.points seconds → Moved g (RowsBefore g s a c firsts seconds (length firsts)) x p y q → Moved g (ClosedAt g s) x p y q
+  pub product_moved : (a c : ℕ) (firsts seconds y : List ℕ) (q : Bool) → symbol_at g.flat s ≡ ProdSymbol a c → Lists (λ i. IsKnown g.limit (entry_at g x a i)) 0 b.points firsts → Lists (λ i. IsKnown g.limit (entry_at g x c i)) 0 b.points seconds → Moved g s (AreOthers a c s) (RowsBefore g s a c firsts seconds (length firsts)) x p y q → Moved g s None (ClosedAt g s) x p y q
   product_moved a c firsts seconds y q e lf ls m =
-      moved_as g (RowsBefore g s a c firsts seconds (length firsts)) (ClosedAt g s) x y p q m
-      (λ rows. closed_product g s a c firsts seconds x e rows (counted (λ i. IsKnown g.limit (entry_at g x a i)) 0 firsts lf) (counted (λ i. IsKnown g.limit (entry_at g x c i)) 0 seconds ls))
+      moved_as g s (AreOthers a c s) None (RowsBefore g s a c firsts seconds (length firsts)) (ClosedAt g s) x y p q m (product_apart g s a c e)
+      (λ o rows. closed_product g s a c firsts seconds y e rows
+      (counted (λ i. IsKnown g.limit (entry_at g y a i)) 0 firsts (known_as g s a 0 b.points firsts x y few m.lowers (⊎_elim (λ t. inl t) (λ n. inr (product_apart g s a c e n).0) o) lf))
+      (counted (λ i. IsKnown g.limit (entry_at g y c i)) 0 seconds (known_as g s c 0 b.points seconds x y few m.lowers (⊎_elim (λ t. inl t) (λ n. inr (product_apart g s a c e n).1) o) ls)))
 
-  pub star_moved : (a : ℕ) (firsts seconds y z : List ℕ) (q r : Bool) → symbol_at g.flat s ≡ StarSymbol a → Lists (λ i. IsKnown g.limit (entry_at g x a i)) 1 b.points firsts → Lists (λ i. Unit {0}) 0 b.points seconds → Moved g (λ es. entry_at g es s 0 ≤ 1) x p y q → Moved g (RowsBefore g s a s firsts seconds (length firsts)) y q z r → Moved g (ClosedAt g s) x p z r
+  pub star_moved : (a : ℕ) (firsts seconds y z : List ℕ) (q r : Bool) → symbol_at g.flat s ≡ StarSymbol a → Lists (λ i. IsKnown g.limit (entry_at g x a i)) 1 b.points firsts → Lists (λ i. Unit {0}) 0 b.points seconds → Moved g s (Unit {0}) (λ es. entry_at g es s 0 ≤ 1) x p y q → Moved g s (AreOthers a s s) (RowsBefore g s a s firsts seconds (length firsts)) y q z r → Moved g s None (ClosedAt g s) x p z r
   star_moved a firsts seconds y z q r e lf ls first second =
-      moved_both g (λ es. entry_at g es s 0 ≤ 1) (RowsBefore g s a s firsts seconds (length firsts)) (ClosedAt g s) x y z p q r first second
-      (λ h rows. closed_star g s a firsts seconds x e h rows (counted (λ i. IsKnown g.limit (entry_at g x a i)) 1 firsts lf) (counted (λ i. Unit {0}) 0 seconds ls))
+      let both = moved_both g s None (λ es. entry_at g es s 0 ≤ 1) (RowsBefore g s a s firsts seconds (length firsts)) (λ es. (entry_at g es s 0 ≤ 1) × RowsBefore g s a s firsts seconds (length firsts) es) x y z p q r
+      (moved_as g s (Unit {0}) None (λ es. entry_at g es s 0 ≤ 1) (λ es. entry_at g es s 0 ≤ 1) x y p q first (λ n. tt) (λ o h. h))
+      (moved_as g s (AreOthers a s s) None (RowsBefore g s a s firsts seconds (length firsts)) (RowsBefore g s a s firsts seconds (length firsts)) y z q r second (λ n. absurd (own_star g s a e n)) (λ o h. h))
+      (λ n lowers h. absurd (own_star g s a e n))
+      (λ h k. (h, k)) in
+      moved_as g s None None (λ es. (entry_at g es s 0 ≤ 1) × RowsBefore g s a s firsts seconds (length firsts) es) (ClosedAt g s) x z p r both (λ n. n)
+      (λ o h. closed_star g s a firsts seconds z e h.0 h.1
+      (counted (λ i. IsKnown g.limit (entry_at g z a i)) 1 firsts (known_as g s a 1 b.points firsts x z few both.lowers (⊎_elim (λ t. inl t) (λ n. absurd (own_star g s a e n)) o) lf))
+      (counted (λ i. Unit {0}) 0 seconds ls))
 
   pub star_takes : (a : ℕ) (firsts : List ℕ) → symbol_at g.flat s ≡ StarSymbol a → Lists (λ i. IsKnown g.limit (entry_at g x a i)) 1 b.points firsts → (i : ℕ) → i < length firsts → (get_or firsts i 0 < b.points) × TakesParts g s a s (get_or firsts i 0)
   star_takes a firsts e lf i l =
@@ -67,9 +119,9 @@ module _ (b : Board) (board : IsBoard b) (s : ℕ) (x : List ℕ) (p : Bool) whe
   -- ---- given points
 
   module _ (j : ℕ) (e : symbol_at g.flat s ≡ GivenSymbol j) where
-    pub past_given : length b.given.now ≤ j → Moved g (ClosedAt g s) x p x p
+    pub past_given : length b.given.now ≤ j → Moved g s None (ClosedAt g s) x p x p
     past_given l =
-        moved_none g (ClosedAt g s) x p (closed_none_given g s j x e (ap points_in_grid (slice_get_past b.given.now j l)))
+        moved_none g s None (ClosedAt g s) x p (closed_none_given g s j x e (ap points_in_grid (slice_get_past b.given.now j l)))
 
     module _ (grid : Grid) (held : List Bool) (l : j < length b.given.now) (h : grid ≡ get_or b.given.now j grid) (same : held ≡ grid.held) where
       found : slice_get b.given.now j ≡ Some grid
@@ -85,7 +137,7 @@ module _ (b : Board) (board : IsBoard b) (s : ℕ) (x : List ℕ) (p : Bool) whe
       given_takes table c m is =
           step_given g s j c grid table e given_is like (subst (λ n. c < n) board.points m) (subst (λ hs. get_or hs c false ≡ true) same is)
 
-      pub given_moved : (y : List ℕ) (q : Bool) → Moved g (HeldBefore g s held b.points) x p y q → Moved g (ClosedAt g s) x p y q
+      pub given_moved : (y : List ℕ) (q : Bool) → Moved g s (Unit {0}) (HeldBefore g s held b.points) x p y q → Moved g s None (ClosedAt g s) x p y q
       given_moved y q m =
-          moved_as g (HeldBefore g s held b.points) (ClosedAt g s) x y p q m
-          (λ before. closed_given g s j grid x e given_is like (subst (λ n. HeldBefore g s grid.held n x) board.points (subst (λ hs. HeldBefore g s hs b.points x) same before)))
+          moved_as g s (Unit {0}) None (HeldBefore g s held b.points) (ClosedAt g s) x y p q m (λ n. tt)
+          (λ o before. closed_given g s j grid y e given_is like (subst (λ n. HeldBefore g s grid.held n y) board.points (subst (λ hs. HeldBefore g s hs b.points y) same before)))

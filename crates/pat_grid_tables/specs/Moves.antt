@@ -20,13 +20,20 @@ IsPlace b s c = (s < length b.symbols.now) × (c < b.points)
 abbrev pub total : List ℕ → ℕ
 total entries = sum_by (λ x. x) entries
 
--- entries were lowered, each to what a step gives; where none was, what is claimed holds
-pub record Moved (g : Setting) (Claim : List ℕ → Type 0) (old : List ℕ) (was : Bool) (new : List ℕ) (is : Bool) : Type 0 where
+-- of all rows that of symbol s alone was written, and no entry rose
+pub record Lowers (g : Setting) (s : ℕ) (old new : List ℕ) : Type 0 where
+  pub elsewhere : (a c : ℕ) → (a ≡ s → ⊥) → c < points_in g.bound g.tags → entry_at g new a c ≡ entry_at g old a c
+  pub here : (c : ℕ) → c < points_in g.bound g.tags → entry_at g new s c ≤ entry_at g old s c
+
+-- entries of symbol s were lowered, each to what a step gives; what is claimed holds then where none was, or where the parts are apart
+pub record Moved (g : Setting) (s : ℕ) (Apart : Type 0) (Claim : List ℕ → Type 0) (old : List ℕ) (was : Bool) (new : List ℕ) (is : Bool) : Type 0 where
   pub as_long : length new ≡ length old
   pub sound : IsSound g (table_of g old) → IsSound g (table_of g new)
   pub at_most : total new ≤ total old
   pub falls : is ≡ true → (was ≡ true) ⊎ (total new < total old)
-  pub stays : is ≡ false → (was ≡ false) × (new ≡ old) × Claim old
+  pub stays : is ≡ false → (was ≡ false) × (new ≡ old)
+  pub lowers : Lowers g s old new
+  pub claim : (is ≡ false) ⊎ Apart → Claim new
 
 -- no step at the symbol gives less than the table has
 abbrev pub ClosedAt : Setting → ℕ → List ℕ → Type 0
@@ -49,6 +56,10 @@ abbrev pub PartBefore : Setting → ℕ → ℕ → ℕ → List ℕ → Type 0
 PartBefore g s a m entries = (c : ℕ) → c < m → PartAt g s a c entries
 
 -- ---- by two parts
+
+-- both parts are other symbols
+abbrev pub AreOthers : ℕ → ℕ → ℕ → Type 0
+AreOthers a b s = (a ≡ s → ⊥) × (b ≡ s → ⊥)
 
 -- what the first part gives at number v, with the second, is a step at the symbol
 abbrev pub TakesParts : Setting → ℕ → ℕ → ℕ → ℕ → Type 0
@@ -89,14 +100,3 @@ HeldAt g s held c entries = held ≡ true → entry_at g entries s c ≤ 1
 
 abbrev pub HeldBefore : Setting → ℕ → List Bool → ℕ → List ℕ → Type 0
 HeldBefore g s held m entries = (c : ℕ) → c < m → HeldAt g s (get_or held c false) c entries
-
--- ---- passes
-
--- no step at one of the first m symbols gives less than the table has
-abbrev pub ClosedBefore : Setting → ℕ → List ℕ → Type 0
-ClosedBefore g m entries = (s : ℕ) → s < m → ClosedAt g s entries
-
--- all entries are there, and what they say is so
-pub record Begins (g : Setting) (entries : List ℕ) : Type 0 where
-  pub all : HasAllEntries g entries
-  pub sound : IsSound g (table_of g entries)

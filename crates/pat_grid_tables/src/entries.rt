@@ -34,7 +34,7 @@ pub fn lower(
     requires all { HasAllEntries (setting_of board.now) entries.old }
     requires place { IsPlace board.now s number }
     requires step { let g = setting_of board.now in Step g (table_of g entries.old) s (point_of g.bound g.tags number) size }
-    ensures { let g = setting_of board.now in Moved g (λ es. entry_at g es s number ≤ size) entries.old changed.old entries.new changed.new }
+    ensures { let g = setting_of board.now in Moved g s (Unit {0}) (λ es. entry_at g es s number ≤ size) entries.old changed.old entries.new changed.new }
 {
     let place = s * board.points + number;
     if size < entries[place] {

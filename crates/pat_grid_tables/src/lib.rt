@@ -7,6 +7,7 @@ mod listing;
 mod passes;
 mod steps;
 mod symbols;
+mod users;
 
 pub use board::Board;
 pub use entries::entry;

@@ -1,25 +1,29 @@
-// Passes over all symbols, until one changes nothing.
-ghost use Rattle.std.specs.Prelude.{◌≡◌, length, IfOk, false};
+// Passes over the symbols that wait, until none does.
+ghost use Rattle.std.specs.Prelude.{◌≡◌, ◌<◌, [], length, get_or, set, IfOk, OnOk, true, false};
 ghost use Rattle.pat_bounds.specs.Tables.{IsDone};
 ghost use Rattle.pat_bounds.specs.Numbers.{HasAllEntries, table_of};
 ghost use Rattle.pat_grid_tables.specs.Views.{setting_of, IsBoard};
-ghost use Rattle.pat_grid_tables.specs.Moves.{Moved, ClosedBefore, Begins, total};
+ghost use Rattle.pat_grid_tables.specs.Waiting.{HasUsers, Begins, Stands, with_waits, Looked, Passed};
 
 use crate::board::Board;
 use crate::symbols::relax_symbol;
+use crate::users::users_of;
 use pat_sequences::Sequence;
 use std::alloc::{AllocError, Global};
 
 /// The sizes of least trees, up to the limit: a list of the board's points for each symbol. An entry one above the limit
-/// says that there is a tree, but only larger ones; an entry two above it, that there is none.
+/// says that there is a tree, but only larger ones; an entry two above it, that there is none. A symbol is looked at again
+/// only where one that it is made of has changed.
 pub fn least_sizes(alloc: Global, board: &Board) -> Result<Sequence<u16>, AllocError>
     requires { IsBoard board.now }
     ensures all { IfOk result (λ entries. HasAllEntries (setting_of board.now) entries) }
     ensures done { IfOk result (λ entries. IsDone (setting_of board.now) (table_of (setting_of board.now) entries)) }
 {
+    let users = users_of(alloc, board)?;
     let mut entries = unknown_sizes(alloc, board)?;
+    let mut waits = vec![in alloc; true; board.symbols.len()]?;
     loop {
-        let changed = pass(alloc, board, &mut entries)?;
+        let changed = pass(alloc, board, users.as_slice(), &mut entries, &mut waits)?;
         if !changed {
             return Ok(Sequence::from_vec(entries));
         }
@@ -37,15 +41,89 @@ fn unknown_sizes(alloc: Global, board: &Board) -> Result<Vec<u16>, AllocError>
     }
 }
 
-/// Relaxes each symbol once, and says whether an entry was lowered.
-fn pass(alloc: Global, board: &Board, entries: &mut [u16]) -> Result<bool, AllocError>
+/// Looks once at each symbol that waits, and says whether an entry was lowered.
+fn pass(
+    alloc: Global,
+    board: &Board,
+    users: &[Sequence<usize>],
+    entries: &mut [u16],
+    waits: &mut [bool],
+) -> Result<bool, AllocError>
     requires board { IsBoard board.now }
-    requires all { HasAllEntries (setting_of board.now) entries.old }
-    ensures { IfOk result (λ changed. Moved (setting_of board.now) (ClosedBefore (setting_of board.now) (length board.now.symbols.now)) entries.old false entries.new changed) }
+    requires users { HasUsers (setting_of board.now) users.now }
+    requires stands { Stands (setting_of board.now) entries.old waits.old }
+    ensures { IfOk result (λ changed. Passed (setting_of board.now) (length board.now.symbols.now) entries.old entries.new waits.new changed) }
 {
     let mut changed = false;
     for s in 0..board.symbols.len() {
-        relax_symbol(alloc, board, entries, s, &mut changed)?;
+        look(alloc, board, users, s, entries, waits, &mut changed)?;
     }
     Ok(changed)
+}
+
+/// Looks at the symbol, if it waits. Where an entry is lowered, those that are made of it wait.
+fn look(
+    alloc: Global,
+    board: &Board,
+    users: &[Sequence<usize>],
+    s: usize,
+    entries: &mut [u16],
+    waits: &mut [bool],
+    changed: &mut bool,
+) -> Result<(), AllocError>
+    requires board { IsBoard board.now }
+    requires users { HasUsers (setting_of board.now) users.now }
+    requires stands { Stands (setting_of board.now) entries.old waits.old }
+    requires there { s < length board.now.symbols.now }
+    ensures { OnOk result (Looked (setting_of board.now) s entries.old waits.old changed.old entries.new waits.new changed.new) }
+{
+    let waited = stop_waiting(waits, s);
+    if !waited {
+        return Ok(());
+    }
+    let mut lowered = false;
+    relax_symbol(alloc, board, entries, s, &mut lowered)?;
+    if lowered {
+        let numbers = users_at(users, s);
+        let_wait(numbers, waits);
+        *changed = true;
+    }
+    Ok(())
+}
+
+/// Whether the symbol waits; from now on it doesn't.
+fn stop_waiting(waits: &mut [bool], s: usize) -> bool
+    requires { s < length waits.old }
+    ensures was { result ≡ get_or waits.old s false }
+    ensures now { waits.new ≡ set waits.old s false }
+{
+    let waited = waits[s];
+    waits[s] = false;
+    waited
+}
+
+/// The symbols that are made of the symbol with the number.
+fn users_at<'a>(users: &'a [Sequence<usize>], s: usize) -> &'a [usize]
+    requires { s < length users.now }
+    ensures { result.now ≡ get_or users.now s [] }
+{
+    users[s].as_slice()
+}
+
+/// All these symbols wait from now on.
+fn let_wait(numbers: &[usize], waits: &mut [bool])
+    ensures { waits.new ≡ with_waits numbers.now waits.old }
+{
+    for number in numbers {
+        let_one_wait(*number, waits);
+    }
+}
+
+/// The symbol waits from now on, if it is there.
+fn let_one_wait(number: usize, waits: &mut [bool])
+    ensures { waits.new ≡ set waits.old number true }
+{
+    if number < waits.len() {
+        waits[number] = true;
+    }
 }

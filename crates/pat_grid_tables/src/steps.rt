@@ -2,7 +2,7 @@
 ghost use Rattle.std.specs.Prelude.{◌≡◌, ◌<◌, ◌+◌, length, get_or, min, ℕ};
 ghost use Rattle.pat_bounds.specs.Numbers.{HasAllEntries};
 ghost use Rattle.pat_grid_tables.specs.Views.{setting_of, IsBoard};
-ghost use Rattle.pat_grid_tables.specs.Moves.{IsPlace, Moved, TakesPart, PartAt, PartBefore, TakesParts, PairAt, RowBefore, RowsBefore};
+ghost use Rattle.pat_grid_tables.specs.Moves.{IsPlace, Moved, TakesPart, PartAt, PartBefore, TakesParts, AreOthers, PairAt, RowBefore, RowsBefore};
 
 use crate::board::Board;
 use crate::entries::{entry, lower};
@@ -22,7 +22,7 @@ pub fn relax_part(board: &Board, entries: &mut [u16], s: usize, part: usize, cha
     requires all { HasAllEntries (setting_of board.now) entries.old }
     requires symbol { s < length board.now.symbols.now }
     requires takes { TakesPart (setting_of board.now) s part }
-    ensures { let g = setting_of board.now in Moved g (PartBefore g s part board.now.points) entries.old changed.old entries.new changed.new }
+    ensures { let g = setting_of board.now in Moved g s (part ≡ s → ⊥) (PartBefore g s part board.now.points) entries.old changed.old entries.new changed.new }
 {
     for number in 0..board.points {
         relax_part_at(board, entries, s, part, number, changed);
@@ -42,7 +42,7 @@ fn relax_part_at(
     requires all { HasAllEntries (setting_of board.now) entries.old }
     requires place { IsPlace board.now s number }
     requires takes { TakesPart (setting_of board.now) s part }
-    ensures { let g = setting_of board.now in Moved g (PartAt g s part number) entries.old changed.old entries.new changed.new }
+    ensures { let g = setting_of board.now in Moved g s (part ≡ s → ⊥) (PartAt g s part number) entries.old changed.old entries.new changed.new }
 {
     let size = entry(board, entries, part, number);
     if size > board.limit + 1 {
@@ -73,7 +73,7 @@ pub fn relax_parts(
     requires symbol { s < length board.now.symbols.now }
     requires firsts { (i : ℕ) → i < length firsts.now → (get_or firsts.now i 0 < board.now.points) × TakesParts (setting_of board.now) s parts.0 parts.1 (get_or firsts.now i 0) }
     requires seconds { (j : ℕ) → j < length seconds.now → get_or seconds.now j 0 < board.now.points }
-    ensures { let g = setting_of board.now in Moved g (RowsBefore g s parts.0 parts.1 firsts.now seconds.now (length firsts.now)) entries.old changed.old entries.new changed.new }
+    ensures { let g = setting_of board.now in Moved g s (AreOthers parts.0 parts.1 s) (RowsBefore g s parts.0 parts.1 firsts.now seconds.now (length firsts.now)) entries.old changed.old entries.new changed.new }
 {
     for first in firsts {
         relax_row(board, entries, s, parts, *first, seconds, changed);
@@ -95,7 +95,7 @@ fn relax_row(
     requires place { IsPlace board.now s first }
     requires takes { TakesParts (setting_of board.now) s parts.0 parts.1 first }
     requires seconds { (j : ℕ) → j < length seconds.now → get_or seconds.now j 0 < board.now.points }
-    ensures { let g = setting_of board.now in Moved g (RowBefore g s parts.0 parts.1 first seconds.now (length seconds.now)) entries.old changed.old entries.new changed.new }
+    ensures { let g = setting_of board.now in Moved g s (AreOthers parts.0 parts.1 s) (RowBefore g s parts.0 parts.1 first seconds.now (length seconds.now)) entries.old changed.old entries.new changed.new }
 {
     for second in seconds {
         relax_pair(board, entries, s, parts, first, *second, changed);
@@ -117,7 +117,7 @@ fn relax_pair(
     requires place { IsPlace board.now s first }
     requires second { second < board.now.points }
     requires takes { TakesParts (setting_of board.now) s parts.0 parts.1 first }
-    ensures { let g = setting_of board.now in Moved g (PairAt g s parts.0 parts.1 first second) entries.old changed.old entries.new changed.new }
+    ensures { let g = setting_of board.now in Moved g s (AreOthers parts.0 parts.1 s) (PairAt g s parts.0 parts.1 first second) entries.old changed.old entries.new changed.new }
 {
     let one = entry(board, entries, parts.0, first);
     let other = entry(board, entries, parts.1, second);

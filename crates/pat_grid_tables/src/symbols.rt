@@ -6,6 +6,7 @@ ghost use Rattle.pat_bounds.specs.Numbers.{HasAllEntries, point_of};
 ghost use Rattle.pat_grid_symbols.specs.Views.{symbol_view};
 ghost use Rattle.pat_grid_tables.specs.Views.{setting_of, IsBoard};
 ghost use Rattle.pat_grid_tables.specs.Moves.{entry_at, IsPlace, Moved, ClosedAt, HeldAt, HeldBefore};
+ghost use Rattle.pat_grid_tables.specs.Waiting.{IsNoPart};
 
 use crate::board::Board;
 use crate::entries::lower;
@@ -27,7 +28,7 @@ pub fn relax_symbol(
     requires board { IsBoard board.now }
     requires all { HasAllEntries (setting_of board.now) entries.old }
     requires there { s < length board.now.symbols.now }
-    ensures { OnOk result (Moved (setting_of board.now) (ClosedAt (setting_of board.now) s) entries.old changed.old entries.new changed.new) }
+    ensures { OnOk result (Moved (setting_of board.now) s (IsNoPart (setting_of board.now) s) (ClosedAt (setting_of board.now) s) entries.old changed.old entries.new changed.new) }
 {
     match symbol_at(board, s) {
         Symbol::Zero => Ok(()),
@@ -59,7 +60,7 @@ pub fn relax_symbol(
 }
 
 /// The symbol with the number.
-fn symbol_at(board: &Board, s: usize) -> Symbol
+pub fn symbol_at(board: &Board, s: usize) -> Symbol
     requires { s < length board.now.symbols.now }
     ensures { symbol_in (setting_of board.now).flat s ≡ symbol_view result }
 {
@@ -71,7 +72,7 @@ fn relax_one(board: &Board, entries: &mut [u16], s: usize, changed: &mut bool)
     requires all { HasAllEntries (setting_of board.now) entries.old }
     requires there { s < length board.now.symbols.now }
     requires symbol { symbol_in (setting_of board.now).flat s ≡ OneSymbol }
-    ensures { Moved (setting_of board.now) (ClosedAt (setting_of board.now) s) entries.old changed.old entries.new changed.new }
+    ensures { Moved (setting_of board.now) s (IsNoPart (setting_of board.now) s) (ClosedAt (setting_of board.now) s) entries.old changed.old entries.new changed.new }
 {
     lower(board, entries, s, 0, 1, changed);
 }
@@ -81,7 +82,7 @@ fn relax_tag(board: &Board, entries: &mut [u16], s: usize, tag: u8, changed: &mu
     requires all { HasAllEntries (setting_of board.now) entries.old }
     requires there { s < length board.now.symbols.now }
     requires symbol { symbol_in (setting_of board.now).flat s ≡ TagSymbol tag }
-    ensures { Moved (setting_of board.now) (ClosedAt (setting_of board.now) s) entries.old changed.old entries.new changed.new }
+    ensures { Moved (setting_of board.now) s (IsNoPart (setting_of board.now) s) (ClosedAt (setting_of board.now) s) entries.old changed.old entries.new changed.new }
 {
     let number = number_of(&Bag::one(tag), board.k, board.tags);
     lower(board, entries, s, number, 1, changed);
@@ -99,7 +100,7 @@ fn relax_sum(
     requires all { HasAllEntries (setting_of board.now) entries.old }
     requires there { s < length board.now.symbols.now }
     requires symbol { symbol_in (setting_of board.now).flat s ≡ SumSymbol left right }
-    ensures { Moved (setting_of board.now) (ClosedAt (setting_of board.now) s) entries.old changed.old entries.new changed.new }
+    ensures { Moved (setting_of board.now) s (IsNoPart (setting_of board.now) s) (ClosedAt (setting_of board.now) s) entries.old changed.old entries.new changed.new }
 {
     relax_part(board, entries, s, left, changed);
     relax_part(board, entries, s, right, changed);
@@ -117,7 +118,7 @@ fn relax_product(
     requires all { HasAllEntries (setting_of board.now) entries.old }
     requires there { s < length board.now.symbols.now }
     requires symbol { symbol_in (setting_of board.now).flat s ≡ ProdSymbol parts.0 parts.1 }
-    ensures { OnOk result (Moved (setting_of board.now) (ClosedAt (setting_of board.now) s) entries.old changed.old entries.new changed.new) }
+    ensures { OnOk result (Moved (setting_of board.now) s (IsNoPart (setting_of board.now) s) (ClosedAt (setting_of board.now) s) entries.old changed.old entries.new changed.new) }
 {
     let firsts = known(alloc, board, entries, parts.0, 0)?;
     let seconds = known(alloc, board, entries, parts.1, 0)?;
@@ -147,7 +148,7 @@ fn relax_star(
     requires all { HasAllEntries (setting_of board.now) entries.old }
     requires there { s < length board.now.symbols.now }
     requires symbol { symbol_in (setting_of board.now).flat s ≡ StarSymbol part }
-    ensures { OnOk result (Moved (setting_of board.now) (ClosedAt (setting_of board.now) s) entries.old changed.old entries.new changed.new) }
+    ensures { OnOk result (Moved (setting_of board.now) s (IsNoPart (setting_of board.now) s) (ClosedAt (setting_of board.now) s) entries.old changed.old entries.new changed.new) }
 {
     let firsts = known(alloc, board, entries, part, 1)?;
     let seconds = all_numbers(alloc, board)?;
@@ -169,13 +170,13 @@ fn relax_lower(board: &Board, entries: &mut [u16], s: usize, variable: usize, ch
     requires all { HasAllEntries (setting_of board.now) entries.old }
     requires there { s < length board.now.symbols.now }
     requires symbol { symbol_in (setting_of board.now).flat s ≡ LowerSymbol variable }
-    ensures { Moved (setting_of board.now) (ClosedAt (setting_of board.now) s) entries.old changed.old entries.new changed.new }
+    ensures { Moved (setting_of board.now) s (IsNoPart (setting_of board.now) s) (ClosedAt (setting_of board.now) s) entries.old changed.old entries.new changed.new }
 {
     relax_part(board, entries, s, root_of(board, variable), changed);
 }
 
 /// The number of the symbol of the variable's lower bound; past all symbols where there is none.
-fn root_of(board: &Board, variable: usize) -> usize
+pub fn root_of(board: &Board, variable: usize) -> usize
     ensures { result ≡ root_at (setting_of board.now).flat variable }
 {
     match board.roots.get(variable) {
@@ -189,7 +190,7 @@ fn relax_given(board: &Board, entries: &mut [u16], s: usize, variable: usize, ch
     requires all { HasAllEntries (setting_of board.now) entries.old }
     requires there { s < length board.now.symbols.now }
     requires symbol { symbol_in (setting_of board.now).flat s ≡ GivenSymbol variable }
-    ensures { Moved (setting_of board.now) (ClosedAt (setting_of board.now) s) entries.old changed.old entries.new changed.new }
+    ensures { Moved (setting_of board.now) s (IsNoPart (setting_of board.now) s) (ClosedAt (setting_of board.now) s) entries.old changed.old entries.new changed.new }
 {
     if variable < board.given.len() {
         let held = board.given[variable].held.as_slice();
@@ -204,7 +205,7 @@ fn relax_held(board: &Board, entries: &mut [u16], s: usize, held: &[bool], chang
     requires there { s < length board.now.symbols.now }
     requires counted { length held.now ≡ board.now.points }
     requires takes { (table : Table) (c : ℕ) → c < board.now.points → get_or held.now c false ≡ true → Step (setting_of board.now) table s (point_of board.now.k board.now.tags c) 1 }
-    ensures { Moved (setting_of board.now) (HeldBefore (setting_of board.now) s held.now board.now.points) entries.old changed.old entries.new changed.new }
+    ensures { Moved (setting_of board.now) s (Unit {0}) (HeldBefore (setting_of board.now) s held.now board.now.points) entries.old changed.old entries.new changed.new }
 {
     for number in 0..board.points {
         relax_held_at(board, entries, s, held[number], number, changed);
@@ -223,7 +224,7 @@ fn relax_held_at(
     requires all { HasAllEntries (setting_of board.now) entries.old }
     requires place { IsPlace board.now s number }
     requires takes { (table : Table) → held ≡ true → Step (setting_of board.now) table s (point_of board.now.k board.now.tags number) 1 }
-    ensures { Moved (setting_of board.now) (HeldAt (setting_of board.now) s held number) entries.old changed.old entries.new changed.new }
+    ensures { Moved (setting_of board.now) s (Unit {0}) (HeldAt (setting_of board.now) s held number) entries.old changed.old entries.new changed.new }
 {
     if !held {
         return;

@@ -1,7 +1,7 @@
-use Rattle.std.proofs.Common.{get_or, length, ◌+◌}
+use Rattle.std.proofs.Common.{get_or, length, ◌<◌, ◌+◌, subst, arith}
 use Rattle.pat_grid_tables.specs.Views.{setting_of}
-use Rattle.pat_grid_tables.specs.Moves.{RowBefore, RowsBefore}
-use Rattle.pat_grid_tables.proofs.Relaxing.{moved_both, before_more}
+use Rattle.pat_grid_tables.specs.Moves.{AreOthers, RowBefore, RowsBefore}
+use Rattle.pat_grid_tables.proofs.Relaxing.{moved_both, before_more, rows_kept}
 use Rattle.pat_grid_tables.proofs.steps.relax_parts.Goals as goal
 
 pub relax_row-requires-clause-takes : goal.relax_row-requires-clause-takes
@@ -10,10 +10,16 @@ relax_row-requires-clause-takes c = (c.requires.firsts c.loop-first.first-index 
 pub loop-first-preserved : goal.loop-first-preserved
 loop-first-preserved c =
     let g = setting_of c.args.board.now in
+    let s = c.args.s in
     let a = c.args.parts.0 in
     let b = c.args.parts.1 in
     let firsts = c.args.firsts.now in
     let seconds = c.args.seconds.now in
     let i = c.loop-first.first-index in
-    moved_both g (RowsBefore g c.args.s a b firsts seconds i) (RowBefore g c.args.s a b (get_or firsts i 0) seconds (length seconds)) (RowsBefore g c.args.s a b firsts seconds (i + 1)) c.args.entries.now c.loop-first.entries c.relax_row.new.entries c.args.changed.now c.loop-first.changed c.relax_row.new.changed c.loop-first.invariant c.relax_row.ensures
-    (λ before here. before_more (λ i2. RowBefore g c.args.s a b (get_or firsts i2 0) seconds (length seconds) c.args.entries.now) i before here)
+    let points = c.requires.board.points in
+    moved_both g s (AreOthers a b s) (RowsBefore g s a b firsts seconds i) (RowBefore g s a b (get_or firsts i 0) seconds (length seconds)) (RowsBefore g s a b firsts seconds (i + 1)) c.args.entries.now c.loop-first.entries c.relax_row.new.entries c.args.changed.now c.loop-first.changed c.relax_row.new.changed c.loop-first.invariant c.relax_row.ensures
+    (λ apart lowers before. rows_kept g s a b i firsts seconds c.loop-first.entries c.relax_row.new.entries
+    (λ i2 l. subst (λ n. get_or firsts i2 0 < n) points (c.requires.firsts i2 (let m = c.loop-first-test.true in omega arith)).0)
+    (λ j l. subst (λ n. get_or seconds j 0 < n) points (c.requires.seconds j l))
+    apart lowers before)
+    (λ before here. before_more (λ i2. RowBefore g s a b (get_or firsts i2 0) seconds (length seconds) c.relax_row.new.entries) i before here)

@@ -1,0 +1,22 @@
+use Rattle.std.proofs.Common.{get_or, ◌<◌, ◌+◌, subst, arith}
+use Rattle.pat_grid_tables.specs.Views.{setting_of}
+use Rattle.pat_grid_tables.specs.Moves.{AreOthers, PairAt, RowBefore}
+use Rattle.pat_grid_tables.proofs.Relaxing.{moved_both, before_more, row_kept}
+use Rattle.pat_grid_tables.proofs.steps.relax_row.Goals as goal
+
+pub loop-second-preserved : goal.loop-second-preserved
+loop-second-preserved c =
+    let g = setting_of c.args.board.now in
+    let s = c.args.s in
+    let a = c.args.parts.0 in
+    let b = c.args.parts.1 in
+    let v = c.args.first in
+    let seconds = c.args.seconds.now in
+    let j = c.loop-second.second-index in
+    let points = c.requires.board.points in
+    moved_both g s (AreOthers a b s) (RowBefore g s a b v seconds j) (PairAt g s a b v (get_or seconds j 0)) (RowBefore g s a b v seconds (j + 1)) c.args.entries.now c.loop-second.entries c.relax_pair.new.entries c.args.changed.now c.loop-second.changed c.relax_pair.new.changed c.loop-second.invariant c.relax_pair.ensures
+    (λ apart lowers before. row_kept g s a b v j seconds c.loop-second.entries c.relax_pair.new.entries
+    (subst (λ n. v < n) points c.requires.place.1)
+    (λ i l. subst (λ n. get_or seconds i 0 < n) points (c.requires.seconds i (let m = c.loop-second-test.true in omega arith)))
+    apart lowers before)
+    (λ before here. before_more (λ i. PairAt g s a b v (get_or seconds i 0) c.relax_pair.new.entries) j before here)
