@@ -3,6 +3,7 @@
 
 mod cutting;
 mod membership;
+mod places;
 mod word_lists;
 
 pub use cutting::member;

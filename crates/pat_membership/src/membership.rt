@@ -65,7 +65,7 @@ fn join_parts(
         Pattern::Zero | Pattern::Var(_) => done.push(Sequence::new(alloc)),
         Pattern::One => push_empty_word(alloc, limit, done),
         Pattern::Tag(tag) => push_tag_word(alloc, *tag, limit, done),
-        Pattern::Sum(..) => join_sum(done),
+        Pattern::Sum(..) => join_sum(alloc, done),
         Pattern::Prod(..) => join_product(alloc, limit, done),
         Pattern::Star(_) => join_star(alloc, limit, done),
     }
@@ -118,13 +118,13 @@ fn take_words(done: &mut Stack<Sequence<Bag>>) -> Sequence<Bag>
     }
 }
 
-fn join_sum(done: &mut Stack<Sequence<Bag>>) -> Result<(), AllocError>
+fn join_sum(alloc: Global, done: &mut Stack<Sequence<Bag>>) -> Result<(), AllocError>
     requires { 2 ≤ length done.old }
     ensures { OnOk result (JoinsTwo EitherOf done.old done.new) }
 {
     let right = take_words(done);
     let mut left = take_words(done);
-    push_all(&mut left, right.as_slice())?;
+    push_all(alloc, &mut left, right.as_slice())?;
     done.push(left)
 }
 

@@ -5,6 +5,7 @@ ghost use Rattle.pat_bags.specs.Views.{word_of};
 ghost use Rattle.pat_membership.specs.Listings.{HasWord, Only, Within, Reached};
 ghost use Rattle.pat_words.specs.Languages.{SumOf, StarOf};
 
+use crate::places::Places;
 use pat_bags::Bag;
 use pat_sequences::Sequence;
 use std::alloc::{AllocError, Global};
@@ -22,28 +23,37 @@ pub fn holds(words: &[Bag], word: &Bag) -> bool
 }
 
 /// Appends the word where the list lacks it.
-fn push_new(words: &mut Sequence<Bag>, word: &Bag) -> Result<(), AllocError>
+fn push_new(
+    alloc: Global,
+    words: &mut Sequence<Bag>,
+    places: &mut Places,
+    word: &Bag,
+) -> Result<(), AllocError>
     ensures { OnOk result ((w : Word) → HasWord words.new w ↔ (HasWord words.old w ⊎ (word_of word.now ≡ w))) }
 {
-    if !holds(words.as_slice(), word) {
+    if !places.find(words.as_slice(), word) {
         words.push(*word)?;
+        places.note(alloc, words.as_slice())?;
     }
     Ok(())
 }
 
 /// Appends the words of the second list that the first one lacks.
-pub fn push_all(words: &mut Sequence<Bag>, more: &[Bag]) -> Result<(), AllocError>
+pub fn push_all(alloc: Global, words: &mut Sequence<Bag>, more: &[Bag]) -> Result<(), AllocError>
     ensures { OnOk result ((w : Word) → HasWord words.new w ↔ (HasWord words.old w ⊎ HasWord more.now w)) }
 {
+    let mut places = Places::of(alloc, words.as_slice())?;
     for word in more {
-        push_new(words, word)?;
+        push_new(alloc, words, &mut places, word)?;
     }
     Ok(())
 }
 
 /// Appends each sum of the word and one of the others that lies in the limit.
 fn push_sums(
+    alloc: Global,
     words: &mut Sequence<Bag>,
+    places: &mut Places,
     word: &Bag,
     others: &[Bag],
     limit: &Bag,
@@ -53,7 +63,7 @@ fn push_sums(
     for other in others {
         match word.add_within(other, limit) {
             Some(sum) => {
-                push_new(words, &sum)?;
+                push_new(alloc, words, places, &sum)?;
             }
             None => {}
         }
@@ -71,15 +81,18 @@ pub fn sums(
     ensures { IfOk result (λ words. (w : Word) → HasWord words w ↔ Within (word_of limit.now) (SumOf (HasWord left.now) (HasWord right.now)) w) }
 {
     let mut words = Sequence::new(alloc);
+    let mut places = Places::of(alloc, &[])?;
     for word in left {
-        push_sums(&mut words, word, right, limit)?;
+        push_sums(alloc, &mut words, &mut places, word, right, limit)?;
     }
     Ok(words)
 }
 
 /// Appends the word and its sums with any number of steps, as far as they lie in the limit.
 fn push_steps(
+    alloc: Global,
     words: &mut Sequence<Bag>,
+    places: &mut Places,
     start: &Bag,
     step: &Bag,
     limit: &Bag,
@@ -90,7 +103,7 @@ fn push_steps(
 {
     let mut next = *start;
     loop {
-        push_new(words, &next)?;
+        push_new(alloc, words, places, &next)?;
         match next.add_within(step, limit) {
             Some(sum) => next = sum,
             None => return Ok(()),
@@ -110,8 +123,9 @@ fn with_steps(
     ensures { IfOk result (λ words. (w : Word) → HasWord words w ↔ Within (word_of limit.now) (Reached (HasWord starts.now) (word_of step.now)) w) }
 {
     let mut words = Sequence::new(alloc);
+    let mut places = Places::of(alloc, &[])?;
     for start in starts {
-        push_steps(&mut words, start, step, limit)?;
+        push_steps(alloc, &mut words, &mut places, start, step, limit)?;
     }
     Ok(words)
 }
