@@ -4,7 +4,7 @@ ghost use Rattle.std.specs.Prelude.{IsTrue};
 ghost use Rattle.pat_inclusions.specs.Points.{grid_fits};
 
 use pat_bags::Bag;
-use pat_certs_grids::{Right, check_grid};
+use pat_certs_grids::{Right, check_grid, is_grid};
 use pat_grid::{Grid, eval, least};
 use pat_grid_symbols::has_tags;
 use pat_patterns::Pattern;
@@ -102,8 +102,18 @@ fn derives(
     }
 }
 
-/// So many points has the pattern.
-fn counts(
+/// Any number of messages of the first 16 tags.
+fn sixteen_tags(alloc: Global) -> Result<Pattern, AllocError> {
+    let mut all = Pattern::Zero;
+    for tag in 0..16 {
+        let more = Box::new(alloc, Pattern::Tag(tag))?;
+        all = Pattern::Sum(Box::new(alloc, all)?, more);
+    }
+    Ok(Pattern::Star(Box::new(alloc, all)?))
+}
+
+/// So many points has the pattern that is spelled so.
+fn counts_spelled(
     rt: &impl Abort,
     alloc: Global,
     text: &str,
@@ -114,10 +124,24 @@ fn counts(
     requires { IsTrue (grid_fits k tags) }
 {
     let p = pattern(alloc, text)?;
-    assert!(rt; has_tags(&p, tags), "tags of {text}");
-    let grid = eval(alloc, &p, &[], k, tags)?;
+    counts(rt, alloc, &p, k, tags, want)
+}
+
+/// So many points has the pattern.
+fn counts(
+    rt: &impl Abort,
+    alloc: Global,
+    p: &Pattern,
+    k: u32,
+    tags: u8,
+    want: usize,
+) -> Result<(), AllocError>
+    requires { IsTrue (grid_fits k tags) }
+{
+    assert!(rt; has_tags(p, tags), "tags of a large grid");
+    let grid = eval(alloc, p, &[], k, tags)?;
     let points = grid.points(alloc)?;
-    assert!(rt; points.len() == want, "number of points of {text}");
+    assert!(rt; points.len() == want, "number of points");
     Ok(())
 }
 
@@ -165,8 +189,18 @@ fn grids_by_hand(rt: HostRuntime) -> Result<(), Fail> {
     shows(&rt, alloc, "mn.*", "mn+*", 1, 2, true)?;
     shows(&rt, alloc, "mn+*", "m*n.1+", 2, 2, false)?;
     shows(&rt, alloc, "0", "0", 1, 1, true)?;
-    counts(&rt, alloc, "m*", 65535, 1, 65536)?;
-    counts(&rt, alloc, "mn+o+p+q+r+s+t+u+v+w+x+y+z+*", 1, 16, 16384)?;
-    counts(&rt, alloc, "mn+o+p+q+r+s+t+*", 3, 8, 65536)?;
+    // With a count of at most 4 for each of seven tags there would be 78,125 points.
+    assert!(rt;
+        is_grid(1, 16) && is_grid(65535, 1) && is_grid(3, 8) && is_grid(4, 6),
+        "large grids"
+    );
+    assert!(rt;
+        !is_grid(1, 17) && !is_grid(65536, 1) && !is_grid(4, 7) && !is_grid(0, 1),
+        "grids that are too large"
+    );
+    counts_spelled(&rt, alloc, "m*", 65535, 1, 65536)?;
+    counts(&rt, alloc, &sixteen_tags(alloc)?, 1, 16, 65536)?;
+    counts_spelled(&rt, alloc, "mn+o+p+q+r+s+t+*", 3, 8, 65536)?;
+    counts_spelled(&rt, alloc, "mn+o+p+q+r+*", 4, 6, 15625)?;
     Ok(())
 }

@@ -1,7 +1,10 @@
-// Closed forms of small random patterns, word by word beside `member`.
+// Closed forms and grids of small random patterns, word by word beside `member`.
 use crate::covers::cover_of;
 use crate::forms::form;
 use crate::spelling::{bag, push_letter, take};
+use pat_bags::Bag;
+use pat_grid::{Grid, eval};
+use pat_grid_symbols::has_tags;
 use pat_linear::LinearSet;
 use pat_membership::member;
 use pat_patterns::Pattern;
@@ -51,24 +54,31 @@ fn pattern(alloc: Global, generator: &mut Generator) -> Result<Pattern, AllocErr
     Ok(Pattern::Sum(left, right))
 }
 
-/// Whether the word is one of the pattern's just where it is one of the sets'.
+/// The grid of the pattern, whose counts go up to five: a count below that is a word's own.
+fn grid_of(rt: &impl Abort, alloc: Global, p: &Pattern) -> Result<Grid, AllocError> {
+    if !has_tags(p, 2) {
+        panic!(rt; "a third tag");
+    }
+    eval(alloc, p, &[], 5, 2)
+}
+
+/// Whether the word is one of the pattern's just where it is one of the sets', and just where the grid has it.
 fn agrees(
     rt: &impl Abort,
     alloc: Global,
     p: &Pattern,
     sets: &[LinearSet],
-    m: u32,
-    n: u32,
+    grid: &Grid,
+    word: &Bag,
 ) -> Result<bool, AllocError> {
-    let word = bag(m, n);
     let mut left = Sequence::new(alloc);
     left.push(LinearSet {
-        base: word,
+        base: *word,
         periods: Sequence::new(alloc),
     })?;
     let found = cover_of(rt, alloc, left.as_slice(), sets)?;
-    let yes = member(alloc, p, &word)?;
-    Ok(found.is_some() == yes)
+    let yes = member(alloc, p, word)?;
+    Ok(found.is_some() == yes && grid.holds(word) == yes)
 }
 
 pub fn all_random(rt: &impl Abort, alloc: Global) -> Result<(), AllocError> {
@@ -76,10 +86,11 @@ pub fn all_random(rt: &impl Abort, alloc: Global) -> Result<(), AllocError> {
     for _ in 0..500 {
         let p = pattern(alloc, &mut generator)?;
         let sets = form(rt, alloc, &p)?;
+        let grid = grid_of(rt, alloc, &p)?;
         for m in 0..5 {
             for n in 0..5 {
-                let same = agrees(rt, alloc, &p, sets.as_slice(), m, n)?;
-                assert!(rt; same, "a random pattern and its form");
+                let same = agrees(rt, alloc, &p, sets.as_slice(), &grid, &bag(m, n))?;
+                assert!(rt; same, "a random pattern, its form and its grid");
             }
         }
     }

@@ -2,9 +2,12 @@
 // *m; `$` is the one variable.
 ghost use Rattle.std.specs.Prelude.{◌≡◌, ◌^◌, ◌-◌, min, IsTrue};
 ghost use Rattle.pat_words.specs.Flats.{degree_of};
-ghost use Rattle.pat_patterns.specs.Views.{pattern_view};
+ghost use Rattle.std.specs.List.{AllByRecursion};
+ghost use Rattle.pat_words.specs.Tags.{tags_below};
+ghost use Rattle.pat_patterns.specs.Views.{pattern_view, patterns_view};
 ghost use Rattle.pat_inclusions.specs.Points.{grid_fits};
 
+use pat_certs_refutations::check_refutation;
 use pat_certs_searches::refute;
 use pat_certs_trees::Search;
 use pat_grid_symbols::has_tags;
@@ -71,27 +74,29 @@ fn degree_within(p: &Pattern) -> u32
     }
 }
 
-/// What the search answers.
+/// What the search answers; what it finds is a refutation.
 fn answer(
     rt: &impl Abort,
     alloc: Global,
-    lower: &str,
-    left: &str,
+    system: &[Pattern],
+    left: &Pattern,
     right: &Pattern,
     k: u32,
     tags: u8,
 ) -> Result<Search, AllocError>
-    requires { IsTrue (grid_fits k tags) }
+    requires fits { IsTrue (grid_fits k tags) }
+    requires system { AllByRecursion (λ e. IsTrue (tags_below tags e)) (patterns_view system.now) }
 {
-    let bound = pattern(alloc, lower)?;
-    let e = pattern(alloc, left)?;
-    assert!(rt; has_tags(&bound, tags), "tags of {lower}");
-    assert!(rt; has_tags(&e, tags), "tags of {left}");
-    assert!(rt; has_tags(right, tags), "tags on the right of {left}");
-    assert!(rt; is_flat(right), "right of {left}");
-    assert!(rt; degree_within(right) < k, "degree on the right of {left}");
-    let system = vec![in alloc; bound]?;
-    refute(alloc, system.as_slice(), &e, right, k, tags)
+    assert!(rt; has_tags(left, tags), "tags on the left");
+    assert!(rt; has_tags(right, tags), "tags on the right");
+    assert!(rt; is_flat(right), "a right side that isn't flat");
+    assert!(rt; degree_within(right) < k, "degree on the right");
+    let found = refute(alloc, system, left, right, k, tags)?;
+    if let Search::Found(refutation) = &found {
+        let checks = check_refutation(alloc, system, left, right, refutation)?;
+        assert!(rt; checks, "what is found refutes");
+    }
+    Ok(found)
 }
 
 /// Whether it is what is wanted.
@@ -116,7 +121,11 @@ fn finds(
 ) -> Result<(), AllocError>
     requires { IsTrue (grid_fits k tags) }
 {
-    let found = answer(rt, alloc, lower, left, right, k, tags)?;
+    let bound = pattern(alloc, lower)?;
+    let e = pattern(alloc, left)?;
+    assert!(rt; has_tags(&bound, tags), "tags of {lower}");
+    let system = vec![in alloc; bound]?;
+    let found = answer(rt, alloc, system.as_slice(), &e, right, k, tags)?;
     assert!(rt; is_wanted(&found, want), "answer of {left}");
     Ok(())
 }
