@@ -31,19 +31,19 @@ use std::alloc::{AllocError, Global};
 
 // The functions so far, and their nodes. Between functions nothing is in scope.
 #[derive(Drop)]
-pub struct Resolution {
+pub struct Resolution<'a> {
     pub functions: Sequence<Function>,
-    pub numbering: Numbering,
+    pub numbering: Numbering<'a>,
 }
 
 /// Brings the parameters of a function into scope, and examines its body. Answers its variables.
-fn examine(
+fn examine<'a>(
     alloc: Global,
     heads: &Heads,
-    scope: &mut ScopeTable,
-    params: &[Param],
+    scope: &mut ScopeTable<'a>,
+    params: &'a [Param],
     head: &Head,
-    body: &Term,
+    body: &'a Term,
 ) -> Result<Variables, ResolveError>
     requires same { length params.now ≡ length head.now.params }
     requires none { scope.old ≡ [] }
@@ -67,13 +67,13 @@ fn examine(
 }
 
 /// Appends the nodes of a body that was examined, whose parameters are in scope, so many.
-fn number(
+fn number<'a>(
     alloc: Global,
-    numbering: &mut Numbering,
+    numbering: &mut Numbering<'a>,
     context: &Context,
     params: usize,
     kind: Kind,
-    body: &Term,
+    body: &'a Term,
 ) -> Result<(), AllocError>
     requires room { length numbering.old.nodes + nodes_in (term_view body.now) < 4294967296 }
     requires names { params + binders_in (term_view body.now) < 4294967296 }
@@ -90,15 +90,15 @@ fn number(
 }
 
 /// Examines a function's body, and appends its nodes. The function has the number `function`.
-fn resolve_function(
+fn resolve_function<'a>(
     alloc: Global,
     heads: &Heads,
-    numbering: &mut Numbering,
+    numbering: &mut Numbering<'a>,
     function: u32,
     name: &Name,
-    params: &[Param],
+    params: &'a [Param],
     outcome: &TreeType,
-    body: &Term,
+    body: &'a Term,
 ) -> Result<Function, ResolveError>
     requires none { numbering.old.scope ≡ [] }
     requires names { length params.now + binders_in (term_view body.now) < 2 ^ 32 }
@@ -138,11 +138,11 @@ fn resolve_function(
 }
 
 /// Examines the body of a declared function, and appends the function and its nodes. An interface has none.
-fn resolve_decl(
+fn resolve_decl<'a>(
     alloc: Global,
     heads: &Heads,
-    made: &mut Resolution,
-    decl: &Decl,
+    made: &mut Resolution<'a>,
+    decl: &'a Decl,
 ) -> Result<(), ResolveError>
     requires none { made.old.numbering.scope ≡ [] }
     requires functions { length made.old.functions + 1 < 2 ^ 32 }
@@ -181,11 +181,11 @@ fn resolve_decl(
 }
 
 /// Examines the bodies of all functions in the order of the text, and appends their nodes.
-pub fn resolve_functions(
+pub fn resolve_functions<'a>(
     alloc: Global,
     heads: &Heads,
-    decls: &[Decl],
-) -> Result<Resolution, ResolveError>
+    decls: &'a [Decl],
+) -> Result<Resolution<'a>, ResolveError>
     requires { tree_size (map decl_view decls.now) < 4294967295 }
     ensures found { Meets result (bodies_findings (names_view heads.now.names) (heads_view heads.now) (definitions_of (map decl_view decls.now))) }
     ensures functions { IfOk result (λ r. map function_view r.functions ≡ functions_from (names_view heads.now.names) (heads_view heads.now) 0 (definitions_of (map decl_view decls.now))) }
@@ -204,13 +204,13 @@ pub fn resolve_functions(
 }
 
 /// Examines a function's body. Nothing is in scope before and behind it.
-fn check_function(
+fn check_function<'a>(
     alloc: Global,
     heads: &Heads,
-    scope: &mut ScopeTable,
-    params: &[Param],
+    scope: &mut ScopeTable<'a>,
+    params: &'a [Param],
     outcome: &TreeType,
-    body: &Term,
+    body: &'a Term,
 ) -> Result<(), ResolveError>
     requires none { scope.old ≡ [] }
     requires names { length params.now + binders_in (term_view body.now) < 2 ^ 32 }
@@ -224,11 +224,11 @@ fn check_function(
 }
 
 /// Examines the body of a declared function. An interface has none.
-fn check_decl(
+fn check_decl<'a>(
     alloc: Global,
     heads: &Heads,
-    scope: &mut ScopeTable,
-    decl: &Decl,
+    scope: &mut ScopeTable<'a>,
+    decl: &'a Decl,
 ) -> Result<(), ResolveError>
     requires none { scope.old ≡ [] }
     requires names { decl_size (decl_view decl.now) < 2 ^ 32 }

@@ -42,10 +42,10 @@ pub fn number_head(
 }
 
 /// Brings the parameters of a function into scope, numbered from 0.
-pub fn bind_params(
+pub fn bind_params<'a>(
     alloc: Global,
-    scope: &mut ScopeTable,
-    params: &[Param],
+    scope: &mut ScopeTable<'a>,
+    params: &'a [Param],
     sorts: &[Sort],
 ) -> Result<Variables, AllocError>
     requires same { length params.now ≡ length sorts.now }
@@ -63,7 +63,6 @@ pub fn bind_params(
     };
     for (place, param) in params.iter().enumerate() {
         bind(
-            alloc,
             scope,
             &mut variables,
             &param.name,

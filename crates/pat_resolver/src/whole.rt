@@ -74,7 +74,11 @@ fn whole_tree(alloc: Global, tree: &Tree, end: u32) -> Result<Program, ResolveEr
 }
 
 // The heads of a tree's declarations, and the number of its main.
-fn heads_and_main(alloc: Global, tree: &Tree, end: u32) -> Result<(Heads, u32), ResolveError>
+fn heads_and_main<'a>(
+    alloc: Global,
+    tree: &'a Tree,
+    end: u32,
+) -> Result<(Heads<'a>, u32), ResolveError>
     requires { tree_size (tree_view tree.now) < 4294967295 }
     ensures found { Meets result (heads_findings (interface_names (tree_view tree.now)) [] [] (tree_view tree.now) ++ main_findings end (main_of (tree_view tree.now))) }
     ensures names { IfOk result (λ r. names_view r.0.names ≡ interface_names (tree_view tree.now)) }
@@ -89,7 +93,7 @@ fn heads_and_main(alloc: Global, tree: &Tree, end: u32) -> Result<(Heads, u32), 
 
 // The parts of a program put together.
 fn assembled(heads: Heads, main: u32, made: Resolution) -> Program
-    ensures { result ≡ record { interfaces = heads.interfaces; functions = made.functions; main = main; nodes = made.numbering.nodes } }
+    ensures { result ≡ record { interfaces = heads.entry.interfaces; functions = made.entry.functions; main = main; nodes = made.entry.numbering.nodes } }
 {
     Program {
         interfaces: heads.interfaces,

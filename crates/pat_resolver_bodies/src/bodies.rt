@@ -28,13 +28,13 @@ use std::alloc::Global;
 
 /// Examines the body of a function, of which a kind is needed, with these variables in scope. Adds the variables that the
 /// body binds. The scope is left as it was. After an error the scope and the variables have some of them.
-pub fn check_body(
+pub fn check_body<'a>(
     alloc: Global,
     heads: &Heads,
-    scope: &mut ScopeTable,
+    scope: &mut ScopeTable<'a>,
     variables: &mut Variables,
     need: Kind,
-    body: &Term,
+    body: &'a Term,
 ) -> Result<(), ResolveError>
     requires { length variables.old.kinds + binders_in (term_view body.now) < 4294967296 }
     ensures found { Meets result (term_findings (heads_view heads.now) (scope_view scope.old) (length variables.old.kinds) (kind_view need) (term_view body.now)) }
@@ -48,13 +48,13 @@ pub fn check_body(
 
 // Examines a term. Answers the kind that is needed of it; where none is needed, the kind that it has.
 #[cycle(bodies)]
-fn check_term(
+fn check_term<'a>(
     alloc: Global,
     heads: &Heads,
-    scope: &mut ScopeTable,
+    scope: &mut ScopeTable<'a>,
     variables: &mut Variables,
     need: Option<Kind>,
-    term: &Term,
+    term: &'a Term,
 ) -> Result<Kind, ResolveError>
     requires { length variables.old.kinds + binders_in (term_view term.now) < 4294967296 }
     ensures found { Meets result (term_findings (heads_view heads.now) (scope_view scope.old) (length variables.old.kinds) (term_need (heads_view heads.now) (scope_view scope.old) (length variables.old.kinds) (option_map kind_view need) (term_view term.now)) (term_view term.now)) }
@@ -77,13 +77,13 @@ fn check_term(
 
 // Examines the bound term of a let or the first part of a sequence, and brings the name into scope.
 #[cycle(bodies)]
-fn check_bound(
+fn check_bound<'a>(
     alloc: Global,
     heads: &Heads,
-    scope: &mut ScopeTable,
+    scope: &mut ScopeTable<'a>,
     variables: &mut Variables,
-    name: &Option<Name>,
-    bound: &Term,
+    name: &'a Option<Name>,
+    bound: &'a Term,
 ) -> Result<(), ResolveError>
     requires { length variables.old.kinds + bound_binders (option_map name_view name.now) (term_view bound.now) < 4294967296 }
     ensures found { Meets result (bound_findings (heads_view heads.now) (scope_view scope.old) (length variables.old.kinds) (option_map name_view name.now) (term_view bound.now)) }
@@ -105,13 +105,13 @@ fn check_bound(
 // Examines the bound term of a let, and brings the name into scope. The variable has its place before those of the term, and
 // its kind behind them.
 #[cycle(bodies)]
-fn check_named(
+fn check_named<'a>(
     alloc: Global,
     heads: &Heads,
-    scope: &mut ScopeTable,
+    scope: &mut ScopeTable<'a>,
     variables: &mut Variables,
-    name: &Name,
-    bound: &Term,
+    name: &'a Name,
+    bound: &'a Term,
 ) -> Result<(), ResolveError>
     requires { length variables.old.kinds + bound_binders (Some (name_view name.now)) (term_view bound.now) < 4294967296 }
     ensures found { Meets result (bound_findings (heads_view heads.now) (scope_view scope.old) (length variables.old.kinds) (Some (name_view name.now)) (term_view bound.now)) }
@@ -126,19 +126,19 @@ fn check_named(
     variables.spans.push(name.span)?;
     let kind = check_term(alloc, heads, scope, variables, None, bound)?;
     let _ = variables.kinds.replace(number, kind);
-    scope.push(alloc, &name.text, number as u32, kind)?;
+    scope.push(&name.text, number as u32, kind)?;
     Ok(())
 }
 
 // Examines a term that is no let.
 #[cycle(bodies)]
-fn check_form(
+fn check_form<'a>(
     alloc: Global,
     heads: &Heads,
-    scope: &mut ScopeTable,
+    scope: &mut ScopeTable<'a>,
     variables: &mut Variables,
     need: Option<Kind>,
-    term: &Term,
+    term: &'a Term,
 ) -> Result<Kind, ResolveError>
     requires shape { is_let (term_view term.now) ≡ false }
     requires fits { length variables.old.kinds + binders_in (term_view term.now) < 4294967296 }
@@ -195,14 +195,14 @@ fn check_form(
 // Examines the clauses of a guard on a mailbox of an interface. Answers the kind that is needed of their bodies, or that the
 // first of them has, if there is a body.
 #[cycle(bodies)]
-fn check_clauses(
+fn check_clauses<'a>(
     alloc: Global,
     heads: &Heads,
-    scope: &mut ScopeTable,
+    scope: &mut ScopeTable<'a>,
     variables: &mut Variables,
     interface: u32,
     need: Option<Kind>,
-    clauses: &[TreeClause],
+    clauses: &'a [TreeClause],
 ) -> Result<Option<Kind>, ResolveError>
     requires { length variables.old.kinds + clauses_binders_in (listed (map clause_view clauses.now)) < 4294967296 }
     ensures found { Meets result (clauses_findings (heads_view heads.now) interface (scope_view scope.old) (length variables.old.kinds) (clauses_need (heads_view heads.now) interface (scope_view scope.old) (length variables.old.kinds) (option_map kind_view need) (listed (map clause_view clauses.now))) no_earlier (listed (map clause_view clauses.now))) }
@@ -215,7 +215,7 @@ fn check_clauses(
     let mut seen = Seen::new(alloc);
     let mut found = None;
     for clause in clauses {
-        seen.add(alloc, clause)?;
+        seen.add(clause)?;
         let wanted = first_known(found, need);
         let kind = check_clause(alloc, heads, scope, variables, interface, wanted, clause)?;
         found = first_known(kind, found);
@@ -225,14 +225,14 @@ fn check_clauses(
 
 // Examines a clause of a guard on a mailbox of an interface. Answers the kind that is needed of its body, or that it has.
 #[cycle(bodies)]
-fn check_clause(
+fn check_clause<'a>(
     alloc: Global,
     heads: &Heads,
-    scope: &mut ScopeTable,
+    scope: &mut ScopeTable<'a>,
     variables: &mut Variables,
     interface: u32,
     need: Option<Kind>,
-    clause: &TreeClause,
+    clause: &'a TreeClause,
 ) -> Result<Option<Kind>, ResolveError>
     requires { length variables.old.kinds + clause_binders (clause_view clause.now) < 4294967296 }
     ensures found { Meets result (clause_findings (heads_view heads.now) interface (scope_view scope.old) (length variables.old.kinds) (clause_need (heads_view heads.now) interface (scope_view scope.old) (length variables.old.kinds) (option_map kind_view need) (clause_view clause.now)) (clause_view clause.now)) }

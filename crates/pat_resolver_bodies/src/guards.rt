@@ -61,15 +61,15 @@ pub fn close_guard(
 
 /// Examines the head of a receive clause in a guard on a mailbox of an interface, and brings its names into scope.
 #[tactic(auto, using(crate::proofs::Order::in_order))]
-pub fn open_receive(
+pub fn open_receive<'a>(
     alloc: Global,
     heads: &Heads,
-    scope: &mut ScopeTable,
+    scope: &mut ScopeTable<'a>,
     variables: &mut Variables,
     interface: u32,
     tag: &Name,
-    names: &[Name],
-    from: &Name,
+    names: &'a [Name],
+    from: &'a Name,
 ) -> Result<(), ResolveError>
     requires { length variables.old.kinds + length names.now + 1 < 4294967296 }
     ensures found { Meets result (tag_findings (name_view tag.now) (length (map name_view names.now)) (tag_named (heads_view heads.now) interface tag.now.text) ++ names_findings [] ((map name_view names.now) ++ name_view from.now ∷ [])) }
@@ -81,7 +81,7 @@ pub fn open_receive(
 {
     let declared = check_tag(heads, interface, tag, names.len())?;
     check_names(alloc, names, from)?;
-    bind_names(alloc, scope, variables, names, declared.payloads.as_slice())?;
-    bind(alloc, scope, variables, from, Kind::Mailbox(interface))?;
+    bind_names(scope, variables, names, declared.payloads.as_slice())?;
+    bind(scope, variables, from, Kind::Mailbox(interface))?;
     Ok(())
 }

@@ -17,13 +17,13 @@ use std::alloc::Global;
 
 /// The clauses of a guard so far: tags, and whether there are a free clause and a fail clause.
 #[derive(Drop)]
-pub struct Seen {
-    tags: EarlierNames,
+pub struct Seen<'a> {
+    tags: EarlierNames<'a>,
     free: bool,
     fail: bool,
 }
 
-impl Seen {
+impl<'a> Seen<'a> {
     /// No clause. It takes no memory.
     pub fn new(alloc: Global) -> Self
         ensures { seen_view result ≡ no_earlier }
@@ -36,16 +36,14 @@ impl Seen {
     }
 
     /// Adds a clause to those before it, if none of them is for the same.
-    pub fn add(&mut self, alloc: Global, clause: &TreeClause) -> Result<(), ResolveError>
+    pub fn add(&mut self, clause: &'a TreeClause) -> Result<(), ResolveError>
         ensures found { Meets result (twice_findings (seen_view self.old) (clause_view clause.now)) }
         ensures after { OnOk result (seen_view self.new ≡ with_earlier (seen_view self.old) (clause_view clause.now)) }
     {
         match clause {
             TreeClause::Fail(span) => mark(&mut self.fail, *span),
             TreeClause::Free(span, _) => mark(&mut self.free, *span),
-            TreeClause::Receive { span, tag, .. } => {
-                add_name(alloc, &mut self.tags, &tag.text, *span)
-            }
+            TreeClause::Receive { span, tag, .. } => { add_name(&mut self.tags, &tag.text, *span) }
         }
     }
 }
@@ -63,16 +61,15 @@ fn mark(seen: &mut bool, span: Span) -> Result<(), ResolveError>
 }
 
 // Adds a name to those before it, if it is none of them. Otherwise the place is answered.
-fn add_name(
-    alloc: Global,
-    earlier: &mut EarlierNames,
-    name: &Text,
+fn add_name<'a>(
+    earlier: &mut EarlierNames<'a>,
+    name: &'a Text,
     span: Span,
 ) -> Result<(), ResolveError>
     ensures found { Meets result (unless (not (is_one_of name.now earlier.old)) Twice (span_view span)) }
     ensures after { OnOk result (earlier.new ≡ name.now ∷ earlier.old) }
 {
-    if earlier.add(alloc, name)? {
+    if earlier.add(name)? {
         Ok(())
     } else {
         Err(broken(ResolveKind::Twice, span))
@@ -80,12 +77,12 @@ fn add_name(
 }
 
 /// Examines the names that a receive clause binds: those of the payloads, and that of what is left of the mailbox.
-pub fn check_names(alloc: Global, names: &[Name], from: &Name) -> Result<(), ResolveError>
+pub fn check_names<'a>(alloc: Global, names: &'a [Name], from: &'a Name) -> Result<(), ResolveError>
     ensures { Meets result (names_findings [] (map name_view names.now ++ name_view from.now ∷ [])) }
 {
     let mut earlier = EarlierNames::new(alloc);
     for name in names {
-        add_name(alloc, &mut earlier, &name.text, name.span)?;
+        add_name(&mut earlier, &name.text, name.span)?;
     }
-    add_name(alloc, &mut earlier, &from.text, from.span)
+    add_name(&mut earlier, &from.text, from.span)
 }

@@ -13,7 +13,7 @@ use pat_resolver_tables::ScopeTable;
 use pat_sequences::Sequence;
 use pat_syntax::Span;
 use pat_tree::Name;
-use std::alloc::{AllocError, Global};
+use std::alloc::AllocError;
 
 /// The variables of a function so far: their kinds, and the places of their names.
 #[derive(Drop)]
@@ -23,11 +23,10 @@ pub struct Variables {
 }
 
 /// Adds a variable, and brings it into scope.
-pub fn bind(
-    alloc: Global,
-    scope: &mut ScopeTable,
+pub fn bind<'a>(
+    scope: &mut ScopeTable<'a>,
     variables: &mut Variables,
-    name: &Name,
+    name: &'a Name,
     kind: Kind,
 ) -> Result<(), AllocError>
     requires { length variables.old.kinds < 4294967296 }
@@ -35,17 +34,16 @@ pub fn bind(
     ensures kinds { OnOk result (variables.new.kinds ≡ variables.old.kinds ++ kind ∷ []) }
     ensures spans { OnOk result (variables.new.spans ≡ variables.old.spans ++ name.now.span ∷ []) }
 {
-    scope.push(alloc, &name.text, variables.kinds.len() as u32, kind)?;
+    scope.push(&name.text, variables.kinds.len() as u32, kind)?;
     variables.kinds.push(kind)?;
     variables.spans.push(name.span)
 }
 
 /// Adds the variables of names in a row, one for each written type, and brings them into scope.
-pub fn bind_names(
-    alloc: Global,
-    scope: &mut ScopeTable,
+pub fn bind_names<'a>(
+    scope: &mut ScopeTable<'a>,
     variables: &mut Variables,
-    names: &[Name],
+    names: &'a [Name],
     sorts: &[Sort],
 ) -> Result<(), AllocError>
     requires same { length names.now ≡ length sorts.now }
@@ -58,7 +56,7 @@ pub fn bind_names(
     ensures count { OnOk result (length variables.new.kinds ≡ length variables.old.kinds + length names.now) }
 {
     for (place, name) in names.iter().enumerate() {
-        bind(alloc, scope, variables, name, kind_of_sort(&sorts[place]))?;
+        bind(scope, variables, name, kind_of_sort(&sorts[place]))?;
     }
     Ok(())
 }

@@ -21,9 +21,9 @@ use Rattle.pat_resolver_heads.proofs.Tags.{own_names, same_names}
 
 -- ---- names of interfaces
 
-table_names : (ts : List InterfaceTable) → map (λ t. t.name) ts ≡ map (λ i. i.name) (map table_view ts)
+table_names : (ts : List InterfaceTable) → map (λ t. t.name.now) ts ≡ map (λ i. i.name) (map table_view ts)
 table_names [] = refl
-table_names (t ∷ ts) = ap (λ xs. t.name ∷ xs) (table_names ts)
+table_names (t ∷ ts) = ap (λ xs. t.name.now ∷ xs) (table_names ts)
 
 seen_names : (is : List Interface) → map (λ i. i.name) is ≡ map (λ i. i.name) (map interface_view is)
 seen_names [] = refl
@@ -34,7 +34,7 @@ numbered_names names [] = refl
 numbered_names names (tree.InterfaceDecl x ms ∷ t) = ap (λ xs. x.text ∷ xs) (numbered_names names t)
 numbered_names names (tree.DefDecl x ps r m ∷ t) = numbered_names names t
 
-pub names_tied : (ts : List InterfaceTable) (is : List Interface) (names : List InterfaceNames) (t : tree.Tree) → map table_view ts ≡ interface_names t → map interface_view is ≡ interfaces_of names t → map (λ t. t.name) ts ≡ map (λ i. i.name) is
+pub names_tied : (ts : List InterfaceTable) (is : List Interface) (names : List InterfaceNames) (t : tree.Tree) → map table_view ts ≡ interface_names t → map interface_view is ≡ interfaces_of names t → map (λ t. t.name.now) ts ≡ map (λ i. i.name) is
 names_tied ts is names t tables numbers =
     table_names ts ∙ ap (map (λ (i : InterfaceNames). i.name)) tables ∙ sym (numbered_names names t) ∙ ap (map (λ (i : seen.Interface). i.name)) (sym numbers) ∙ sym (seen_names is)
 
@@ -72,7 +72,7 @@ tags_tied ts is names t tables numbers =
 -- ---- signatures
 
 pub signature_made : (ss : List Signature) (s : Signature) (new : List Signature) (names : List InterfaceNames) (d : Decl) (x : Name) (ps : List Param) (r : TreeType) (m : Term)
-    → d ≡ decl.Def x ps r m → new ≡ ss ++ s ∷ [] → s.name ≡ x.text → map sort_view s.params ≡ map (λ p. sort_of names p.type) (map param_view ps) → sort_view s.result ≡ sort_of names (type_view r)
+    → d ≡ decl.Def x ps r m → new ≡ ss ++ s ∷ [] → s.name.now ≡ x.text → map sort_view s.params ≡ map (λ p. sort_of names p.type) (map param_view ps) → sort_view s.result ≡ sort_of names (type_view r)
     → map signature_view new ≡ map signature_view ss ++ map (signature_of names) (definitions_of (decl_view d ∷ []))
 signature_made ss s new names d x ps r m is grows name params result =
     let ss2 = map signature_view ss in

@@ -5,7 +5,7 @@ use Rattle.pat_resolver_heads.specs.declared.names.InterfaceTable.{InterfaceTabl
 use Rattle.pat_resolver_heads.specs.declared.names.Names.{Names}
 
 abbrev pub table_view : InterfaceTable → InterfaceNames
-table_view t = record { name = t.name; tags = t.tags }
+table_view t = record { name = t.name.now; tags = t.tags }
 
 abbrev pub names_view : Names → List InterfaceNames
 names_view n = map table_view n.interfaces

@@ -5,4 +5,4 @@ use Rattle.pat_names.specs.Heads as names
 use Rattle.pat_resolver_heads.specs.declared.heads.Signature.{Signature}
 
 abbrev pub signature_view : Signature → names.Signature
-signature_view s = record { name = s.name; params = map sort_view s.params; result = sort_view s.result }
+signature_view s = record { name = s.name.now; params = map sort_view s.params; result = sort_view s.result }

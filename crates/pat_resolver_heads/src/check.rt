@@ -32,12 +32,12 @@ pub fn check_heads(alloc: Global, names: &Names, decls: &[Decl]) -> Result<(), R
 }
 
 /// Examines the head of a declaration, behind interfaces and functions of the earlier names.
-fn check_decl(
+fn check_decl<'a>(
     alloc: Global,
     names: &Names,
-    interfaces: &mut EarlierNames,
-    functions: &mut EarlierNames,
-    decl: &Decl,
+    interfaces: &mut EarlierNames<'a>,
+    functions: &mut EarlierNames<'a>,
+    decl: &'a Decl,
 ) -> Result<(), ResolveError>
     ensures found { Meets result (decl_findings (names_view names.now) interfaces.old functions.old (decl_view decl.now)) }
     ensures interfaces { OnOk result (interfaces.new ≡ interfaces_with (decl_view decl.now) interfaces.old) }
@@ -45,7 +45,7 @@ fn check_decl(
 {
     match decl {
         Decl::Interface { name, messages } => {
-            check_new(alloc, interfaces, name)?;
+            check_new(interfaces, name)?;
             check_messages(alloc, names, messages.as_slice())
         }
         Decl::Def {
@@ -54,7 +54,7 @@ fn check_decl(
             result,
             ..
         } => {
-            check_new(alloc, functions, name)?;
+            check_new(functions, name)?;
             check_params(alloc, names, params.as_slice())?;
             check_type(names, result)
         }
@@ -62,11 +62,11 @@ fn check_decl(
 }
 
 /// Refuses a name that is one of the earlier ones, and otherwise puts it behind them.
-fn check_new(alloc: Global, earlier: &mut EarlierNames, name: &Name) -> Result<(), ResolveError>
+fn check_new<'a>(earlier: &mut EarlierNames<'a>, name: &'a Name) -> Result<(), ResolveError>
     ensures found { Meets result (repeated earlier.old (name_view name.now)) }
     ensures grown { OnOk result (earlier.new ≡ name.now.text ∷ earlier.old) }
 {
-    if earlier.add(alloc, &name.text)? {
+    if earlier.add(&name.text)? {
         Ok(())
     } else {
         Err(ResolveError::Broken {
@@ -86,23 +86,22 @@ fn check_messages(
 {
     let mut earlier = EarlierNames::new(alloc);
     for message in messages {
-        check_message(alloc, names, &mut earlier, message)?;
+        check_message(names, &mut earlier, message)?;
     }
     Ok(())
 }
 
 /// Examines a message, behind those of the earlier names.
-fn check_message(
-    alloc: Global,
+fn check_message<'a>(
     names: &Names,
-    earlier: &mut EarlierNames,
-    message: &TreeMessage,
+    earlier: &mut EarlierNames<'a>,
+    message: &'a TreeMessage,
 ) -> Result<(), ResolveError>
     ensures found { Meets result (message_findings (names_view names.now) earlier.old (message_view message.now)) }
     ensures grown { OnOk result (earlier.new ≡ message.now.name.text ∷ earlier.old) }
 {
     let count = earlier.len();
-    check_new(alloc, earlier, &message.name)?;
+    check_new(earlier, &message.name)?;
     if count == 32 {
         return Err(ResolveError::Broken {
             kind: ResolveKind::TooManyTags,
@@ -128,22 +127,21 @@ fn check_params(alloc: Global, names: &Names, params: &[Param]) -> Result<(), Re
 {
     let mut earlier = EarlierNames::new(alloc);
     for param in params {
-        check_param(alloc, names, &mut earlier, param)?;
+        check_param(names, &mut earlier, param)?;
     }
     Ok(())
 }
 
 /// Examines a parameter, behind those of the earlier names.
-fn check_param(
-    alloc: Global,
+fn check_param<'a>(
     names: &Names,
-    earlier: &mut EarlierNames,
-    param: &Param,
+    earlier: &mut EarlierNames<'a>,
+    param: &'a Param,
 ) -> Result<(), ResolveError>
     ensures found { Meets result (param_findings (names_view names.now) earlier.old (param_view param.now)) }
     ensures grown { OnOk result (earlier.new ≡ param.now.name.text ∷ earlier.old) }
 {
-    check_new(alloc, earlier, &param.name)?;
+    check_new(earlier, &param.name)?;
     check_type(names, &param.of)
 }
 

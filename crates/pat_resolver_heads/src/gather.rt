@@ -11,7 +11,7 @@ use pat_tree::{Decl, Name, TreeMessage};
 use std::alloc::{AllocError, Global};
 
 /// The interfaces that are declared, in order, with the names of their tags.
-pub fn gather_names(alloc: Global, decls: &[Decl]) -> Result<Names, AllocError>
+pub fn gather_names<'a>(alloc: Global, decls: &'a [Decl]) -> Result<Names<'a>, AllocError>
     requires { length decls.now < 2 ^ 32 }
     ensures { IfOk result (λ n. names_view n ≡ interface_names (map decl_view decls.now)) }
 {
@@ -24,20 +24,20 @@ pub fn gather_names(alloc: Global, decls: &[Decl]) -> Result<Names, AllocError>
 }
 
 /// Puts the interface that a declaration declares, if it does, behind the others.
-fn gather_decl(
+fn gather_decl<'a>(
     alloc: Global,
-    table: &mut NameTable,
-    interfaces: &mut Sequence<InterfaceTable>,
-    decl: &Decl,
+    table: &mut NameTable<'a>,
+    interfaces: &mut Sequence<InterfaceTable<'a>>,
+    decl: &'a Decl,
 ) -> Result<(), AllocError>
-    ensures tied { OnOk result (table.old ≡ map (λ i. i.name) interfaces.old → table.new ≡ map (λ i. i.name) interfaces.new) }
+    ensures tied { OnOk result (table.old ≡ map (λ i. i.name.now) interfaces.old → table.new ≡ map (λ i. i.name.now) interfaces.new) }
     ensures few { OnOk result (length interfaces.new ≤ length interfaces.old + 1) }
     ensures all { OnOk result (map table_view interfaces.new ≡ map table_view interfaces.old ++ interface_names (decl_view decl.now ∷ [])) }
 {
     match decl {
         Decl::Interface { name, messages } => {
             let own = table_of(alloc, name, messages.as_slice())?;
-            table.push(alloc, &name.text)?;
+            table.push(&name.text)?;
             interfaces.push(own)
         }
         Decl::Def { .. } => Ok(()),
@@ -45,18 +45,20 @@ fn gather_decl(
 }
 
 /// The name of an interface and those of its tags.
-fn table_of(
+fn table_of<'a>(
     alloc: Global,
-    name: &Name,
-    messages: &[TreeMessage],
-) -> Result<InterfaceTable, AllocError>
-    ensures name { IfOk result (λ t. t.name ≡ name.now.text) }
+    name: &'a Name,
+    messages: &'a [TreeMessage],
+) -> Result<InterfaceTable<'a>, AllocError>
+    ensures name { IfOk result (λ t. t.name.now ≡ name.now.text) }
     ensures tags { IfOk result (λ t. t.tags ≡ map (λ m. m.name.text) (map message_view messages.now)) }
 {
     let mut tags = NameTable::new(alloc);
     for message in messages {
-        tags.push(alloc, &message.name.text)?;
+        tags.push(&message.name.text)?;
     }
-    let name = name.text.copy(alloc)?;
-    Ok(InterfaceTable { name, tags })
+    Ok(InterfaceTable {
+        name: &name.text,
+        tags,
+    })
 }

@@ -13,30 +13,30 @@ use std::alloc::{AllocError, Global};
 
 /// What is called: a function's name, and the types of its parameters and of its result.
 #[derive(Drop)]
-pub struct Signature {
-    pub name: Text,
+pub struct Signature<'a> {
+    pub name: &'a Text,
     pub params: Sequence<Sort>,
     pub result: Sort,
 }
 
 /// The heads of a tree's declarations, each list in the order of the text, and found by name.
 #[derive(Drop)]
-pub struct Heads {
+pub struct Heads<'a> {
     pub interfaces: Sequence<Interface>,
-    pub signatures: Sequence<Signature>,
-    pub names: Names,
-    pub functions: NameTable,
+    pub signatures: Sequence<Signature<'a>>,
+    pub names: Names<'a>,
+    pub functions: NameTable<'a>,
     /// No names: the tags of a number that no interface has.
-    pub no_tags: NameTable,
-    ghost named: { map (λ t. t.name) names.interfaces ≡ map (λ i. i.name) interfaces },
+    pub no_tags: NameTable<'a>,
+    ghost named: { map (λ t. t.name.now) names.interfaces ≡ map (λ i. i.name) interfaces },
     ghost tagged: { map (λ t. t.tags) names.interfaces ≡ map (λ i. map (λ t. t.name) i.tags) interfaces },
-    ghost called: { functions ≡ map (λ s. s.name) signatures },
+    ghost called: { functions ≡ map (λ s. s.name.now) signatures },
     ghost none: { no_tags ≡ [] },
     ghost few: { length signatures < 2 ^ 32 },
     ghost few_tags: { All (λ t. length t.tags ≤ 32) names.interfaces },
 }
 
-impl Heads {
+impl<'a> Heads<'a> {
     ghost use Rattle.std.specs.Prelude.{option_map, IfOk};
     ghost use Rattle.pat_names.specs.Heads.{function_named, tag_named, tag_names, pattern_of};
     ghost use Rattle.pat_names.specs.Findings.{interface_called, pattern_findings};
@@ -57,7 +57,7 @@ impl Heads {
     }
 
     /// The function of a name, with its number.
-    pub fn function_named(&self, name: &Text) -> Option<(u32, &Signature)>
+    pub fn function_named(&self, name: &Text) -> Option<(u32, &Signature<'a>)>
         ensures { option_map (λ f. (f.0, signature_view f.1.now)) result ≡ function_named (heads_view self.now) name.now }
     {
         match self.functions.find(name) {
@@ -80,7 +80,7 @@ impl Heads {
     }
 
     /// The names of an interface's tags. There is none where the interface isn't there.
-    fn tags_of(&self, interface: u32) -> &NameTable
+    fn tags_of(&self, interface: u32) -> &NameTable<'a>
         ensures names { result.now ≡ tag_names (heads_view self.now) interface }
         ensures few { length result.now ≤ 32 }
         ensures there { 0 < length result.now → interface < length self.now.interfaces }

@@ -6,27 +6,27 @@ use pat_sequences::{Sequence, Text};
 
 /// The name of an interface, and those of its tags in order.
 #[derive(Drop)]
-pub struct InterfaceTable {
-    pub name: Text,
-    pub tags: NameTable,
+pub struct InterfaceTable<'a> {
+    pub name: &'a Text,
+    pub tags: NameTable<'a>,
 }
 
 /// The interfaces of a tree in order, found by name.
 #[derive(Drop)]
-pub struct Names {
-    pub interfaces: Sequence<InterfaceTable>,
-    pub table: NameTable,
-    ghost tied: { table ≡ map (λ i. i.name) interfaces },
+pub struct Names<'a> {
+    pub interfaces: Sequence<InterfaceTable<'a>>,
+    pub table: NameTable<'a>,
+    ghost tied: { table ≡ map (λ i. i.name.now) interfaces },
     ghost few: { length interfaces < 2 ^ 32 },
 }
 
-impl Names {
+impl<'a> Names<'a> {
     ghost use Rattle.std.specs.Prelude.{option_map, slice_get, IfSome, Some};
     ghost use Rattle.pat_names.specs.Heads.{interface_named};
     ghost use Rattle.pat_resolver_heads.specs.Names.{names_view, table_view};
 
     /// The interface of a name, with its number.
-    pub fn find(&self, name: &Text) -> Option<(u32, &InterfaceTable)>
+    pub fn find(&self, name: &Text) -> Option<(u32, &InterfaceTable<'a>)>
         ensures there { IfSome result (λ f. slice_get self.now.interfaces f.0 ≡ Some f.1.now) }
         ensures found { option_map (λ f. (f.0, table_view f.1.now)) result ≡ interface_named (names_view self.now) name.now }
     {

@@ -78,11 +78,11 @@ fn number_tags(
 }
 
 /// The functions that are declared, in order.
-pub fn number_signatures(
+pub fn number_signatures<'a>(
     alloc: Global,
     names: &Names,
-    decls: &[Decl],
-) -> Result<Sequence<Signature>, AllocError>
+    decls: &'a [Decl],
+) -> Result<Sequence<Signature<'a>>, AllocError>
     requires { All (λ t. length t.tags ≤ 32) names.now.interfaces }
     ensures numbers { IfOk result (λ ss. map signature_view ss ≡ map (signature_of (names_view names.now)) (definitions_of (map decl_view decls.now))) }
     ensures params { IfOk result (λ ss. map param_places ss ≡ map written_params (definitions_of (map decl_view decls.now))) }
@@ -97,11 +97,11 @@ pub fn number_signatures(
 }
 
 /// Puts the function that a declaration declares, if it does, behind the others.
-fn number_signature(
+fn number_signature<'a>(
     alloc: Global,
     names: &Names,
-    decl: &Decl,
-    signatures: &mut Sequence<Signature>,
+    decl: &'a Decl,
+    signatures: &mut Sequence<Signature<'a>>,
 ) -> Result<(), AllocError>
     requires { All (λ t. length t.tags ≤ 32) names.now.interfaces }
     ensures numbers { OnOk result (map signature_view signatures.new ≡ map signature_view signatures.old ++ map (signature_of (names_view names.now)) (definitions_of (decl_view decl.now ∷ []))) }
@@ -117,11 +117,10 @@ fn number_signature(
             result,
             ..
         } => {
-            let name = name.text.copy(alloc)?;
             let params = number_params(alloc, names, params.as_slice())?;
             let result = number_type(alloc, names, result)?;
             signatures.push(Signature {
-                name,
+                name: &name.text,
                 params,
                 result,
             })?;

@@ -21,7 +21,7 @@ use pat_tree::{Decl, Tree};
 use std::alloc::{AllocError, Global};
 
 /// Examines the heads of a tree's declarations in order, and numbers them.
-pub fn read_heads(alloc: Global, tree: &Tree) -> Result<Heads, ResolveError>
+pub fn read_heads<'a>(alloc: Global, tree: &'a Tree) -> Result<Heads<'a>, ResolveError>
     requires { tree_size (tree_view tree.now) < 2 ^ 32 }
     ensures found { Meets result (heads_findings (interface_names (tree_view tree.now)) [] [] (tree_view tree.now)) }
     ensures names { IfOk result (λ h. names_view h.names ≡ interface_names (tree_view tree.now)) }
@@ -38,7 +38,11 @@ pub fn read_heads(alloc: Global, tree: &Tree) -> Result<Heads, ResolveError>
 }
 
 /// Numbers the heads of declarations of which no interface has more than 32 tags.
-fn number_heads(alloc: Global, names: Names, decls: &[Decl]) -> Result<Heads, AllocError>
+fn number_heads<'a>(
+    alloc: Global,
+    names: Names<'a>,
+    decls: &'a [Decl],
+) -> Result<Heads<'a>, AllocError>
     requires named { names_view names ≡ interface_names (map decl_view decls.now) }
     requires few { length decls.now < 2 ^ 32 }
     requires few_tags { All (λ t. length t.tags ≤ 32) names.interfaces }
@@ -61,12 +65,15 @@ fn number_heads(alloc: Global, names: Names, decls: &[Decl]) -> Result<Heads, Al
 }
 
 /// The names of functions, in order.
-fn table_of_functions(alloc: Global, signatures: &[Signature]) -> Result<NameTable, AllocError>
-    ensures { IfOk result (λ t. t ≡ map (λ s. s.name) signatures.now) }
+fn table_of_functions<'a>(
+    alloc: Global,
+    signatures: &[Signature<'a>],
+) -> Result<NameTable<'a>, AllocError>
+    ensures { IfOk result (λ t. t ≡ map (λ s. s.name.now) signatures.now) }
 {
     let mut functions = NameTable::new(alloc);
     for signature in signatures {
-        functions.push(alloc, &signature.name)?;
+        functions.push(signature.name)?;
     }
     Ok(functions)
 }

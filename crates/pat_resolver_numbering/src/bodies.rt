@@ -16,7 +16,7 @@ use pat_sequences::Sequence;
 use pat_tree::Term;
 use std::alloc::{AllocError, Global};
 
-impl Numbering {
+impl<'a> Numbering<'a> {
     /// No node, no variable in scope, and the first variable to come has the number 0. It takes no memory.
     pub fn new(alloc: Global) -> Self
         ensures { result ≡ record { nodes = []; scope = []; next = 0 } }
@@ -36,7 +36,7 @@ impl Numbering {
         alloc: Global,
         context: &Context,
         kind: Kind,
-        body: &Term,
+        body: &'a Term,
     ) -> Result<(), AllocError>
         requires room { length self.old.nodes + nodes_in (term_view body.now) < 4294967296 }
         requires names { self.old.next + binders_in (term_view body.now) < 4294967296 }

@@ -22,7 +22,7 @@ pub struct Bodies {
     pub receives: Sequence<Clause>,
 }
 
-impl Numbering {
+impl<'a> Numbering<'a> {
     #[cycle(numbering)]
     pub(crate) fn number_guard(
         &mut self,
@@ -30,7 +30,7 @@ impl Numbering {
         context: &Context,
         spot: Spot,
         name: &Name,
-        clauses: &Vec<TreeClause>,
+        clauses: &'a Vec<TreeClause>,
         pattern: &TreePattern,
     ) -> Result<(), AllocError>
         requires { TermFits context.now self.old (GuardTerm (name_view name.now) (pattern_view pattern.now) (listed (map clause_view clauses.now.items)) (span_view spot.span)) }
@@ -59,7 +59,7 @@ impl Numbering {
         context: &Context,
         kind: Kind,
         interface: u32,
-        clauses: &[TreeClause],
+        clauses: &'a [TreeClause],
     ) -> Result<Bodies, AllocError>
         requires { ClausesFit context.now interface self.old (listed (map clause_view clauses.now)) }
         ensures added { IfOk result (λ b. AddsClauses context.now interface (kind_view kind) (listed (map clause_view clauses.now)) self.old self.new) }
@@ -83,7 +83,7 @@ impl Numbering {
         context: &Context,
         kind: Kind,
         interface: u32,
-        clause: &TreeClause,
+        clause: &'a TreeClause,
         bodies: &mut Bodies,
     ) -> Result<(), AllocError>
         requires { ClausesFit context.now interface self.old (with_clause (clause_view clause.now) no_clauses) }
@@ -121,9 +121,9 @@ impl Numbering {
         kind: Kind,
         interface: u32,
         tag: &Name,
-        names: &Sequence<Name>,
-        from: &Name,
-        body: &Term,
+        names: &'a Sequence<Name>,
+        from: &'a Name,
+        body: &'a Term,
     ) -> Result<Clause, AllocError>
         requires { ReceiveFits context.now interface self.old (name_view tag.now) (map name_view names.now) (name_view from.now) (term_view body.now) }
         ensures added { IfOk result (λ r. AddsReceive context.now interface (kind_view kind) (name_view tag.now) (map name_view names.now) (name_view from.now) (term_view body.now) self.old self.new) }
@@ -133,8 +133,7 @@ impl Numbering {
         let tag = tag_number(context.heads, interface, &tag.text);
         let vars = self.bind_names(alloc, context, names)?;
         let own = self.next;
-        self.scope
-            .push(alloc, &from.text, own, Kind::Mailbox(interface))?;
+        self.scope.push(&from.text, own, Kind::Mailbox(interface))?;
         self.next += 1;
         let first = self.nodes.len() as u32;
         self.number_term(alloc, context, kind, body)?;
@@ -153,7 +152,7 @@ impl Numbering {
         &mut self,
         alloc: Global,
         context: &Context,
-        names: &Sequence<Name>,
+        names: &'a Sequence<Name>,
     ) -> Result<Sequence<u32>, AllocError>
         requires kinds { self.old.next + length names.now ≤ length context.now.kinds.now }
         requires room { self.old.next + length names.now < 4294967296 }
@@ -167,7 +166,7 @@ impl Numbering {
         for name in names.as_slice() {
             let own = self.next;
             self.scope
-                .push(alloc, &name.text, own, context.kinds[own as usize])?;
+                .push(&name.text, own, context.kinds[own as usize])?;
             numbers.push(own)?;
             self.next += 1;
         }

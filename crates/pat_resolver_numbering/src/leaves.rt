@@ -16,7 +16,7 @@ use pat_sequences::Sequence;
 use pat_tree::{Name, TreeExpr};
 use std::alloc::{AllocError, Global};
 
-impl Numbering {
+impl<'a> Numbering<'a> {
     pub(crate) fn number_value(
         &mut self,
         alloc: Global,

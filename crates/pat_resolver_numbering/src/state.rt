@@ -17,16 +17,16 @@ use std::alloc::AllocError;
 /// The function whose body is numbered: its number, and the kinds of its variables by number.
 #[derive(Drop)]
 pub struct Context<'a> {
-    pub heads: &'a Heads,
+    pub heads: &'a Heads<'a>,
     pub function: u32,
     pub kinds: &'a [Kind],
 }
 
 /// The nodes so far, the variables in scope, and the number of the next variable.
 #[derive(Drop)]
-pub struct Numbering {
+pub struct Numbering<'a> {
     pub nodes: Sequence<Node>,
-    pub scope: ScopeTable,
+    pub scope: ScopeTable<'a>,
     pub next: u32,
 }
 
@@ -37,7 +37,7 @@ pub struct Spot {
     pub span: Span,
 }
 
-impl Numbering {
+impl<'a> Numbering<'a> {
     /// Appends a node without parts.
     pub(crate) fn append(
         &mut self,

@@ -12,7 +12,7 @@ use pat_core::{Core, Kind};
 use pat_tree::{Form, Name, Term, TreeExpr};
 use std::alloc::{AllocError, Global};
 
-impl Numbering {
+impl<'a> Numbering<'a> {
     /// The nodes of a term, which may be a long chain of lets and sequences. At its end its names are out of scope.
     #[cycle(numbering)]
     pub(crate) fn number_term(
@@ -20,7 +20,7 @@ impl Numbering {
         alloc: Global,
         context: &Context,
         kind: Kind,
-        term: &Term,
+        term: &'a Term,
     ) -> Result<(), AllocError>
         requires { TermFits context.now self.old (term_view term.now) }
         ensures { OnOk result (AddsTerm context.now (kind_view kind) (term_view term.now) self.old self.new) }
@@ -48,8 +48,8 @@ impl Numbering {
         alloc: Global,
         context: &Context,
         spot: Spot,
-        name: &Option<Name>,
-        bound: &Term,
+        name: &'a Option<Name>,
+        bound: &'a Term,
     ) -> Result<(), AllocError>
         requires { LetFits context.now self.old (option_map name_view name.now) (term_view bound.now) }
         ensures { OnOk result (AddsLet context.now (kind_view spot.kind) (span_view spot.span) (option_map name_view name.now) (term_view bound.now) self.old self.new) }
@@ -67,7 +67,7 @@ impl Numbering {
         alloc: Global,
         context: &Context,
         spot: Spot,
-        bound: &Term,
+        bound: &'a Term,
     ) -> Result<(), AllocError>
         requires { LetFits context.now self.old None (term_view bound.now) }
         ensures { OnOk result (AddsLet context.now (kind_view spot.kind) (span_view spot.span) None (term_view bound.now) self.old self.new) }
@@ -91,8 +91,8 @@ impl Numbering {
         alloc: Global,
         context: &Context,
         spot: Spot,
-        name: &Name,
-        bound: &Term,
+        name: &'a Name,
+        bound: &'a Term,
     ) -> Result<(), AllocError>
         requires { LetFits context.now self.old (Some (name_view name.now)) (term_view bound.now) }
         ensures { OnOk result (AddsLet context.now (kind_view spot.kind) (span_view spot.span) (Some (name_view name.now)) (term_view bound.now) self.old self.new) }
@@ -109,7 +109,7 @@ impl Numbering {
             body: self.nodes.len() as u32,
         };
         self.fill(context, spot, place, core);
-        self.scope.push(alloc, &name.text, own, kind)
+        self.scope.push(&name.text, own, kind)
     }
 
     /// A term that is no let.
@@ -119,7 +119,7 @@ impl Numbering {
         alloc: Global,
         context: &Context,
         kind: Kind,
-        term: &Term,
+        term: &'a Term,
     ) -> Result<(), AllocError>
         requires fits { TermFits context.now self.old (term_view term.now) }
         requires last { IsLast (term_view term.now) }
@@ -162,7 +162,7 @@ impl Numbering {
         alloc: Global,
         context: &Context,
         spot: Spot,
-        body: &Term,
+        body: &'a Term,
     ) -> Result<(), AllocError>
         requires { TermFits context.now self.old (SpawnTerm (term_view body.now) (span_view spot.span)) }
         ensures { OnOk result (AddsTerm context.now (kind_view spot.kind) (SpawnTerm (term_view body.now) (span_view spot.span)) self.old self.new) }

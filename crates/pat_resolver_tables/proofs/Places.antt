@@ -1,5 +1,6 @@
 -- First places of names, in a list and in a table.
-use Rattle.std.proofs.Common.{◌≡◌, ℕ, zero, suc, ◌<◌, Bool, true, false, cond, List, [], ◌∷◌, ◌++◌, length, Option, Some, None, option_map, refl, ap, sym, ◌∙◌, arith, Vec, Global}
+use Rattle.std.proofs.Common.{◌≡◌, ℕ, zero, suc, ◌<◌, Bool, true, false, cond, List, [], ◌∷◌, ◌++◌, length, Option, Some, None, option_map, refl, ap, sym, ◌∙◌, arith}
+use Rattle.std.specs.Borrow.{Bor}
 use Rattle.std.specs.Prelude.{bytes_eq, is_some, IfSome}
 use Rattle.std.proofs.lemmas.Slice.Eq.{bytes_eq-Decides}
 use Rattle.std.proofs.lemmas.Bool.Decides.{same_from_decides}
@@ -21,15 +22,15 @@ own_first true i o p q e = refl
 own_first false i o p q e = e
 
 -- a key that isn't there yet
-inserted : (x : List ℕ) (es : List (Vec ℕ Global × ℕ)) (key : Vec ℕ Global) (v : ℕ) → known_place key.items es ≡ None → known_place x (insert_entry same_key es key v) ≡ or_else (known_place x es) (cond (bytes_eq x key.items) (Some v) None)
+inserted : (x : List ℕ) (es : List (Bor (List ℕ) × ℕ)) (key : Bor (List ℕ)) (v : ℕ) → known_place key.now es ≡ None → known_place x (insert_entry same_key es key v) ≡ or_else (known_place x es) (cond (bytes_eq x key.now) (Some v) None)
 inserted x [] key v h = refl
-inserted x (e ∷ es) key v h = go (bytes_eq key.items e.0.items) h (inserted x es key v)
+inserted x (e ∷ es) key v h = go (bytes_eq key.now e.0.now) h (inserted x es key v)
   where
-    go : (t : Bool) → cond t (Some e.1) (known_place key.items es) ≡ None
-        → (known_place key.items es ≡ None → known_place x (insert_entry same_key es key v) ≡ or_else (known_place x es) (cond (bytes_eq x key.items) (Some v) None))
-        → known_place x (cond t ((e.0, v) ∷ es) (e ∷ insert_entry same_key es key v)) ≡ or_else (cond (bytes_eq x e.0.items) (Some e.1) (known_place x es)) (cond (bytes_eq x key.items) (Some v) None)
+    go : (t : Bool) → cond t (Some e.1) (known_place key.now es) ≡ None
+        → (known_place key.now es ≡ None → known_place x (insert_entry same_key es key v) ≡ or_else (known_place x es) (cond (bytes_eq x key.now) (Some v) None))
+        → known_place x (cond t ((e.0, v) ∷ es) (e ∷ insert_entry same_key es key v)) ≡ or_else (cond (bytes_eq x e.0.now) (Some e.1) (known_place x es)) (cond (bytes_eq x key.now) (Some v) None)
     go true none deeper = cc
-    go false none deeper = own_first (bytes_eq x e.0.items) e.1 (known_place x (insert_entry same_key es key v)) (known_place x es) (cond (bytes_eq x key.items) (Some v) None) (deeper none)
+    go false none deeper = own_first (bytes_eq x e.0.now) e.1 (known_place x (insert_entry same_key es key v)) (known_place x es) (cond (bytes_eq x key.now) (Some v) None) (deeper none)
 
 -- ---- in a list
 
@@ -73,20 +74,20 @@ pub eq_sym : (xs ys : List ℕ) → bytes_eq xs ys ≡ bytes_eq ys xs
 eq_sym xs ys = let d = bytes_eq-Decides ys xs in same_from_decides (bytes_eq xs ys) (bytes_eq ys xs) (bytes_eq-Decides xs ys) (λ h. sym (d.0 h), λ h. d.1 (sym h))
 
 -- one more name, which wasn't there
-pub pushed_new : (x y : List ℕ) (names new : List (List ℕ)) (es fs : List (Vec ℕ Global × ℕ)) (key : Vec ℕ Global) (v : ℕ)
-    → ((z : List ℕ) → known_place z es ≡ place_of z names) → known_place y es ≡ None → key.items ≡ y → v ≡ length names
+pub pushed_new : (x y : List ℕ) (names new : List (List ℕ)) (es fs : List (Bor (List ℕ) × ℕ)) (key : Bor (List ℕ)) (v : ℕ)
+    → ((z : List ℕ) → known_place z es ≡ place_of z names) → known_place y es ≡ None → key.now ≡ y → v ≡ length names
     → fs ≡ insert_entry same_key es key v → new ≡ names ++ y ∷ [] → known_place x fs ≡ place_of x new
 pushed_new x y names new es fs key v tied absent own last table list =
     ap (known_place x) table
     ∙ inserted x es key v (ap (λ (z : List ℕ). known_place z es) own ∙ absent)
-    ∙ ap (λ o. or_else o (cond (bytes_eq x key.items) (Some v) None)) (tied x)
+    ∙ ap (λ o. or_else o (cond (bytes_eq x key.now) (Some v) None)) (tied x)
     ∙ ap (λ (b : Bool). or_else (place_of x names) (cond b (Some v) None)) (ap (bytes_eq x) own ∙ eq_sym x y)
     ∙ ap (λ (n : ℕ). or_else (place_of x names) (cond (bytes_eq y x) (Some n) None)) last
     ∙ sym (place_pushed x names y)
     ∙ ap (place_of x) (sym list)
 
 -- one more name, which was there
-pushed_known : (x y : List ℕ) (names new : List (List ℕ)) (es : List (Vec ℕ Global × ℕ))
+pushed_known : (x y : List ℕ) (names new : List (List ℕ)) (es : List (Bor (List ℕ) × ℕ))
     → ((z : List ℕ) → known_place z es ≡ place_of z names) → true ≡ is_some (known_place y es) → new ≡ names ++ y ∷ [] → known_place x es ≡ place_of x new
 pushed_known x y names new es tied there list = tied x ∙ go (place_of x names) (bytes_eq y x) refl refl ∙ sym (place_pushed x names y) ∙ ap (place_of x) (sym list)
   where
@@ -99,8 +100,8 @@ pushed_known x y names new es tied there list = tied x ∙ go (place_of x names)
         let no : true ≡ false = there ∙ ap is_some none in cc
 
 -- what is known where a name that was there has its first place again
-known_again : (x y : List ℕ) (first v : ℕ) (es fs gs : Entries ℕ) (key : Vec ℕ Global)
-    → key.items ≡ y → Some first ≡ known_place y es → fs ≡ insert_entry same_key es key v → gs ≡ set_value (λ k. bytes_eq y k.items) fs first
+known_again : (x y : List ℕ) (first v : ℕ) (es fs gs : Entries ℕ) (key : Bor (List ℕ))
+    → key.now ≡ y → Some first ≡ known_place y es → fs ≡ insert_entry same_key es key v → gs ≡ set_value (λ k. bytes_eq y k.now) fs first
     → known_place x gs ≡ known_place x es
 known_again x y first v es fs gs key own before table back =
     ap (known_place x) back ∙ had_set x y fs first (there_inserted y es fs key v own table)
@@ -113,8 +114,8 @@ known_again x y first v es fs gs key own before table back =
     go true e = before ∙ ap (λ (n : List ℕ). known_place n es) (sym ((bytes_eq-Decides x y).0 e))
     go false e = refl
 
-pub pushed_again : (x y : List ℕ) (names new : List (List ℕ)) (first v : ℕ) (es fs gs : Entries ℕ) (key : Vec ℕ Global)
-    → ((z : List ℕ) → known_place z es ≡ place_of z names) → key.items ≡ y → Some first ≡ known_place y es → fs ≡ insert_entry same_key es key v
-    → gs ≡ set_value (λ k. bytes_eq y k.items) fs first → new ≡ names ++ y ∷ [] → known_place x gs ≡ place_of x new
+pub pushed_again : (x y : List ℕ) (names new : List (List ℕ)) (first v : ℕ) (es fs gs : Entries ℕ) (key : Bor (List ℕ))
+    → ((z : List ℕ) → known_place z es ≡ place_of z names) → key.now ≡ y → Some first ≡ known_place y es → fs ≡ insert_entry same_key es key v
+    → gs ≡ set_value (λ k. bytes_eq y k.now) fs first → new ≡ names ++ y ∷ [] → known_place x gs ≡ place_of x new
 pushed_again x y names new first v es fs gs key tied own before table back list =
     known_again x y first v es fs gs key own before table back ∙ pushed_known x y names new es tied (ap is_some before) list

@@ -1,5 +1,6 @@
 -- The innermost variable of each name, in the list of variables and in the table.
-use Rattle.std.proofs.Common.{◌≡◌, ℕ, zero, suc, ◌<◌, Bool, true, false, cond, List, [], ◌∷◌, ◌++◌, length, map, reverse, get_or, Option, Some, None, refl, ap, sym, ◌∙◌, arith, Vec, Global, subst}
+use Rattle.std.proofs.Common.{◌≡◌, ℕ, zero, suc, ◌<◌, Bool, true, false, cond, List, [], ◌∷◌, ◌++◌, length, map, reverse, get_or, Option, Some, None, refl, ap, sym, ◌∙◌, arith, subst}
+use Rattle.std.specs.Borrow.{Bor}
 use Rattle.std.specs.Prelude.{bytes_eq, is_some}
 use Rattle.std.specs.Map.{set_value}
 use Rattle.std.specs.Option.{option_flatten}
@@ -25,18 +26,18 @@ flat_tested false o p = refl
 -- ---- one more variable, and one less
 
 -- what an opened scope's table knows
-pub opened : (x y : List ℕ) (v : Variable) (vs : List Variable) (es fs : Keyed) (key : Vec ℕ Global)
-    → ((z : List ℕ) → known_top z es ≡ innermost z vs) → key.items ≡ y → v.name ≡ y → fs ≡ insert_entry same_key es key (Some (length vs))
+pub opened : (x y : List ℕ) (v : Variable) (vs : List Variable) (es fs : Keyed) (key : Bor (List ℕ))
+    → ((z : List ℕ) → known_top z es ≡ innermost z vs) → key.now ≡ y → v.name ≡ y → fs ≡ insert_entry same_key es key (Some (length vs))
     → known_top x fs ≡ innermost x (v ∷ vs)
 opened x y v vs es fs key tied own named table =
     ap (known_top x) table ∙ ap option_flatten (had_inserted x es key (Some (length vs)))
-    ∙ flat_tested (bytes_eq x key.items) (Some (length vs)) (had x es)
-    ∙ ap (cond (bytes_eq x key.items) (Some (length vs))) (tied x)
-    ∙ ap (λ (s : Bool). cond s (Some (length vs)) (innermost x vs)) (eq_sym x key.items ∙ ap (λ (n : List ℕ). bytes_eq n x) (own ∙ sym named))
+    ∙ flat_tested (bytes_eq x key.now) (Some (length vs)) (had x es)
+    ∙ ap (cond (bytes_eq x key.now) (Some (length vs))) (tied x)
+    ∙ ap (λ (s : Bool). cond s (Some (length vs)) (innermost x vs)) (eq_sym x key.now ∙ ap (λ (n : List ℕ). bytes_eq n x) (own ∙ sym named))
 
 -- what a closed scope's table knows
 pub closed : (x y : List ℕ) (v : Variable) (o q : Option ℕ) (vs : List Variable) (es fs : Keyed)
-    → ((z : List ℕ) → known_top z es ≡ innermost z (v ∷ vs)) → o ≡ innermost v.name vs → y ≡ v.name → Some q ≡ had y es → fs ≡ set_value (λ k. bytes_eq y k.items) es o
+    → ((z : List ℕ) → known_top z es ≡ innermost z (v ∷ vs)) → o ≡ innermost v.name vs → y ≡ v.name → Some q ≡ had y es → fs ≡ set_value (λ k. bytes_eq y k.now) es o
     → known_top x fs ≡ innermost x vs
 closed x y v o q vs es fs tied outside named there table =
     ap (known_top x) table ∙ ap option_flatten (had_set x y es o (sym (ap is_some there))) ∙ flat_tested (bytes_eq x y) o (had x es)
@@ -58,14 +59,14 @@ abbrev pub Fits : List Entry → Keyed → Type 0
 Fits entries es = ((x : List ℕ) → known_top x es ≡ innermost x (map (λ e. e.variable) entries)) × (map (λ e. e.shadowed) entries ≡ shadowed_in (map (λ e. e.variable) entries))
 
 pub popped : (entries rest : List Entry) (e : Entry) (y : List ℕ) (q : Option ℕ) (es fs : Keyed)
-    → Fits entries es → entries ≡ e ∷ rest → y ≡ e.variable.name → Some q ≡ had y es → fs ≡ set_value (λ k. bytes_eq y k.items) es e.shadowed → Fits rest fs
+    → Fits entries es → entries ≡ e ∷ rest → y ≡ e.variable.name → Some q ≡ had y es → fs ≡ set_value (λ k. bytes_eq y k.now) es e.shadowed → Fits rest fs
 popped entries rest e y q es fs fit split named there table =
     let P : List Entry → Type 0 = λ us. Fits us es in
     let f : Fits (e ∷ rest) es = subst P split fit in
     (λ x. closed x y e.variable e.shadowed q (map (λ e. e.variable) rest) es fs f.0 (first_shadowed e rest f.1) named there table, other_shadowed e rest f.1)
 
-pub pushed : (entries new : List Entry) (e : Entry) (key : Vec ℕ Global) (place : ℕ) (es fs : Keyed)
-    → Fits entries es → new ≡ e ∷ entries → key.items ≡ e.variable.name → place ≡ length entries → e.shadowed ≡ innermost e.variable.name (map (λ e. e.variable) entries)
+pub pushed : (entries new : List Entry) (e : Entry) (key : Bor (List ℕ)) (place : ℕ) (es fs : Keyed)
+    → Fits entries es → new ≡ e ∷ entries → key.now ≡ e.variable.name → place ≡ length entries → e.shadowed ≡ innermost e.variable.name (map (λ e. e.variable) entries)
     → fs ≡ insert_entry same_key es key (Some place) → Fits new fs
 pushed entries new e key place es fs fit grows named last outside table =
     let P : List Entry → Type 0 = λ us. Fits us fs in
@@ -77,14 +78,14 @@ pushed entries new e key place es fs fit grows named last outside table =
     subst P (sym grows) f
 
 -- what a table knows where the last name has its earlier place again
-restored_top : (x y : List ℕ) (o : Option ℕ) (v : ℕ) (es fs gs : Keyed) (key : Vec ℕ Global)
-    → key.items ≡ y → o ≡ known_top y es → fs ≡ insert_entry same_key es key (Some v) → gs ≡ set_value (λ k. bytes_eq y k.items) fs o
+restored_top : (x y : List ℕ) (o : Option ℕ) (v : ℕ) (es fs gs : Keyed) (key : Bor (List ℕ))
+    → key.now ≡ y → o ≡ known_top y es → fs ≡ insert_entry same_key es key (Some v) → gs ≡ set_value (λ k. bytes_eq y k.now) fs o
     → known_top x gs ≡ known_top x es
 restored_top x y o v es fs gs key own before table back =
     ap (known_top x) back ∙ ap option_flatten (had_set x y fs o (there_inserted y es fs key (Some v) own table))
     ∙ flat_tested (bytes_eq x y) o (had x fs)
     ∙ ap (λ (os : Option (Option ℕ)). cond (bytes_eq x y) o (option_flatten os)) (ap (had x) table ∙ had_inserted x es key (Some v))
-    ∙ ap (cond (bytes_eq x y) o) (flat_tested (bytes_eq x key.items) (Some v) (had x es))
+    ∙ ap (cond (bytes_eq x y) o) (flat_tested (bytes_eq x key.now) (Some v) (had x es))
     ∙ ap (λ (n : List ℕ). cond (bytes_eq x y) o (cond (bytes_eq x n) (Some v) (known_top x es))) own
     ∙ sym (twice_tested (bytes_eq x y) o (Some v) (known_top x es))
     ∙ go (bytes_eq x y) refl
@@ -93,8 +94,8 @@ restored_top x y o v es fs gs key own before table back =
     go true e = before ∙ ap (λ (n : List ℕ). known_top n es) (sym ((bytes_eq-Decides x y).0 e))
     go false e = refl
 
-pub restored : (entries same : List Entry) (y : List ℕ) (o : Option ℕ) (v : ℕ) (es fs gs : Keyed) (key : Vec ℕ Global)
-    → Fits entries es → same ≡ entries → key.items ≡ y → o ≡ known_top y es → fs ≡ insert_entry same_key es key (Some v) → gs ≡ set_value (λ k. bytes_eq y k.items) fs o
+pub restored : (entries same : List Entry) (y : List ℕ) (o : Option ℕ) (v : ℕ) (es fs gs : Keyed) (key : Bor (List ℕ))
+    → Fits entries es → same ≡ entries → key.now ≡ y → o ≡ known_top y es → fs ≡ insert_entry same_key es key (Some v) → gs ≡ set_value (λ k. bytes_eq y k.now) fs o
     → Fits same gs
 restored entries same y o v es fs gs key fit stays own before table back =
     let P : List Entry → Type 0 = λ us. Fits us gs in

@@ -1,7 +1,6 @@
 -- The innermost variable of a name, by its place from the outermost.
 use Rattle.std.specs.Prelude.{ℕ, List, [], ◌∷◌, length, Option, Some, None, if◌then◌else◌, bytes_eq}
-use Rattle.std.specs.declared.vec.Vec.{Vec}
-use Rattle.std.specs.declared.alloc.Global.{Global}
+use Rattle.std.specs.Borrow.{Bor}
 use Rattle.std.specs.Map.{lookup}
 use Rattle.std.specs.Option.{option_flatten}
 use Rattle.pat_resolver_tables.specs.declared.scope.Variable.{Variable}
@@ -17,5 +16,5 @@ shadowed_in [] = []
 shadowed_in (v ∷ vs) = innermost v.name vs ∷ shadowed_in vs
 
 -- what is known of the name: a table may know that there is none
-abbrev pub known_top : List ℕ → List (Vec ℕ Global × Option ℕ) → Option ℕ
-known_top x entries = option_flatten (lookup (λ k. bytes_eq x k.items) entries)
+abbrev pub known_top : List ℕ → List (Bor (List ℕ) × Option ℕ) → Option ℕ
+known_top x entries = option_flatten (lookup (λ k. bytes_eq x k.now) entries)

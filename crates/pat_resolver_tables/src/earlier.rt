@@ -1,5 +1,5 @@
 // The names before a place where no name may stand twice.
-ghost use Rattle.std.specs.Prelude.{◌≡◌, ◌∷◌, [], List, ℕ, length, map, reverse, not, IsTrue, IfOk, OnErr};
+ghost use Rattle.std.specs.Prelude.{◌≡◌, ◌∷◌, [], List, ℕ, length, map, reverse, not, IsTrue, IsFalse, IfOk, OnErr};
 ghost use Rattle.pat_names.specs.Scopes.{is_one_of};
 
 use indexmap::IndexSet;
@@ -7,19 +7,19 @@ use pat_sequences::Text;
 use std::alloc::{AllocError, Global};
 use std::marker::Model;
 
-/// Names that differ, the last first. To add one is one look-up in a hash table, which keeps the names themselves.
+/// Names that differ, the last first. To add one is one look-up in a hash table, which copies no name.
 #[derive(Drop)]
-pub struct EarlierNames {
-    names: IndexSet<Vec<u8>>,
+pub struct EarlierNames<'a> {
+    names: IndexSet<&'a [u8]>,
 }
 
-impl Model for EarlierNames {
+impl<'a> Model for EarlierNames<'a> {
     ghost Value = { List (List ℕ) };
 
-    ghost view = { λ t. reverse (map (λ k. k.items) t.names.keys) };
+    ghost view = { λ t. reverse (map (λ k. k.now) t.names.keys) };
 }
 
-impl EarlierNames {
+impl<'a> EarlierNames<'a> {
     /// No name. It takes no memory.
     pub fn new(alloc: Global) -> Self
         ensures { result ≡ [] }
@@ -36,14 +36,15 @@ impl EarlierNames {
         self.names.len()
     }
 
-    /// Puts a name behind the others, if it is none of them. Answers whether it is new. An error leaves the names as they were.
-    pub fn add(&mut self, alloc: Global, name: &Text) -> Result<bool, AllocError>
+    /// Puts a name behind the others, if it is none of them. Answers whether it is new. A name that is not new, or an error,
+    /// leaves the names as they were.
+    pub fn add(&mut self, name: &'a Text) -> Result<bool, AllocError>
         ensures new { IfOk result (λ b. b ≡ not (is_one_of name.now self.old)) }
         ensures added { IfOk result (λ b. IsTrue b → self.new ≡ name.now ∷ self.old) }
+        ensures repeated { IfOk result (λ b. IsFalse b → self.new ≡ self.old) }
         ensures kept { OnErr result (self.new ≡ self.old) }
     {
-        let own = Vec::from_slice(alloc, name.as_bytes())?;
-        let new = self.names.insert(own)?;
+        let new = self.names.insert(name.as_bytes())?;
         Ok(new)
     }
 }

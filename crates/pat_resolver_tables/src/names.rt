@@ -1,5 +1,5 @@
 // Names in order, found by their bytes.
-ghost use Rattle.std.specs.Prelude.{◌≡◌, ◌∷◌, ◌++◌, ◌<◌, [], List, ℕ, length, option_map, OnOk, OnErr, IfSome};
+ghost use Rattle.std.specs.Prelude.{◌≡◌, ◌∷◌, ◌++◌, ◌<◌, [], List, ℕ, length, map, option_map, OnOk, OnErr, IfSome};
 ghost use Rattle.pat_names.specs.Scopes.{first_named, itself};
 ghost use Rattle.pat_resolver_tables.specs.Places.{place_of, known_place};
 
@@ -9,22 +9,22 @@ use pat_sequences::{Sequence, Text};
 use std::alloc::{AllocError, Global};
 use std::marker::Model;
 
-/// Names in order. A name that stands more than once is found at its first place. A look-up is one of a hash table.
+/// Names in order. A name that stands more than once is found at its first place. A look-up is one of a hash table, which copies no name.
 #[derive(Drop)]
-pub struct NameTable {
-    names: Sequence<Text>,
-    places: IndexMap<Vec<u8>, usize>,
+pub struct NameTable<'a> {
+    names: Sequence<&'a Text>,
+    places: IndexMap<&'a [u8], usize>,
 }
 
-impl Model for NameTable {
+impl<'a> Model for NameTable<'a> {
     ghost Value = { List (List ℕ) };
 
-    ghost view = { λ t. t.names };
+    ghost view = { λ t. map (λ n. n.now) t.names };
 
-    ghost invariant = { λ t. (x : List ℕ) → known_place x t.places.entries ≡ place_of x t.names };
+    ghost invariant = { λ t. (x : List ℕ) → known_place x t.places.entries ≡ place_of x (map (λ n. n.now) t.names) };
 }
 
-impl NameTable {
+impl<'a> NameTable<'a> {
     /// No name. It takes no memory.
     pub fn new(alloc: Global) -> Self
         ensures { result ≡ [] }
@@ -43,15 +43,13 @@ impl NameTable {
     }
 
     /// Appends a name. An error leaves the table as it was.
-    pub fn push(&mut self, alloc: Global, name: &Text) -> Result<(), AllocError>
+    pub fn push(&mut self, name: &'a Text) -> Result<(), AllocError>
         ensures pushed { OnOk result (self.new ≡ self.old ++ name.now ∷ []) }
         ensures kept { OnErr result (self.new ≡ self.old) }
     {
-        let own = name.copy(alloc)?;
-        let key = Vec::from_slice(alloc, name.as_bytes())?;
         let place = self.names.len();
-        self.names.push(own)?;
-        match self.places.insert(key, place) {
+        self.names.push(name)?;
+        match self.places.insert(name.as_bytes(), place) {
             Ok(None) => Ok(()),
             // A name that stood there before keeps its first place.
             Ok(Some(first)) => {

@@ -6,6 +6,7 @@ ghost use Rattle.pat_resolver_tables.specs.Innermost.{innermost, shadowed_in, kn
 ghost use Rattle.pat_resolver_tables.specs.declared.scope.Variable.{Variable};
 
 use crate::known::set_known;
+use crate::name_ref::NameRef;
 use indexmap::IndexMap;
 use pat_core::Kind;
 use pat_sequences::{Stack, Text};
@@ -14,29 +15,29 @@ use std::marker::Model;
 
 /// A variable in scope: its name, its number in its function, and its kind.
 #[derive(Drop)]
-pub struct Variable {
-    pub name: Text,
+pub struct Variable<'a> {
+    pub name: NameRef<'a>,
     pub number: u32,
     pub kind: Kind,
 }
 
 /// A variable, and the place of the one that its name stood for outside.
 #[derive(Drop)]
-struct Entry {
-    variable: Variable,
+struct Entry<'a> {
+    variable: Variable<'a>,
     shadowed: Option<usize>,
 }
 
 /// The variables in scope, the innermost first. A name stands for the innermost variable that has it. A look-up is one of a
-/// hash table, which keeps each name that it had once, with the place of its innermost variable while there is one. Places
-/// are counted from the outermost.
+/// hash table, which copies no name and keeps each that it had once, with the place of its innermost variable while there is
+/// one. Places are counted from the outermost.
 #[derive(Drop)]
-pub struct ScopeTable {
-    entries: Stack<Entry>,
-    places: IndexMap<Vec<u8>, Option<usize>>,
+pub struct ScopeTable<'a> {
+    entries: Stack<Entry<'a>>,
+    places: IndexMap<&'a [u8], Option<usize>>,
 }
 
-impl Model for ScopeTable {
+impl<'a> Model for ScopeTable<'a> {
     ghost Value = { List Variable };
 
     ghost view = { λ t. map (λ e. e.variable) t.entries };
@@ -44,7 +45,7 @@ impl Model for ScopeTable {
     ghost invariant = { λ t. ((x : List ℕ) → known_top x t.places.entries ≡ innermost x (map (λ e. e.variable) t.entries)) × (map (λ e. e.shadowed) t.entries ≡ shadowed_in (map (λ e. e.variable) t.entries)) };
 }
 
-impl ScopeTable {
+impl<'a> ScopeTable<'a> {
     /// No variable. It takes no memory.
     pub fn new(alloc: Global) -> Self
         ensures { result ≡ [] }
@@ -63,22 +64,14 @@ impl ScopeTable {
     }
 
     /// Brings a variable into scope. An error leaves the table as it was.
-    pub fn push(
-        &mut self,
-        alloc: Global,
-        name: &Text,
-        number: u32,
-        kind: Kind,
-    ) -> Result<(), AllocError>
+    pub fn push(&mut self, name: &'a Text, number: u32, kind: Kind) -> Result<(), AllocError>
         ensures pushed { OnOk result (self.new ≡ record { name = name.now; number = number; kind = kind } ∷ self.old) }
         ensures kept { OnErr result (self.new ≡ self.old) }
     {
-        let own = name.copy(alloc)?;
-        let key = Vec::from_slice(alloc, name.as_bytes())?;
         let place = self.entries.len();
-        let shadowed = self.places.insert(key, Some(place))?.flatten();
+        let shadowed = self.places.insert(name.as_bytes(), Some(place))?.flatten();
         let variable = Variable {
-            name: own,
+            name: NameRef::new(name),
             number,
             kind,
         };
@@ -122,7 +115,7 @@ impl ScopeTable {
     }
 
     /// The variable that a name stands for.
-    pub fn find(&self, name: &Text) -> Option<&Variable>
+    pub fn find(&self, name: &Text) -> Option<&Variable<'a>>
         ensures { option_map variable_view (option_copied result) ≡ variable_of (scope_view self.now) name.now }
     {
         match self.place_of(name) {

@@ -16,4 +16,4 @@ invariant_of-result-clause-tagged c =
     tags_tied n.interfaces c.in_ok-interfaces.interfaces (names_view n) (map decl_view c.args.decls.now) c.requires.named c.in_ok-interfaces.ensures.numbers
 
 pub invariant_of-result-clause-called : goal.invariant_of-result-clause-called
-invariant_of-result-clause-called c = c.in_ok-functions.ensures ∙ ap (map (λ (s : Signature). s.name)) c.as_slice.ensures
+invariant_of-result-clause-called c = c.in_ok-functions.ensures ∙ ap (map (λ (s : Signature). s.name.now)) c.as_slice.ensures

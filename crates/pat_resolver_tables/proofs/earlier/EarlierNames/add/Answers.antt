@@ -8,5 +8,5 @@ use Rattle.pat_resolver_tables.proofs.earlier.EarlierNames.add.Goals as goal
 pub returns-clause-new : goal.returns-clause-new
 returns-clause-new c =
     let keys = c.self.inside.names.keys in
-    c.in_ok-new.ensures.added ∙ ap (λ (x : List ℕ). not (list_any (λ k. bytes_eq x k.items) keys)) (c.in_ok-own.ensures.items ∙ c.as_bytes.ensures)
+    c.in_ok-new.ensures.added ∙ ap (λ (x : List ℕ). not (list_any (λ k. bytes_eq x k.now) keys)) c.as_bytes.ensures
     ∙ ap not (one_of_names c.args.name.now keys) ∙ ap (λ (names : List (List ℕ)). not (is_one_of c.args.name.now names)) c.self.view_is
