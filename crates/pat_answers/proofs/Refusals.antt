@@ -13,4 +13,7 @@ small bytes (verdict.Syntax o) r other = r.0
 small bytes (verdict.NumberTooWide o) r other = r.0
 small bytes (verdict.TooDeep o) r other = r.0
 small bytes (verdict.Resolve k s) r other = r.1.small
+small bytes (verdict.BadText o) r other = absurd r
+small bytes (verdict.Rejected n rule) r other = absurd r
+small bytes (verdict.RefusedAt i) r other = absurd r
 small bytes verdict.NotYet r other = absurd r

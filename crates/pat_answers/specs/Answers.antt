@@ -6,7 +6,7 @@ use Rattle.pat_front.specs.Texts.{IsRefusal}
 use Rattle.pat_front.specs.declared.verdict.Verdict.{Verdict}
 use Rattle.pat_front.specs.declared.verdict.Verdict.TheVariants.{TooLong}
 use Rattle.pat_answers.specs.declared.status.Status.{Status}
-use Rattle.pat_answers.specs.declared.status.Status.TheVariants.{Ok, Refused, Usage, ReadFault, WriteFault, NoMemory, Budget}
+use Rattle.pat_answers.specs.declared.status.Status.TheVariants.{Ok, Refused, Usage, ReadFault, WriteFault, NoMemory, Budget, Waiting, Full}
 
 -- the text is the line of the verdict, and the status its refusal
 abbrev pub SaysVerdict : Verdict → List ℕ → Status → Type 0
@@ -16,13 +16,19 @@ SaysVerdict v text status = (status ≡ Refused v) × (text ≡ line_of_verdict 
 abbrev pub Refuses : List ℕ → List ℕ → Status → Type 0
 Refuses bytes text status = (v : Verdict) × IsRefusal bytes v × SaysVerdict v text status
 
--- a status that a command may answer on these bytes: no fault, no want of memory, and only a verdict on their number where
--- they are too many
+-- a status that a command may answer on these bytes, of which there may be so many: no fault, no want of memory, and only a
+-- verdict on their number where they are too many
+abbrev pub IsStatusWithin : ℕ → List ℕ → Status → Type 0
+IsStatusWithin most bytes Ok = length bytes ≤ most
+IsStatusWithin most bytes Budget = length bytes ≤ most
+IsStatusWithin most bytes Waiting = length bytes ≤ most
+IsStatusWithin most bytes Full = length bytes ≤ most
+IsStatusWithin most bytes (Refused v) = v ≢ TooLong → length bytes ≤ most
+IsStatusWithin most bytes Usage = ⊥
+IsStatusWithin most bytes ReadFault = ⊥
+IsStatusWithin most bytes WriteFault = ⊥
+IsStatusWithin most bytes NoMemory = ⊥
+
+-- of a command whose input is a program
 abbrev pub IsCommandStatus : List ℕ → Status → Type 0
-IsCommandStatus bytes Ok = length bytes ≤ limit
-IsCommandStatus bytes Budget = length bytes ≤ limit
-IsCommandStatus bytes (Refused v) = v ≢ TooLong → length bytes ≤ limit
-IsCommandStatus bytes Usage = ⊥
-IsCommandStatus bytes ReadFault = ⊥
-IsCommandStatus bytes WriteFault = ⊥
-IsCommandStatus bytes NoMemory = ⊥
+IsCommandStatus bytes s = IsStatusWithin limit bytes s

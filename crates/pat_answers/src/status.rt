@@ -17,6 +17,10 @@ pub enum Status {
     NoMemory,
     /// The steps of a run are spent.
     Budget,
+    /// A run has threads left, and none of them can go on.
+    Waiting,
+    /// A run is at its limit on messages, and only a send could go on.
+    Full,
 }
 
 impl Status {
@@ -32,6 +36,8 @@ impl Status {
             Status::WriteFault => 4,
             Status::NoMemory => 5,
             Status::Budget => 6,
+            Status::Waiting => 7,
+            Status::Full => 8,
         }
     }
 }

@@ -2,7 +2,7 @@
 use Rattle.std.proofs.Common.{ℕ, List}
 use Rattle.pat_answers.specs.Answers.{IsCommandStatus}
 use Rattle.pat_answers.specs.declared.status.Status.{Status}
-use Rattle.pat_answers.specs.declared.status.Status.TheVariants.{Ok, Refused, Usage, ReadFault, WriteFault, NoMemory, Budget}
+use Rattle.pat_answers.specs.declared.status.Status.TheVariants.{Ok, Refused, Usage, ReadFault, WriteFault, NoMemory, Budget, Waiting, Full}
 use Rattle.pat_answers.proofs.Refusals.{small}
 use Rattle.pat_command_print.specs.Allowed.{AllowedPrint}
 
@@ -14,3 +14,5 @@ print_status bytes text ReadFault a = absurd a
 print_status bytes text WriteFault a = absurd a
 print_status bytes text NoMemory a = absurd a
 print_status bytes text Budget a = absurd a
+print_status bytes text Waiting a = absurd a
+print_status bytes text Full a = absurd a

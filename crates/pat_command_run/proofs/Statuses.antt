@@ -7,7 +7,7 @@ use Rattle.pat_front.specs.declared.verdict.Verdict.{Verdict}
 use Rattle.pat_front.specs.declared.verdict.Verdict.TheVariants.{TooLong, NotYet}
 use Rattle.pat_answers.specs.Answers.{IsCommandStatus}
 use Rattle.pat_answers.specs.declared.status.Status.{Status}
-use Rattle.pat_answers.specs.declared.status.Status.TheVariants.{Ok, Refused, Usage, ReadFault, WriteFault, NoMemory, Budget}
+use Rattle.pat_answers.specs.declared.status.Status.TheVariants.{Ok, Refused, Usage, ReadFault, WriteFault, NoMemory, Budget, Waiting, Full}
 use Rattle.pat_answers.proofs.Refusals.{small}
 use Rattle.pat_command_run.specs.Allowed.{AllowedRun, IsRunRefusal, IsNotYet}
 
@@ -26,3 +26,5 @@ run_status bytes text Usage a = absurd a
 run_status bytes text ReadFault a = absurd a
 run_status bytes text WriteFault a = absurd a
 run_status bytes text NoMemory a = absurd a
+run_status bytes text Waiting a = absurd a
+run_status bytes text Full a = absurd a

@@ -159,6 +159,9 @@ comes bytes (verdict.TooDeep o) (small, (tokens, divided, deep)) =
     record { reading = Syntactic (TooDeep, o); is = read; says = refl }
 comes bytes (verdict.Resolve k s) (t, text, refused) =
     record { reading = Broken (finding_view k s); is = (t, parses_tree bytes t text, (refused.behind, refused.first)); says = ap (λ j. Some (verdict.Resolve j s)) (kind_back k) }
+comes bytes (verdict.BadText o) h = absurd h
+comes bytes (verdict.Rejected n r) h = absurd h
+comes bytes (verdict.RefusedAt i) h = absurd h
 comes bytes verdict.NotYet h = absurd h
 
 whole : (bytes : List ℕ) (t : Tree) (p : Program) → IsProgramText bytes t p → IsRead bytes (Whole t)

@@ -37,6 +37,10 @@ IsRefusal bytes (verdict.Syntax o) = (length bytes ≤ limit) × (IsRefused byte
 IsRefusal bytes (verdict.NumberTooWide o) = (length bytes ≤ limit) × IsRefused bytes (TooWideAt o)
 IsRefusal bytes (verdict.TooDeep o) = (length bytes ≤ limit) × ((tokens : List Spanned) × Divides bytes tokens × IsTooDeep limits tokens o)
 IsRefusal bytes (verdict.Resolve k s) = (t : Tree) × IsTreeText bytes t × names.BreaksFirst (length bytes) t (finding_view k s)
+-- of a text behind a program these speak, or of a run
+IsRefusal bytes (verdict.BadText o) = ⊥
+IsRefusal bytes (verdict.Rejected n r) = ⊥
+IsRefusal bytes (verdict.RefusedAt i) = ⊥
 IsRefusal bytes verdict.NotYet = ⊥
 
 -- what an error says of the bytes; want of memory says nothing

@@ -1,10 +1,11 @@
 // Verdicts on a text, and the lines that say them.
 ghost use Rattle.std.specs.Prelude.{◌≡◌, ◌++◌, ◌∷◌, [], IfOk, OnOk};
 ghost use Rattle.std.specs.Fmt.{decimal};
-ghost use Rattle.pat_front.specs.Lines.{rule_words, place_words, verdict_text, line_of_verdict};
+ghost use Rattle.pat_front.specs.Lines.{rule_words, place_words, rejected_words, verdict_text, line_of_verdict};
 
 use pat_decimal::push_number;
 use pat_resolver_answers::ResolveKind;
+use pat_rules::Rule;
 use pat_syntax::Span;
 use std::alloc::{AllocError, Global};
 
@@ -21,6 +22,12 @@ pub enum Verdict {
     TooDeep(u32),
     /// The first rule of names and kinds that is broken, and where.
     Resolve(ResolveKind, Span),
+    /// No marker line, or the first line that isn't spelled begins at the offset.
+    BadText(u32),
+    /// The first node at which a derivation breaks a rule, and the first rule that it breaks there.
+    Rejected(u32, Rule),
+    /// The first entry of a history that doesn't fit.
+    RefusedAt(u32),
     /// It is a program of a form that isn't run so far.
     NotYet,
 }
@@ -44,6 +51,9 @@ fn push_verdict(alloc: Global, text: &mut Vec<u8>, verdict: Verdict) -> Result<(
         Verdict::NumberTooWide(offset) => push_at(alloc, text, b"number too wide at ", offset),
         Verdict::TooDeep(offset) => push_at(alloc, text, b"too deep at ", offset),
         Verdict::Resolve(kind, span) => push_broken(alloc, text, kind, span),
+        Verdict::BadText(offset) => push_at(alloc, text, b"bad text at ", offset),
+        Verdict::Rejected(node, rule) => push_rejected(alloc, text, node, rule),
+        Verdict::RefusedAt(entry) => push_at(alloc, text, b"refused at entry ", entry),
         Verdict::NotYet => push_words(text, b"not yet"),
     }
 }
@@ -75,6 +85,15 @@ fn push_broken(
     push_words(text, words_of(kind))?;
     push_at(alloc, text, b" at ", span.from)?;
     push_at(alloc, text, b"-", span.to)
+}
+
+// A node, and a broken rule of derivations.
+fn push_rejected(alloc: Global, text: &mut Vec<u8>, node: u32, rule: Rule) -> Result<(), AllocError>
+    ensures { OnOk result (text.new.items ≡ text.old.items ++ rejected_words node rule) }
+{
+    push_at(alloc, text, b"rejected at node ", node)?;
+    push_words(text, b": ")?;
+    push_words(text, rule.name())
 }
 
 fn words_of(kind: ResolveKind) -> &'static [u8]

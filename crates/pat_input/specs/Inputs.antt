@@ -18,11 +18,19 @@ use Rattle.pat_input.specs.declared.reading.Input.TheVariants.{TooLong, Refused,
 abbrev pub limit : ℕ
 limit = 1048576
 
--- the bytes are what the source gave: all that it had, or one byte more than the limit
-pub record IsInput (had left : Option (List ℕ)) (bytes : List ℕ) : Type 0 where
+-- the most bytes of a program with a text behind it
+abbrev pub whole_limit : ℕ
+whole_limit = 67108864
+
+-- the bytes are what the source gave: all that it had, or one byte more than it may have
+pub record IsInputWithin (most : ℕ) (had left : Option (List ℕ)) (bytes : List ℕ) : Type 0 where
   pub taken : Consumes had left bytes
-  pub within : length bytes ≤ suc limit
-  pub all : length bytes ≤ limit → IsAtEnd left
+  pub within : length bytes ≤ suc most
+  pub all : length bytes ≤ most → IsAtEnd left
+
+-- the input of a command that reads a program
+abbrev pub IsInput : Option (List ℕ) → Option (List ℕ) → List ℕ → Type 0
+IsInput had left bytes = IsInputWithin limit had left bytes
 
 -- the bytes are too many, are refused, or divide into the tokens
 abbrev pub IsRead : List ℕ → Input → Type 0

@@ -2,5 +2,7 @@
 #![tactic(auto)]
 
 mod reading;
+mod whole;
 
 pub use reading::{Input, InputError, LIMIT, read_tokens};
+pub use whole::{WHOLE_LIMIT, lex_bytes, read_bytes};

@@ -64,7 +64,7 @@ pub fn read_tokens<S: Source>(alloc: Global, source: &mut S) -> Result<Input, In
 }
 
 // The tokens of all that was fed, or its refusal.
-fn finished(lexer: Lexer, end: u32) -> Result<Input, InputError>
+pub fn finished(lexer: Lexer, end: u32) -> Result<Input, InputError>
     ensures read { (bytes : List ℕ) → HasRead bytes lexer → length bytes ≡ end → length bytes ≤ 1048576 → IfOk result (IsRead bytes) }
     ensures no_fault { IsErrOf result InputError.Failed → ⊥ }
 {

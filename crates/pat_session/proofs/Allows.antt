@@ -2,20 +2,20 @@
 use Rattle.std.proofs.Common.{◌≡◌, ◌≤◌, ℕ, List, [], ◌∷◌, length, Option, refl, sym, ap, ◌∙◌, subst, ⊎_elim, arith}
 use Rattle.std.specs.Io.KnownBytes.{Appends}
 use Rattle.pat_ports.specs.Bytes.{AppendsFront}
-use Rattle.pat_input.specs.Inputs.{IsInput, limit}
+use Rattle.pat_input.specs.Inputs.{IsInput, IsInputWithin}
 use Rattle.pat_front.specs.Lines.{line_of_verdict}
 use Rattle.pat_front.specs.declared.verdict.Verdict.{Verdict}
 use Rattle.pat_answers.specs.declared.status.Status.{Status}
-use Rattle.pat_answers.specs.declared.status.Status.TheVariants.{Ok, Refused, Usage, ReadFault, WriteFault, NoMemory, Budget}
+use Rattle.pat_answers.specs.declared.status.Status.TheVariants.{Ok, Refused, Usage, ReadFault, WriteFault, NoMemory, Budget, Waiting, Full}
 use Rattle.pat_session.specs.declared.words.Command.{Command}
 use Rattle.pat_session.specs.declared.words.Command.TheVariants.{Print, Run}
 use Rattle.pat_session.specs.Ports.{IsCutShort, Written}
-use Rattle.pat_answers.specs.Answers.{IsCommandStatus}
+use Rattle.pat_answers.specs.Answers.{IsStatusWithin}
 use Rattle.pat_command_print.specs.Allowed.{AllowedPrint}
 use Rattle.pat_command_print.proofs.Statuses.{print_status}
 use Rattle.pat_command_run.specs.Allowed.{RunShows, IsRunnable, AllowedRun}
 use Rattle.pat_command_run.proofs.Statuses.{run_status}
-use Rattle.pat_session.specs.Allowed.{IsCommand, HasCommand, AllowedTo, Allowed, usage_line}
+use Rattle.pat_session.specs.Allowed.{IsCommand, HasCommand, AllowedTo, limit_of, Allowed, usage_line}
 use Rattle.pat_session.specs.Calls.{ReadsAll}
 use Rattle.pat_session.specs.Answers.{Completes, BreaksOff, Begins, Answers, IsAccepted, AcceptsSafe, ShowsRun, ShowsTree, ShowsVerdict}
 
@@ -25,13 +25,17 @@ abbrev first_length : List (List ℕ) → ℕ
 first_length [] = 0
 first_length (w ∷ ws) = length w
 
-not_both : (words : List (List ℕ)) → IsCommand Run words → IsCommand Print words → ⊥
-not_both words run print = let clash : 3 ≡ 5 = ap first_length (sym run ∙ print) in absurd (omega (arith, clash))
+-- words are one command at most
+one_command : (words : List (List ℕ)) (c d : Command) → IsCommand c words → IsCommand d words → c ≡ d
+one_command words Print Print p q = refl
+one_command words Run Run p q = refl
+one_command words Print Run p q = let clash : 5 ≡ 3 = ap first_length (sym p ∙ q) in absurd (omega (arith, clash))
+one_command words Run Print p q = let clash : 3 ≡ 5 = ap first_length (sym p ∙ q) in absurd (omega (arith, clash))
 
 -- ---- statuses
 
 -- what is allowed of a command has a command's status
-pub command_status : (c : Command) (bytes text : List ℕ) (s : Status) → AllowedTo c bytes text s → IsCommandStatus bytes s
+pub command_status : (c : Command) (bytes text : List ℕ) (s : Status) → AllowedTo c bytes text s → IsStatusWithin (limit_of c) bytes s
 command_status Print bytes text s a = print_status bytes text s a
 command_status Run bytes text s a = run_status bytes text s a
 
@@ -43,14 +47,16 @@ pub not_a_read_fault : (c : Command) (bytes text : List ℕ) (s : Status) → Al
 not_a_read_fault c bytes text s a e = command_status c bytes text ReadFault (subst (λ k. AllowedTo c bytes text k) e a)
 
 -- an answer for which the whole input was read has bytes that are few enough
-pub reads_small : (bytes : List ℕ) (s : Status) → IsCommandStatus bytes s → ReadsAll s → length bytes ≤ limit
-reads_small bytes Ok small all = small
-reads_small bytes Budget small all = small
-reads_small bytes (Refused v) small all = small all
-reads_small bytes Usage small all = absurd small
-reads_small bytes ReadFault small all = absurd small
-reads_small bytes WriteFault small all = absurd small
-reads_small bytes NoMemory small all = absurd small
+pub reads_small : (most : ℕ) (bytes : List ℕ) (s : Status) → IsStatusWithin most bytes s → ReadsAll s → length bytes ≤ most
+reads_small most bytes Ok small all = small
+reads_small most bytes Budget small all = small
+reads_small most bytes Waiting small all = small
+reads_small most bytes Full small all = small
+reads_small most bytes (Refused v) small all = small all
+reads_small most bytes Usage small all = absurd small
+reads_small most bytes ReadFault small all = absurd small
+reads_small most bytes WriteFault small all = absurd small
+reads_small most bytes NoMemory small all = absurd small
 
 -- what is allowed of a command is allowed of its words
 of_command : (words : List (List ℕ)) (c : Command) (bytes text : List ℕ) (s : Status) → IsCommand c words → AllowedTo c bytes text s → Allowed words bytes text s
@@ -61,39 +67,47 @@ of_command words c bytes text ReadFault command a = (c, command, a)
 of_command words c bytes text WriteFault command a = (c, command, a)
 of_command words c bytes text NoMemory command a = (c, command, a)
 of_command words c bytes text Budget command a = (c, command, a)
+of_command words c bytes text Waiting command a = (c, command, a)
+of_command words c bytes text Full command a = (c, command, a)
 
 module _ (words : List (List ℕ)) (had left old new : Option (List ℕ)) where
+  -- the input is that of the command, whichever the words are
+  same_input : (c : Command) (bytes : List ℕ) → IsInputWithin (limit_of c) had left bytes → IsCommand c words → (d : Command) → IsCommand d words → IsInputWithin (limit_of d) had left bytes
+  same_input c bytes input command d other = subst (λ e. IsInputWithin (limit_of e) had left bytes) (one_command words c d command other) input
+
   -- what was written whole is answered
   completed : (s : Status) → Completes words had left old new s → Answers words had left old new s
   completed Ok c = c
   completed (Refused v) c = c
   completed Usage c = c
   completed Budget c = c
+  completed Waiting c = c
+  completed Full c = c
   completed ReadFault c = let a = c.allowed in absurd (command_status a.0 c.bytes c.text ReadFault a.2)
   completed WriteFault c = let a = c.allowed in absurd (command_status a.0 c.bytes c.text WriteFault a.2)
   completed NoMemory c = let a = c.allowed in absurd (command_status a.0 c.bytes c.text NoMemory a.2)
 
   -- what was written, whole or not, is answered
-  answered : (bytes text : List ℕ) (s result : Status) → (HasCommand words → IsInput had left bytes) → Allowed words bytes text s → Written old new text s result → Answers words had left old new result
+  answered : (bytes text : List ℕ) (s result : Status) → ((c : Command) → IsCommand c words → IsInputWithin (limit_of c) had left bytes) → Allowed words bytes text s → Written old new text s result → Answers words had left old new result
   answered bytes text s result input allowed written =
       ⊎_elim
       (λ (w : (result ≡ s) × Appends old new text). subst (λ k. Answers words had left old new k) (sym w.0) (completed s (record { bytes = bytes; text = text; input = input; allowed = allowed; written = w.1 })))
       (λ (w : (result ≡ WriteFault) × IsCutShort old new text). let cut : BreaksOff words had left old new = record { bytes = bytes; text = text; status = s; input = input; allowed = allowed; cut = w.1 } in subst (λ k. Answers words had left old new k) (sym w.0) cut)
       written
 
-  pub answered_command : (c : Command) (bytes text : List ℕ) (s result : Status) → IsInput had left bytes → AllowedTo c bytes text s → Written old new text s result → IsCommand c words → Answers words had left old new result
+  pub answered_command : (c : Command) (bytes text : List ℕ) (s result : Status) → IsInputWithin (limit_of c) had left bytes → AllowedTo c bytes text s → Written old new text s result → IsCommand c words → Answers words had left old new result
   answered_command c bytes text s result input allowed written command =
-      answered bytes text s result (λ _. input) (of_command words c bytes text s command allowed) written
+      answered bytes text s result (same_input c bytes input command) (of_command words c bytes text s command allowed) written
 
   pub answered_usage : (result : Status) → (HasCommand words → ⊥) → Written old new usage_line Usage result → Answers words had left old new result
-  answered_usage result none written = answered [] usage_line Usage result (λ command. absurd (none command)) (none, refl) written
+  answered_usage result none written = answered [] usage_line Usage result (λ c command. absurd (none (c, command))) (none, refl) written
 
   -- of what was written, a front was handed over
-  pub begun_command : (c : Command) (bytes text : List ℕ) (s : Status) → IsInput had left bytes → AllowedTo c bytes text s → IsCommand c words → AppendsFront old new text → Begins words had left old new
-  begun_command c bytes text s input allowed command begun = record { bytes = bytes; text = text; status = s; input = λ _. input; allowed = of_command words c bytes text s command allowed; begun = begun }
+  pub begun_command : (c : Command) (bytes text : List ℕ) (s : Status) → IsInputWithin (limit_of c) had left bytes → AllowedTo c bytes text s → IsCommand c words → AppendsFront old new text → Begins words had left old new
+  begun_command c bytes text s input allowed command begun = record { bytes = bytes; text = text; status = s; input = same_input c bytes input command; allowed = of_command words c bytes text s command allowed; begun = begun }
 
   pub begun_usage : (HasCommand words → ⊥) → AppendsFront old new usage_line → Begins words had left old new
-  begun_usage none begun = record { bytes = []; text = usage_line; status = Usage; input = λ command. absurd (none command); allowed = (none, refl); begun = begun }
+  begun_usage none begun = record { bytes = []; text = usage_line; status = Usage; input = λ c command. absurd (none (c, command)); allowed = (none, refl); begun = begun }
 
   at_status : (s t : Status) → s ≡ t → Answers words had left old new s → Answers words had left old new t
   at_status s t e a = subst (λ k. Answers words had left old new k) e a
@@ -106,8 +120,7 @@ module _ (words : List (List ℕ)) (had left old new : Option (List ℕ)) where
 
   -- what is allowed of a run command is allowed of `run`
   is_run : (c : Command) (bytes text : List ℕ) (s : Status) → IsCommand Run words → IsCommand c words → AllowedTo c bytes text s → AllowedRun bytes text s
-  is_run Run bytes text s run command a = a
-  is_run Print bytes text s run command a = absurd (not_both words run command)
+  is_run c bytes text s run command a = subst (λ d. AllowedTo d bytes text s) (one_command words c Run command run) a
 
   safe_input : (bytes : List ℕ) → IsInput had left bytes → (r : IsRunnable bytes) → AcceptsSafe had left
   safe_input bytes input r = record {
@@ -124,8 +137,8 @@ module _ (words : List (List ℕ)) (had left old new : Option (List ℕ)) where
   pub accepts_safe : (s : Status) → Answers words had left old new s → IsCommand Run words → IsAccepted s → AcceptsSafe had left
   accepts_safe s a run is =
       ⊎_elim
-      (λ (e : s ≡ Ok). let c : Completes words had left old new Ok = at_status s Ok e a in let k = c.allowed in safe_input c.bytes (c.input (Run, run)) (is_run k.0 c.bytes c.text Ok run k.1 k.2).0)
-      (λ (e : s ≡ Budget). let c : Completes words had left old new Budget = at_status s Budget e a in let k = c.allowed in safe_input c.bytes (c.input (Run, run)) (is_run k.0 c.bytes c.text Budget run k.1 k.2).0)
+      (λ (e : s ≡ Ok). let c : Completes words had left old new Ok = at_status s Ok e a in let k = c.allowed in safe_input c.bytes (c.input Run run) (is_run k.0 c.bytes c.text Ok run k.1 k.2).0)
+      (λ (e : s ≡ Budget). let c : Completes words had left old new Budget = at_status s Budget e a in let k = c.allowed in safe_input c.bytes (c.input Run run) (is_run k.0 c.bytes c.text Budget run k.1 k.2).0)
       is
 
   shown_run : (s : Status) (bytes text : List ℕ) → IsInput had left bytes → (r : IsRunnable bytes) → RunShows r.program text s → Appends old new text → ShowsRun had left old new s
@@ -150,19 +163,18 @@ module _ (words : List (List ℕ)) (had left old new : Option (List ℕ)) where
       let c : Completes words had left old new Ok = at_status s Ok e a in
       let k = c.allowed in
       let shown = is_run k.0 c.bytes c.text Ok run k.1 k.2 in
-      subst (λ o. ShowsRun had left old new o) (sym e) (shown_run Ok c.bytes c.text (c.input (Run, run)) shown.0 shown.1 c.written))
+      subst (λ o. ShowsRun had left old new o) (sym e) (shown_run Ok c.bytes c.text (c.input Run run) shown.0 shown.1 c.written))
       (λ (e : s ≡ Budget).
       let c : Completes words had left old new Budget = at_status s Budget e a in
       let k = c.allowed in
       let shown = is_run k.0 c.bytes c.text Budget run k.1 k.2 in
-      subst (λ o. ShowsRun had left old new o) (sym e) (shown_run Budget c.bytes c.text (c.input (Run, run)) shown.0 shown.1 c.written))
+      subst (λ o. ShowsRun had left old new o) (sym e) (shown_run Budget c.bytes c.text (c.input Run run) shown.0 shown.1 c.written))
       is
 
   -- ---- print
 
   is_print : (c : Command) (bytes text : List ℕ) (s : Status) → IsCommand Print words → IsCommand c words → AllowedTo c bytes text s → AllowedPrint bytes text s
-  is_print Print bytes text s print command a = a
-  is_print Run bytes text s print command a = absurd (not_both words command print)
+  is_print c bytes text s print command a = subst (λ d. AllowedTo d bytes text s) (one_command words c Print command print) a
 
   -- what is printed is the canonical text
   pub shows_tree : (s : Status) → Answers words had left old new s → IsCommand Print words → s ≡ Ok → ShowsTree had left old new
@@ -174,8 +186,8 @@ module _ (words : List (List ℕ)) (had left old new : Option (List ℕ)) where
         bytes = c.bytes;
         tree = shown.0;
         program = shown.1;
-        input = c.input (Print, print);
-        whole = (c.input (Print, print)).all shown.2.tree.small;
+        input = c.input Print print;
+        whole = (c.input Print print).all shown.2.tree.small;
         spelled = shown.2;
         written = subst (λ l. Appends old new l) shown.3 c.written;
       }
@@ -192,4 +204,4 @@ module _ (words : List (List ℕ)) (had left old new : Option (List ℕ)) where
       let c : Completes words had left old new (Refused v) = at_status s (Refused v) e a in
       let k = c.allowed in
       let shown = verdict_text k.0 c.bytes c.text v k.2 in
-      record { bytes = c.bytes; command = k.0; asked = k.1; input = c.input (k.0, k.1); refused = shown.1; written = subst (λ l. Appends old new l) shown.0 c.written }
+      record { bytes = c.bytes; command = k.0; asked = k.1; input = c.input k.0 k.1; refused = shown.1; written = subst (λ l. Appends old new l) shown.0 c.written }

@@ -1,18 +1,16 @@
 -- What a call comes to, for each way in which it ends.
-use Rattle.std.proofs.Common.{◌≡◌, ◌≤◌, ℕ, List, length, Option, Some, None, refl, sym, ◌∙◌, subst, inl, ⊎_elim, arith}
+use Rattle.std.proofs.Common.{◌≡◌, ◌≤◌, ℕ, List, length, Option, Some, None, refl, sym, ◌∙◌, subst, inl, ⊎_elim}
 use Rattle.std.specs.Prelude.{◌≢◌}
 use Rattle.std.specs.Io.KnownBytes.{Appends, Keeps}
 use Rattle.pat_ports.specs.Causes.{Raised}
 use Rattle.pat_ports.specs.Ends.{EndsOnce, EndsThere}
 use Rattle.pat_ports.specs.declared.reach.Reach.{Reach}
-use Rattle.pat_input.specs.Inputs.{IsInput, IsRead, limit}
-use Rattle.pat_input.specs.declared.reading.Input.{Input}
-use Rattle.pat_input.specs.declared.reading.Input.TheVariants.{TooLong}
+use Rattle.pat_input.specs.Inputs.{IsInputWithin}
 use Rattle.pat_answers.specs.declared.status.Status.{Status}
 use Rattle.pat_answers.specs.declared.status.Status.TheVariants.{Usage, ReadFault, WriteFault, NoMemory}
 use Rattle.pat_session.specs.declared.words.Command.{Command}
 use Rattle.pat_session.specs.Ports.{SourceState, SinkState, IsCutShort, Writes}
-use Rattle.pat_session.specs.Allowed.{IsCommand, HasCommand, AllowedTo, usage_line}
+use Rattle.pat_session.specs.Allowed.{IsCommand, HasCommand, AllowedTo, limit_of, usage_line}
 use Rattle.pat_session.specs.Calls.{Call, ReadsAll}
 use Rattle.pat_session.proofs.Allows.{command_status, not_a_read_fault, reads_small, answered_command, answered_usage, begun_command, begun_usage}
 
@@ -22,10 +20,6 @@ keeps (Some xs) = refl
 
 none_read : (o : Option Reach) → EndsOnce o o
 none_read o = λ before past. let clash = sym before ∙ past in cc
-
--- an input that isn't too long
-pub small_input : (bytes : List ℕ) (input : Input) → IsRead bytes input → length bytes ≤ limit → input ≡ TooLong → ⊥
-small_input bytes input read small is = let long = subst (IsRead bytes) is read in absurd (omega (arith, long, small))
 
 module _ (words : List (List ℕ)) (had left : SourceState) where
   -- a read that failed
@@ -68,7 +62,7 @@ module _ (words : List (List ℕ)) (had left : SourceState) where
     reads_as all = subst ReadsAll (same_status (λ w. let none : ReadsAll WriteFault = subst ReadsAll w all in absurd none)) all
 
     -- what a command answers
-    pub call_command : (c : Command) (bytes : List ℕ) → IsInput had.rest left.rest bytes → AllowedTo c bytes text status → left.faults ≡ had.faults → EndsOnce had.reach left.reach → (length bytes ≤ limit → EndsThere had.reach left.reach) → IsCommand c words → Call words had left old new result
+    pub call_command : (c : Command) (bytes : List ℕ) → IsInputWithin (limit_of c) had.rest left.rest bytes → AllowedTo c bytes text status → left.faults ≡ had.faults → EndsOnce had.reach left.reach → (length bytes ≤ limit_of c → EndsThere had.reach left.reach) → IsCommand c words → Call words had left old new result
     call_command c bytes input allowed same once there command = record {
       output = answered_command words had.rest left.rest old.taken new.taken c bytes text status result input allowed wrote.written command;
       handed = λ other. answered_command words had.rest left.rest old.handed new.handed c bytes text status result input allowed (inl (same_status other, wrote.handed other)) command;
@@ -76,7 +70,7 @@ module _ (words : List (List ℕ)) (had left : SourceState) where
       read = record { failed = λ e. absurd (not_read (not_a_read_fault c bytes text status allowed) e); unfailed = λ _. same };
       write = wrote.faults;
       one_end = once;
-      end = λ all. there (reads_small bytes status (command_status c bytes text status allowed) (reads_as all));
+      end = λ all. there (reads_small (limit_of c) bytes status (command_status c bytes text status allowed) (reads_as all));
     }
 
 -- usage

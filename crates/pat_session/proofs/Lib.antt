@@ -1,4 +1,5 @@
 mod Fronts
 mod Writing
 mod Allows
+mod Asking
 mod Calls

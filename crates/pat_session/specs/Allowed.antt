@@ -4,6 +4,7 @@ use Rattle.pat_answers.specs.declared.status.Status.{Status}
 use Rattle.pat_answers.specs.declared.status.Status.TheVariants.{Usage}
 use Rattle.pat_command_print.specs.Allowed.{AllowedPrint}
 use Rattle.pat_command_run.specs.Allowed.{AllowedRun}
+use Rattle.pat_input.specs.Inputs.{limit}
 use Rattle.pat_session.specs.declared.words.Command.{Command}
 use Rattle.pat_session.specs.declared.words.Command.TheVariants.{Print, Run}
 
@@ -22,6 +23,11 @@ abbrev pub HasCommand : List (List ℕ) → Type 0
 HasCommand words = (c : Command) × IsCommand c words
 
 -- ---- answers
+
+-- the most bytes of the command's input
+abbrev pub limit_of : Command → ℕ
+limit_of Print = limit
+limit_of Run = limit
 
 -- the text and the status of the command on these bytes
 abbrev pub AllowedTo : Command → List ℕ → List ℕ → Status → Type 0

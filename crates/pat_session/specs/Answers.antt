@@ -7,22 +7,22 @@ use Rattle.pat_model.specs.Faults.{IsSafe}
 use Rattle.pat_grammar.specs.Trees.{Tree}
 use Rattle.pat_canonical.specs.Text.{canonical_text}
 use Rattle.pat_ports.specs.Bytes.{AppendsFront}
-use Rattle.pat_input.specs.Inputs.{IsInput}
+use Rattle.pat_input.specs.Inputs.{IsInput, IsInputWithin}
 use Rattle.pat_front.specs.Lines.{line_of_verdict}
 use Rattle.pat_front.specs.Texts.{IsProgramText}
 use Rattle.pat_front.specs.declared.verdict.Verdict.{Verdict}
 use Rattle.pat_answers.specs.declared.status.Status.{Status}
-use Rattle.pat_answers.specs.declared.status.Status.TheVariants.{Ok, Refused, Usage, ReadFault, WriteFault, NoMemory, Budget}
+use Rattle.pat_answers.specs.declared.status.Status.TheVariants.{Ok, Refused, Usage, ReadFault, WriteFault, NoMemory, Budget, Waiting, Full}
 use Rattle.pat_command_run.specs.Allowed.{RunShows}
 use Rattle.pat_session.specs.declared.words.Command.{Command}
 use Rattle.pat_session.specs.Ports.{IsCutShort}
-use Rattle.pat_session.specs.Allowed.{IsCommand, HasCommand, AllowedTo, Allowed}
+use Rattle.pat_session.specs.Allowed.{IsCommand, AllowedTo, limit_of, Allowed}
 
 -- the sink took all of a text that the words and the input allow with this status
 pub record Completes (words : List (List ℕ)) (had left old new : Option (List ℕ)) (status : Status) : Type 0 where
   pub bytes : List ℕ
   pub text : List ℕ
-  pub input : HasCommand words → IsInput had left bytes
+  pub input : (c : Command) → IsCommand c words → IsInputWithin (limit_of c) had left bytes
   pub allowed : Allowed words bytes text status
   pub written : Appends old new text
 
@@ -31,7 +31,7 @@ pub record BreaksOff (words : List (List ℕ)) (had left old new : Option (List 
   pub bytes : List ℕ
   pub text : List ℕ
   pub status : Status
-  pub input : HasCommand words → IsInput had left bytes
+  pub input : (c : Command) → IsCommand c words → IsInputWithin (limit_of c) had left bytes
   pub allowed : Allowed words bytes text status
   pub cut : IsCutShort old new text
 
@@ -40,7 +40,7 @@ pub record Begins (words : List (List ℕ)) (had left old new : Option (List ℕ
   pub bytes : List ℕ
   pub text : List ℕ
   pub status : Status
-  pub input : HasCommand words → IsInput had left bytes
+  pub input : (c : Command) → IsCommand c words → IsInputWithin (limit_of c) had left bytes
   pub allowed : Allowed words bytes text status
   pub begun : AppendsFront old new text
 
@@ -51,6 +51,8 @@ Answers words had left old new ReadFault = Keeps old new
 Answers words had left old new NoMemory = Keeps old new
 Answers words had left old new Ok = Completes words had left old new Ok
 Answers words had left old new Budget = Completes words had left old new Budget
+Answers words had left old new Waiting = Completes words had left old new Waiting
+Answers words had left old new Full = Completes words had left old new Full
 Answers words had left old new (Refused verdict) = Completes words had left old new (Refused verdict)
 Answers words had left old new Usage = Completes words had left old new Usage
 
@@ -96,6 +98,6 @@ pub record ShowsVerdict (words : List (List ℕ)) (had left old new : Option (Li
   pub bytes : List ℕ
   pub command : Command
   pub asked : IsCommand command words
-  pub input : IsInput had left bytes
+  pub input : IsInputWithin (limit_of command) had left bytes
   pub refused : AllowedTo command bytes (line_of_verdict v) (Refused v)
   pub written : Appends old new (line_of_verdict v)

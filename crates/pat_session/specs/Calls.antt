@@ -3,7 +3,7 @@ use Rattle.std.specs.Prelude.{◌≡◌, ◌≢◌, ℕ, ⊤, List}
 use Rattle.pat_ports.specs.Ends.{EndsOnce, EndsThere}
 use Rattle.pat_front.specs.declared.verdict.Verdict.TheVariants.{TooLong}
 use Rattle.pat_answers.specs.declared.status.Status.{Status}
-use Rattle.pat_answers.specs.declared.status.Status.TheVariants.{Ok, Refused, Usage, ReadFault, WriteFault, NoMemory, Budget}
+use Rattle.pat_answers.specs.declared.status.Status.TheVariants.{Ok, Refused, Usage, ReadFault, WriteFault, NoMemory, Budget, Waiting, Full}
 use Rattle.pat_session.specs.Ports.{SourceState, SinkState, Answered}
 use Rattle.pat_session.specs.Answers.{Answers, Begins}
 
@@ -11,6 +11,8 @@ use Rattle.pat_session.specs.Answers.{Answers, Begins}
 abbrev pub ReadsAll : Status → Type 0
 ReadsAll Ok = ⊤
 ReadsAll Budget = ⊤
+ReadsAll Waiting = ⊤
+ReadsAll Full = ⊤
 ReadsAll (Refused v) = v ≢ TooLong
 ReadsAll Usage = ⊥
 ReadsAll ReadFault = ⊥

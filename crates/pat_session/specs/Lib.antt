@@ -1,4 +1,5 @@
 pub mod Ports
 pub mod Allowed
 pub mod Answers
+pub mod Asking
 pub mod Calls

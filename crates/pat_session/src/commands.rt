@@ -1,22 +1,48 @@
 // What each command answers.
-ghost use Rattle.std.specs.Prelude.{ℕ, List, IfOk};
-ghost use Rattle.pat_input.specs.Inputs.{IsRead};
-ghost use Rattle.pat_session.specs.Allowed.{AllowedTo};
+ghost use Rattle.std.specs.Prelude.{◌≤◌, ℕ, List, IfOk, length};
+ghost use Rattle.pat_ports.specs.Ends.{EndsOnce, EndsThere};
+ghost use Rattle.pat_input.specs.Inputs.{IsInputWithin, FaultsAfter};
+ghost use Rattle.pat_session.specs.Allowed.{AllowedTo, limit_of};
+ghost use Rattle.pat_session.specs.Asking.{Asks, IsAsked};
 
 use crate::Command;
 use pat_answers::Answer;
 use pat_command_print::answer_print;
 use pat_command_run::answer_run;
-use pat_input::Input;
+use pat_input::{Input, InputError, read_tokens};
+use pat_ports::Source;
 use std::alloc::{AllocError, Global};
 
+/// What there is to answer.
+#[derive(Drop)]
+pub enum Asked {
+    Print(Input),
+    Run(Input),
+}
+
 /// What a command answers on this input.
-pub fn answer_to(alloc: Global, command: Command, input: Input) -> Result<Answer, AllocError>
-    requires { (bytes : List ℕ) × IsRead bytes input }
-    ensures { (bytes : List ℕ) → IsRead bytes input → IfOk result (λ a. AllowedTo command bytes a.text.items a.status) }
+pub fn answer_to(alloc: Global, asked: Asked) -> Result<Answer, AllocError>
+    requires { IsAsked asked }
+    ensures { (command : Command) (bytes : List ℕ) → Asks command bytes asked → IfOk result (λ a. AllowedTo command bytes a.text.items a.status) }
+{
+    match asked {
+        Asked::Print(input) => answer_print(alloc, input),
+        Asked::Run(input) => answer_run(alloc, input),
+    }
+}
+
+/// Reads what the command asks for.
+pub fn read_asked<S: Source>(
+    alloc: Global,
+    command: Command,
+    source: &mut S,
+) -> Result<Asked, InputError>
+    ensures ok { IfOk result (λ asked. (bytes : List ℕ) × IsInputWithin (limit_of command) (S.rest source.old) (S.rest source.new) bytes × Asks command bytes asked × (length bytes ≤ limit_of command → EndsThere (S.reach source.old) (S.reach source.new))) }
+    ensures faults { FaultsAfter (S.faults source.old) (S.faults source.new) result }
+    ensures one_end { EndsOnce (S.reach source.old) (S.reach source.new) }
 {
     match command {
-        Command::Print => answer_print(alloc, input),
-        Command::Run => answer_run(alloc, input),
+        Command::Print => Ok(Asked::Print(read_tokens(alloc, source)?)),
+        Command::Run => Ok(Asked::Run(read_tokens(alloc, source)?)),
     }
 }

@@ -9,11 +9,11 @@ ghost use Rattle.pat_session.specs.Ports.{source_state, sink_state};
 ghost use Rattle.pat_session.specs.Calls.{Call, ReadsAll};
 
 use crate::Command;
-use crate::commands::answer_to;
+use crate::commands::{answer_to, read_asked};
 use crate::output::written;
 use crate::words::command_of;
 use pat_answers::Status;
-use pat_input::{InputError, read_tokens};
+use pat_input::InputError;
 use pat_ports::{Gate, Sink, Source};
 use std::alloc::{AllocError, Global};
 
@@ -78,12 +78,12 @@ fn respond<S: Source, K: Sink>(
 fn obey<S: Source, K: Sink>(alloc: Global, command: Command, source: &mut S, sink: &mut K) -> Status
     ensures { (words : List (List ℕ)) → IsCommand command words → Call words (source_state S.rest S.faults S.reach source.old) (source_state S.rest S.faults S.reach source.new) (sink_state K.taken K.handed K.faults sink.old) (sink_state K.taken K.handed K.faults sink.new) result }
 {
-    let input = match read_tokens(alloc, source) {
-        Ok(input) => input,
+    let asked = match read_asked(alloc, command, source) {
+        Ok(asked) => asked,
         Err(InputError::Failed) => return Status::ReadFault,
         Err(InputError::NoMemory) => return Status::NoMemory,
     };
-    match answer_to(alloc, command, input) {
+    match answer_to(alloc, asked) {
         Ok(answer) => written(sink, answer.text.as_slice(), answer.status),
         Err(AllocError) => Status::NoMemory,
     }
