@@ -1,0 +1,5 @@
+mod Pairs
+mod FirstTurns
+mod SecondTurns
+mod Steps
+mod Ties

@@ -1,0 +1,4 @@
+pub mod Stacks
+pub mod Ascending
+pub mod Replacing
+pub mod Deriving

@@ -1,0 +1,14 @@
+//! Patterns in which variables are replaced, and derivatives by a variable: each stops where what it makes is too large.
+//! Neither recurses: what is still to be done, and what is made, stand on stacks.
+#![tactic(auto)]
+
+mod derivatives;
+mod joining;
+mod replacement;
+mod replacing;
+mod searching;
+
+pub use derivatives::derivative;
+pub use replacement::Replacement;
+pub use replacing::replaced;
+pub use searching::find_variable;

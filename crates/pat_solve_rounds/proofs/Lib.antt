@@ -1,0 +1,3 @@
+pub mod Rebuilt
+mod Turning
+mod Kept

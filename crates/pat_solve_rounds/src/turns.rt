@@ -1,0 +1,70 @@
+// Variables replaced one after another.
+ghost use Rattle.std.specs.Prelude.{◌≡◌, ◌<◌, length, get_or};
+ghost use Rattle.std.specs.List.{AllByRecursion};
+ghost use Rattle.pat_words.specs.Patterns.{Zero};
+ghost use Rattle.pat_inclusions.specs.ClosedForms.{is_small};
+ghost use Rattle.pat_solving.specs.Assignments.{put_one as put_one_of, put_in_turn};
+ghost use Rattle.pat_solve_sizes.specs.Views.{measured_view, measured_list};
+ghost use Rattle.pat_solve_replacing.specs.Ascending.{IsAscending, paired};
+ghost use Rattle.pat_solve_rounds.specs.Rounds.{IsRebuilt, turn_fits};
+ghost use Rattle.pat_solve_rounds.specs.Results.{Gives};
+
+use crate::error::RoundError;
+use crate::occurring::next_place;
+use crate::replacing::put_one;
+use pat_solve_sizes::Measured;
+use std::alloc::Global;
+
+/// The pattern in which ascending variables are replaced by their values, one after another: a value may have variables that are
+/// replaced after it. Where a variable doesn't occur, it is passed over.
+pub fn in_turn(
+    alloc: Global,
+    variables: &[u32],
+    values: &[Measured],
+    f: &Measured,
+) -> Result<Measured, RoundError>
+    requires ascending { IsAscending variables.now }
+    requires as_many { length variables.now ≡ length values.now }
+    requires rebuilt { AllByRecursion IsRebuilt (measured_list values.now) }
+    ensures { let vs = paired variables.now (measured_list values.now) in Gives result (turn_fits vs (measured_view f.now)) (put_in_turn vs (measured_view f.now)) }
+{
+    let copy = f.copy(alloc)?;
+    each_turn(alloc, variables, values, copy)
+}
+
+/// So in a pattern of one's own.
+fn each_turn(
+    alloc: Global,
+    variables: &[u32],
+    values: &[Measured],
+    f: Measured,
+) -> Result<Measured, RoundError>
+    requires ascending { IsAscending variables.now }
+    requires as_many { length variables.now ≡ length values.now }
+    requires rebuilt { AllByRecursion IsRebuilt (measured_list values.now) }
+    ensures { let vs = paired variables.now (measured_list values.now) in Gives result (turn_fits vs (measured_view f)) (put_in_turn vs (measured_view f)) }
+{
+    let mut made = f;
+    let mut place = 0;
+    while place < variables.len() {
+        made = turn(alloc, variables, values, place, &made)?;
+        place = next_place(alloc, &made.pattern, variables, place + 1)?;
+    }
+    Ok(made)
+}
+
+/// The pattern in which the variable at the place is replaced by the value there.
+fn turn(
+    alloc: Global,
+    variables: &[u32],
+    values: &[Measured],
+    place: usize,
+    made: &Measured,
+) -> Result<Measured, RoundError>
+    requires as_many { length variables.now ≡ length values.now }
+    requires place { place < length variables.now }
+    ensures { let next = put_one_of (get_or variables.now place 0) (get_or (measured_list values.now) place Zero) (measured_view made.now) in Gives result (is_small next) next }
+{
+    let value = &values[place];
+    put_one(alloc, variables[place], value, made)
+}
