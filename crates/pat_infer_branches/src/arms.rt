@@ -11,7 +11,7 @@ ghost use Rattle.pat_infer_needs.specs.Gathering.{Gathers};
 ghost use Rattle.pat_infer_branches.specs.Arms.{arm_view};
 
 use pat_core::{Clause, Program};
-use pat_infer_needs::{column_of, do_agree, gather_branches, names_of, without};
+use pat_infer_needs::{column_of, do_agree, first_places, gather_branches, names_of, without};
 use pat_infer_problems::{InferError, Problem, Rule, check_node};
 use pat_sequences::Sequence;
 use pat_types::{MailboxType, copy_needs};
@@ -112,8 +112,9 @@ fn agree_on(
 ) -> Result<bool, AllocError>
     ensures { IfOk result (λ holds. first_of (unless holds BranchRule (AtNode node)) ≡ first_of (each_unless (λ z. branches_agree (column_at z (map needs_view branches.now))) BranchRule (λ z. AtNode node) names.now)) }
 {
+    let mut cursors = first_places(alloc, branches)?;
     for name in names {
-        let column = column_of(alloc, branches, *name)?;
+        let column = column_of(alloc, branches, &mut cursors, *name)?;
         if !do_agree(column.as_slice()) {
             return Ok(false);
         }

@@ -14,7 +14,9 @@ ghost use Rattle.pat_infer_lets.specs.Lets.{own_let};
 ghost use Rattle.pat_infer_problems.specs.Walked.{Infers};
 
 use pat_core::{Kind, Program};
-use pat_infer_needs::{find, gather_parts, is_receiver, is_second, names_of_parts};
+use pat_infer_needs::{
+    find, find_next, first_place, gather_parts, is_receiver, is_second, names_of_parts,
+};
 use pat_infer_problems::{InferError, Problem, Rule, check_node};
 use pat_patterns::Pattern;
 use pat_primitives::{Base, Polarity};
@@ -114,8 +116,12 @@ fn are_in_order(
 ) -> bool
     ensures { first_of (unless result OrderRule (AtNode node)) ≡ first_of (each_unless (λ z. in_order (need_of (needs_view bound.now) z) (need_of (needs_view body.now) z)) OrderRule (λ z. AtNode node) names.now) }
 {
+    let mut in_bound = first_place();
+    let mut in_body = first_place();
     for name in names {
-        if !is_in_order(find(bound, *name as usize), find(body, *name as usize)) {
+        let one = find_next(bound, &mut in_bound, *name);
+        let other = find_next(body, &mut in_body, *name);
+        if !is_in_order(one, other) {
             return false;
         }
     }
@@ -154,8 +160,12 @@ fn receive_once(
 ) -> bool
     ensures { first_of (unless result DoubleRule (AtNode node)) ≡ first_of (each_unless (λ z. one_receives (need_of (needs_view bound.now) z) (need_of (needs_view body.now) z)) DoubleRule (λ z. AtNode node) names.now) }
 {
+    let mut in_bound = first_place();
+    let mut in_body = first_place();
     for name in names {
-        if !receives_once(find(bound, *name as usize), find(body, *name as usize)) {
+        let one = find_next(bound, &mut in_bound, *name);
+        let other = find_next(body, &mut in_body, *name);
+        if !receives_once(one, other) {
             return false;
         }
     }

@@ -1,3 +1,5 @@
 mod Putting
+mod Naming
 mod Gathered
+mod LookUps
 pub mod Listed

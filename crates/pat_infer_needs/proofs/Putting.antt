@@ -9,10 +9,10 @@ use Rattle.pat_words.proofs.FormLaws.{pat_eq_refl}
 use Rattle.pat_typing.specs.Types as types
 use Rattle.pat_open_types.specs.NodeTypes.{Needs}
 use Rattle.pat_model.specs.Programs.{is_among}
-use Rattle.pat_inference.specs.Needs.{put, needs_but, add}
+use Rattle.pat_inference.specs.Needs.{put, needs_but}
 use Rattle.pat_types.specs.Views.{need_view, needs_view, type_view}
 use Rattle.pat_types.specs.declared.types.MailboxType.{MailboxType}
-use Rattle.pat_infer_needs.specs.Stopping.{StopsAt, first_is, NameStopsAt, first_name_is}
+use Rattle.pat_infer_needs.specs.Stopping.{StopsAt, first_is}
 
 pub put_behind : (x : ℕ) (a : types.MailboxType) (front rest : List (ℕ × MailboxType)) → AllByRecursion (λ e. e.0 < x) front → put x a (needs_view (front ++ rest)) ≡ needs_view front ++ put x a (needs_view rest)
 put_behind x a [] rest h = refl
@@ -59,34 +59,6 @@ put_new x of [] (suc n) h s f = refl
 put_new x of (e ∷ es) zero h s f = sym (put_before x (type_view of) (e ∷ es) s f)
 put_new x of (e ∷ es) (suc n) h s f =
     ap (λ zs. need_view e ∷ zs) (put_new x of es n h.1 s f) ∙ sym (put_behind x (type_view of) (e ∷ []) es (h.0, tt))
-
--- ---- names
-
-add_behind : (x z : ℕ) (zs : List ℕ) → z < x → add x (z ∷ zs) ≡ z ∷ add x zs
-add_behind x z zs l =
-    let not_less : nat_lt x z ≡ false = false_from_ne_true (nat_lt x z) (λ q. let m = ltb-true x z q in omega arith) in
-    let apart : nat_eq x z ≡ false = ne_eqb x z (λ q. omega arith) in
-    cond-false (nat_lt x z) (x ∷ z ∷ zs) (if nat_eq x z then z ∷ zs else z ∷ add x zs) not_less
-    ∙ cond-false (nat_eq x z) (z ∷ zs) (z ∷ add x zs) apart
-
-pub add_found : (x : ℕ) (zs : List ℕ) (n : ℕ) → AllByRecursion (λ z. z < x) (take n zs) → first_name_is x (drop n zs) ≡ true → zs ≡ add x zs
-add_found x [] zero h f = cc
-add_found x [] (suc n) h f = cc
-add_found x (z ∷ zs) zero h f =
-    let same : x ≡ z = eqb-true x z f in
-    let not_less : nat_lt x z ≡ false = false_from_ne_true (nat_lt x z) (λ q. let m = ltb-true x z q in omega arith) in
-    sym (cond-false (nat_lt x z) (x ∷ z ∷ zs) (if nat_eq x z then z ∷ zs else z ∷ add x zs) not_less
-    ∙ cond-true (nat_eq x z) (z ∷ zs) (z ∷ add x zs) f)
-add_found x (z ∷ zs) (suc n) h f = ap (λ ys. z ∷ ys) (add_found x zs n h.1 f) ∙ sym (add_behind x z zs h.0)
-
-pub add_new : (x : ℕ) (zs : List ℕ) (n : ℕ) → AllByRecursion (λ z. z < x) (take n zs) → NameStopsAt x (drop n zs) → first_name_is x (drop n zs) ≡ false → insert zs n x ≡ add x zs
-add_new x [] zero h s f = refl
-add_new x [] (suc n) h s f = refl
-add_new x (z ∷ zs) zero h s f =
-    let differ : x ≡ z → ⊥ = λ q. let same : nat_eq x z ≡ true = eq-eqb x z q in let clash : true ≡ false = sym same ∙ f in cc in
-    let less : nat_lt x z ≡ true = lt-ltb x z (omega arith) in
-    sym (cond-true (nat_lt x z) (x ∷ z ∷ zs) (if nat_eq x z then z ∷ zs else z ∷ add x zs) less)
-add_new x (z ∷ zs) (suc n) h s f = ap (λ ys. z ∷ ys) (add_new x zs n h.1 s f) ∙ sym (add_behind x z zs h.0)
 
 -- ---- needs without names
 

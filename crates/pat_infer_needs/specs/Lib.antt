@@ -2,3 +2,4 @@ pub mod Types
 pub mod Combining
 pub mod Stopping
 pub mod Gathering
+pub mod Looking

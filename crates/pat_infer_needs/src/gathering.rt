@@ -1,14 +1,14 @@
 // What a let, and what branches need, variable by variable.
-ghost use Rattle.std.specs.Prelude.{◌≡◌, ◌+◌, ◌++◌, length, map, option_map, IfOk, OnOk};
+ghost use Rattle.std.specs.Prelude.{◌≡◌, ◌+◌, ◌++◌, length, map, option_map, OnOk};
 ghost use Rattle.pat_inference.specs.Walk.{let_gathered};
-ghost use Rattle.pat_inference.specs.Needs.{names_of_two};
 ghost use Rattle.pat_types.specs.Views.{type_view, needs_view};
-ghost use Rattle.pat_infer_needs.specs.Combining.{column_view, combined_need};
-ghost use Rattle.pat_infer_needs.specs.Gathering.{Gathers, need_here, names_of_outer, column_at, outer_gathered};
+ghost use Rattle.pat_infer_needs.specs.Combining.{column_view};
+ghost use Rattle.pat_infer_needs.specs.Gathering.{Gathers, need_here, outer_gathered};
 
 use crate::branching::join_branches;
 use crate::joining::join_parts;
-use crate::needs::{add_names, find};
+use crate::looking::{column_of, find_next, first_place, first_places};
+use crate::names::{names_of, names_of_parts};
 use pat_core::Program;
 use pat_infer_problems::Problem;
 use pat_sequences::Sequence;
@@ -29,33 +29,21 @@ pub fn gather_parts(
 {
     let names = names_of_parts(alloc, bound, body)?;
     let mut needs = Sequence::new(alloc);
+    let mut in_bound = first_place();
+    let mut in_body = first_place();
     for name in names.as_slice() {
         let need = join_parts(
             alloc,
             program,
             node,
             *name,
-            find(bound, *name as usize),
-            find(body, *name as usize),
+            find_next(bound, &mut in_bound, *name),
+            find_next(body, &mut in_body, *name),
             problem,
         )?;
         push_need(&mut needs, *name, need)?;
     }
     Ok(needs)
-}
-
-/// The variables that one of the parts needs, in ascending order.
-pub fn names_of_parts(
-    alloc: Global,
-    bound: &[(u32, MailboxType)],
-    body: &[(u32, MailboxType)],
-) -> Result<Sequence<u32>, AllocError>
-    ensures { IfOk result (λ names. names ≡ names_of_two (needs_view bound.now) (needs_view body.now)) }
-{
-    let mut names = Sequence::new(alloc);
-    add_names(&mut names, body)?;
-    add_names(&mut names, bound)?;
-    Ok(names)
 }
 
 /// Adds a need at the end, if there is one.
@@ -72,37 +60,6 @@ fn push_need(
     }
 }
 
-/// The variables that some branch needs, in ascending order.
-pub fn names_of(
-    alloc: Global,
-    branches: &[Sequence<(u32, MailboxType)>],
-) -> Result<Sequence<u32>, AllocError>
-    ensures { IfOk result (λ names. names ≡ names_of_outer (map needs_view branches.now)) }
-{
-    let mut names = Sequence::new(alloc);
-    let mut place = branches.len();
-    while place > 0 {
-        place -= 1;
-        add_names(&mut names, branches[place].as_slice())?;
-    }
-    Ok(names)
-}
-
-/// What each branch needs of a variable.
-pub fn column_of<'a>(
-    alloc: Global,
-    branches: &'a [Sequence<(u32, MailboxType)>],
-    name: u32,
-) -> Result<Vec<Option<&'a MailboxType>>, AllocError>
-    ensures { IfOk result (λ column. column_view column.items ≡ column_at name (map needs_view branches.now)) }
-{
-    let mut column = Vec::new(alloc);
-    for needs in branches {
-        column.push(find(needs.as_slice(), name as usize))?;
-    }
-    Ok(column)
-}
-
 /// What the choice or guard at a node needs, from what its branches need beside their own names.
 #[tactic(auto, using(crate::proofs::Gathered::one_more))]
 pub fn gather_branches(
@@ -116,8 +73,9 @@ pub fn gather_branches(
 {
     let names = names_of(alloc, branches)?;
     let mut needs = Sequence::new(alloc);
+    let mut cursors = first_places(alloc, branches)?;
     for name in names.as_slice() {
-        let column = column_of(alloc, branches, *name)?;
+        let column = column_of(alloc, branches, &mut cursors, *name)?;
         let need = join_branches(alloc, program, node, *name, column.as_slice(), problem)?;
         push_need(&mut needs, *name, need)?;
     }

@@ -1,12 +1,11 @@
-// Needs as lists: look-ups, a need put among others, needs without some names, and the names of two.
+// Needs as lists: a look-up, a need put among others, and needs without some names.
 ghost use Rattle.std.specs.Prelude.{◌≡◌, ◌≤◌, ◌<◌, length, take, drop, option_map, IfOk, OnOk};
 ghost use Rattle.std.specs.List.{AllByRecursion};
-ghost use Rattle.std.specs.Map.{keys_of};
 ghost use Rattle.pat_model.specs.Programs.{is_among};
 ghost use Rattle.pat_open_types.specs.NodeTypes.{need_of};
-ghost use Rattle.pat_inference.specs.Needs.{put as put_need, needs_but, add, add_all};
+ghost use Rattle.pat_inference.specs.Needs.{put as put_need, needs_but};
 ghost use Rattle.pat_types.specs.Views.{type_view, needs_view};
-ghost use Rattle.pat_infer_needs.specs.Stopping.{StopsAt, first_is, NameStopsAt, first_name_is};
+ghost use Rattle.pat_infer_needs.specs.Stopping.{StopsAt, first_is};
 
 use pat_sequences::Sequence;
 use pat_types::MailboxType;
@@ -84,53 +83,4 @@ pub fn is_named(names: &[u32], variable: u32) -> bool
         }
     }
     false
-}
-
-/// The names, with the variables that are needed among them, each once and in ascending order if the names are so.
-pub fn add_names(names: &mut Sequence<u32>, needs: &[(u32, MailboxType)]) -> Result<(), AllocError>
-    ensures { OnOk result (names.new ≡ add_all (keys_of (needs_view needs.now)) names.old) }
-{
-    let mut place = needs.len();
-    while place > 0 {
-        place -= 1;
-        add_name(names, needs[place].0)?;
-    }
-    Ok(())
-}
-
-fn add_name(names: &mut Sequence<u32>, variable: u32) -> Result<(), AllocError>
-    ensures { OnOk result (names.new ≡ add variable names.old) }
-{
-    let place = name_place(names.as_slice(), variable);
-    if is_name_at(names.as_slice(), place, variable) {
-        return Ok(());
-    }
-    names.items.insert(place, variable)?;
-    Ok(())
-}
-
-/// How many of the names are lesser.
-fn name_place(names: &[u32], variable: u32) -> usize
-    ensures within { result ≤ length names.now }
-    ensures front { AllByRecursion (λ z. z < variable) (take result names.now) }
-    ensures behind { NameStopsAt variable (drop result names.now) }
-{
-    let mut place = 0;
-    for other in names {
-        if *other >= variable {
-            return place;
-        }
-        place += 1;
-    }
-    place
-}
-
-/// Whether the name at a place is the variable.
-fn is_name_at(names: &[u32], place: usize, variable: u32) -> bool
-    ensures { result ≡ first_name_is variable (drop place names.now) }
-{
-    match names.get(place) {
-        Some(other) => variable == *other,
-        None => false,
-    }
 }

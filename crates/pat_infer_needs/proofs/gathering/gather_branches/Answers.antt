@@ -23,7 +23,11 @@ loop-name-preserved c =
     let need = c.in_ok-need.need in
     let k = 1 + length now.vars in
     let next_place : suc i ≡ i + 1 = omega arith in
-    one_more p f c.args.problem.now now next c.loop-name.needs c.push_need.new.needs need items (drop (i + 1) items) x
-    (subst (λ xs. Gathering p f c.args.problem.now now c.loop-name.needs items xs k) (drop-cons items i 0 c.loop-name-test.true ∙ ap (λ j. x ∷ drop j items) next_place) c.loop-name.invariant)
-    (subst (λ os. IsCombined p now next need (branches n k x os)) (ap column_view c.as_slice.ensures.value ∙ c.in_ok-column.ensures) c.in_ok-need.ensures)
-    c.in_ok-push_need.ensures
+    record {
+      gathered =
+          one_more p f c.args.problem.now now next c.loop-name.needs c.push_need.new.needs need items (drop (i + 1) items) x
+          (subst (λ xs. Gathering p f c.args.problem.now now c.loop-name.needs items xs k) (drop-cons items i 0 c.loop-name-test.true ∙ ap (λ j. x ∷ drop j items) next_place) c.loop-name.invariant.gathered)
+          (subst (λ os. IsCombined p now next need (branches n k x os)) (ap column_view c.as_slice.ensures.value ∙ c.in_ok-column.ensures.column) c.in_ok-need.ensures)
+          c.in_ok-push_need.ensures;
+      at = c.in_ok-column.ensures.at;
+    }

@@ -23,8 +23,13 @@ loop-name-preserved c =
     let need = c.in_ok-need.need in
     let k = 1 + length now.vars in
     let next_place : suc i ≡ i + 1 = omega arith in
-    one_more p f c.args.problem.now now next c.loop-name.needs c.push_need.new.needs need items (drop (i + 1) items) x
-    (subst (λ xs. Gathering p f c.args.problem.now now c.loop-name.needs items xs k) (drop-cons items i 0 c.loop-name-test.true ∙ ap (λ j. x ∷ drop j items) next_place) c.loop-name.invariant)
-    (subst (λ o. IsCombined p now next need (both_parts n k x (need_of bound x) o)) c.find-in-loop-name.ensures
-    (subst (λ o. IsCombined p now next need (both_parts n k x o (need_ref c.find-in-loop-name.result))) c.find.ensures c.in_ok-need.ensures))
-    c.in_ok-push_need.ensures
+    record {
+      gathered =
+          one_more p f c.args.problem.now now next c.loop-name.needs c.push_need.new.needs need items (drop (i + 1) items) x
+          (subst (λ xs. Gathering p f c.args.problem.now now c.loop-name.needs items xs k) (drop-cons items i 0 c.loop-name-test.true ∙ ap (λ j. x ∷ drop j items) next_place) c.loop-name.invariant.gathered)
+          (subst (λ o. IsCombined p now next need (both_parts n k x (need_of bound x) o)) c.find_next-in-loop-name.ensures.found
+          (subst (λ o. IsCombined p now next need (both_parts n k x o (need_ref c.find_next-in-loop-name.result))) c.find_next.ensures.found c.in_ok-need.ensures))
+          c.in_ok-push_need.ensures;
+      bound = c.find_next.ensures.at;
+      body = c.find_next-in-loop-name.ensures.at;
+    }
