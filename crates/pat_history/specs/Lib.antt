@@ -1,1 +1,1 @@
-pub mod HistoryText
+pub mod Answers

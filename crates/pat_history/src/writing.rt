@@ -3,7 +3,7 @@ ghost use Rattle.std.specs.Prelude.{◌≡◌, ◌++◌, ◌∷◌, [], Some, ma
 ghost use Rattle.std.specs.Fmt.{decimal};
 ghost use Rattle.pat_model.specs.Runs.{IsShared, IsSharedOrNone, IsHistory};
 ghost use Rattle.pat_reduce.specs.Views.{act_view, entry_view};
-ghost use Rattle.pat_history.specs.HistoryText.{act_word, entry_line, history_text, NamesNoMessage};
+ghost use Rattle.pat_history_text.specs.HistoryText.{act_word, entry_line, history_text, NamesNoMessage};
 
 use pat_decimal::push_number;
 use pat_reduce::{Act, Entry};

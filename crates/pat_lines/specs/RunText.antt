@@ -4,7 +4,7 @@ use Rattle.std.specs.List.{flat_map}
 use Rattle.std.specs.Fmt.{decimal}
 use Rattle.pat_model.specs.Configs.{Thread, Config}
 use Rattle.pat_model.specs.Runs.{Entry, Outcome, EndDone, EndWaiting, EndFull, EndBudget}
-use Rattle.pat_history.specs.HistoryText.{line, spaced, history_text}
+use Rattle.pat_history_text.specs.HistoryText.{line, spaced, history_text}
 
 -- a line that was printed
 abbrev pub output_line : List ℕ → List ℕ

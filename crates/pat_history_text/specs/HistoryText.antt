@@ -26,11 +26,18 @@ act_word (Some ActFree) = codes "free"
 act_word (Some (ActReceive m)) = spaced (codes "receive") (decimal m)
 
 -- worker, thread, count of local steps, and the shared act
+abbrev pub entry_words : Entry → List ℕ
+entry_words e = spaced (decimal e.worker) (spaced (decimal e.thread) (spaced (decimal e.local_steps) (act_word e.shared)))
+
 abbrev pub entry_line : Entry → List ℕ
-entry_line e = line (spaced (decimal e.worker) (spaced (decimal e.thread) (spaced (decimal e.local_steps) (act_word e.shared))))
+entry_line e = line (entry_words e)
+
+-- the first line
+abbrev pub marker : List ℕ
+marker = codes "%%history"
 
 abbrev pub history_text : List Entry → List ℕ
-history_text entries = line (codes "%%history") ++ flat_map entry_line entries
+history_text entries = line marker ++ flat_map entry_line entries
 
 -- an act whose word says all of it
 abbrev pub NamesNoMessage : Act → Type 0

@@ -1,0 +1,3 @@
+pub mod HistoryText
+pub mod EntryReading
+pub mod Reading

@@ -1,0 +1,4 @@
+mod Cuts
+mod Entries
+mod Lines
+mod Ways

@@ -1,0 +1,151 @@
+// Options, two words each.
+ghost use Rattle.std.specs.Prelude.{◌≡◌, map, string_bytes, IfSome};
+ghost use Rattle.pat_pattern_text.specs.Numbers as numbers;
+ghost use Rattle.pat_options.specs.Options as chosen;
+
+/// How many steps a run may take, and how many messages may be pending in it.
+#[derive(Clone, Copy, Debug, PartialEq, Eq)]
+pub struct RunOptions {
+    /// From 0 to 1,000,000.
+    pub steps: u32,
+    /// From 1 to 1,000,000.
+    pub messages: u32,
+}
+
+// What the words before chose.
+#[derive(Clone, Copy)]
+struct Choice {
+    steps: Option<u32>,
+    messages: Option<u32>,
+}
+
+/// The options that the words choose: `--steps` and `--messages`, each with a number and at most once, in any order. None where the
+/// words are no options.
+pub fn options_of(words: &[String]) -> Option<RunOptions>
+    ensures chosen { result ≡ chosen.options_of (map string_bytes words.now) }
+    ensures within { IfSome result chosen.IsWithin }
+{
+    let nothing = Choice {
+        steps: None,
+        messages: None,
+    };
+    match choices(words, nothing) {
+        Some(choice) => Some(with_defaults(choice)),
+        None => None,
+    }
+}
+
+fn choices(words: &[String], choice: Choice) -> Option<Choice>
+    requires { chosen.ChosenWithin choice }
+    ensures chosen { result ≡ chosen.choices choice (map string_bytes words.now) }
+    ensures within { IfSome result chosen.ChosenWithin }
+{
+    match words {
+        [] => Some(choice),
+        [_] => None,
+        [name, number, rest @ ..] => {
+            match with_option(choice, name.as_bytes(), number.as_bytes()) {
+                Some(more) => choices(rest, more),
+                None => None,
+            }
+        }
+    }
+}
+
+fn with_option(choice: Choice, name: &[u8], number: &[u8]) -> Option<Choice>
+    requires { chosen.ChosenWithin choice }
+    ensures chosen { result ≡ chosen.with_option choice name.now number.now }
+    ensures within { IfSome result chosen.ChosenWithin }
+{
+    if name == b"--steps".as_slice() {
+        with_steps(choice, number_of(number))
+    } else if name == b"--messages".as_slice() {
+        with_messages(choice, number_of(number))
+    } else {
+        None
+    }
+}
+
+fn with_steps(choice: Choice, number: Option<u32>) -> Option<Choice>
+    requires { chosen.ChosenWithin choice }
+    ensures chosen { result ≡ chosen.with_steps choice number }
+    ensures within { IfSome result chosen.ChosenWithin }
+{
+    match number {
+        Some(steps) => {
+            if choice.steps.is_none() && steps <= 1_000_000 {
+                Some(Choice {
+                    steps: Some(steps),
+                    messages: choice.messages,
+                })
+            } else {
+                None
+            }
+        }
+        None => None,
+    }
+}
+
+fn with_messages(choice: Choice, number: Option<u32>) -> Option<Choice>
+    requires { chosen.ChosenWithin choice }
+    ensures chosen { result ≡ chosen.with_messages choice number }
+    ensures within { IfSome result chosen.ChosenWithin }
+{
+    match number {
+        Some(messages) => {
+            if choice.messages.is_none() && (1 <= messages && messages <= 1_000_000) {
+                Some(Choice {
+                    steps: choice.steps,
+                    messages: Some(messages),
+                })
+            } else {
+                None
+            }
+        }
+        None => None,
+    }
+}
+
+// The number that one to seven decimal digits spell.
+fn number_of(word: &[u8]) -> Option<u32>
+    ensures { result ≡ chosen.number_of word.now }
+{
+    if 1 <= word.len() && word.len() <= 7 {
+        read_digits(word)
+    } else {
+        None
+    }
+}
+
+fn read_digits(word: &[u8]) -> Option<u32>
+    ensures { result ≡ numbers.read_digits 0 word.now }
+{
+    let mut number: u32 = 0;
+    for byte in word {
+        if !byte.is_ascii_digit() {
+            return None;
+        }
+        let next = number as u64 * 10 + (*byte - b'0') as u64;
+        if next > 4294967295 {
+            return None;
+        }
+        number = next as u32;
+    }
+    Some(number)
+}
+
+fn with_defaults(choice: Choice) -> RunOptions
+    requires { chosen.ChosenWithin choice }
+    ensures chosen { result ≡ chosen.with_defaults choice }
+    ensures within { chosen.IsWithin result }
+{
+    let steps = match choice.steps {
+        Some(steps) => steps,
+        None => 100_000,
+    };
+    let messages = match choice.messages {
+        Some(messages) => messages,
+        None => 1_000_000,
+    };
+    RunOptions { steps, messages }
+}
