@@ -37,12 +37,11 @@ pub fn each_of(alloc: Global, tags: u8) -> Result<Pattern, AllocError> {
     Ok(all)
 }
 
-/// A message and the next variable, or none, for each of `count` variables; the last one is a message.
+/// For each of `count` variables the next one, and for the last a message.
 pub fn chain(alloc: Global, count: u32) -> Result<Vec<Pattern>, AllocError> {
     let mut system = Vec::new(alloc);
     for i in 1..count {
-        let more = product(alloc, Pattern::Tag((i % 4) as u8), Pattern::Var(i))?;
-        system.push(sum(alloc, more, Pattern::One)?)?;
+        system.push(Pattern::Var(i))?;
     }
     system.push(Pattern::Tag(0))?;
     Ok(system)
