@@ -14,7 +14,8 @@ use Rattle.pat_inference.specs.Branches.{Arm, outer_needs, arm_names, arm_needs,
 use Rattle.pat_inference.specs.Walk.{arms_findings, arms_gathered}
 use Rattle.pat_infer_needs.specs.Types.{types_at}
 use Rattle.pat_infer_terms.proofs.Payloads.{names_by}
-use Rattle.pat_infer_needs.specs.Gathering.{names_of_outer, column_at, outer_gathered}
+use Rattle.pat_infer_names.specs.Names.{names_of_outer}
+use Rattle.pat_infer_needs.specs.Gathering.{column_at, outer_gathered}
 
 same_column : (x : ℕ) (arms : List Arm) → column_at x (map outer_needs arms) ≡ arm_needs x arms
 same_column x [] = refl

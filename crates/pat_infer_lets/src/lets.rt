@@ -14,9 +14,8 @@ ghost use Rattle.pat_infer_lets.specs.Lets.{own_let};
 ghost use Rattle.pat_infer_problems.specs.Walked.{Infers};
 
 use pat_core::{Kind, Program};
-use pat_infer_needs::{
-    find, find_next, first_place, gather_parts, is_receiver, is_second, names_of_parts,
-};
+use pat_infer_names::names_of_parts;
+use pat_infer_needs::{find, find_next, first_place, gather_parts, is_receiver, is_second};
 use pat_infer_problems::{InferError, Problem, Rule, check_node};
 use pat_patterns::Pattern;
 use pat_primitives::{Base, Polarity};

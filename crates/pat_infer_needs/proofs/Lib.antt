@@ -1,5 +1,4 @@
 mod Putting
-mod Naming
 mod Gathered
 mod LookUps
 pub mod Listed

@@ -1,9 +1,8 @@
 -- What is needed by several parts, variable by variable, against what is gathered.
 use Rattle.std.specs.Prelude.{◌≡◌, ℕ, List, [], ◌∷◌, map, Option, Some, None, Result, Ok, Err}
-use Rattle.std.specs.Map.{keys_of}
 use Rattle.pat_typing.specs.Types as types
 use Rattle.pat_open_types.specs.NodeTypes.{Needs, need_of}
-use Rattle.pat_inference.specs.Needs.{add_all, gather, Gathered}
+use Rattle.pat_inference.specs.Needs.{gather, Gathered}
 use Rattle.pat_inference.specs.Branches.{branches}
 use Rattle.pat_core.specs.declared.program.Program.{Program}
 use Rattle.pat_types.specs.Views.{needs_view}
@@ -11,6 +10,7 @@ use Rattle.pat_types.specs.declared.types.MailboxType.{MailboxType}
 use Rattle.pat_infer_problems.specs.Views.{placed_variable, placed_constraint}
 use Rattle.pat_infer_problems.specs.Growing.{Grows}
 use Rattle.pat_infer_problems.specs.declared.problem.Problem.{Problem}
+use Rattle.pat_infer_names.specs.Names.{names_of_outer}
 
 -- the need of a name, if there is one
 abbrev pub need_here : ℕ → Option types.MailboxType → Needs
@@ -28,11 +28,6 @@ Gathers p old new (Ok found) g = IsGathered p old new found g
 Gathers p old new (Err e) g = Unit {0}
 
 -- ---- branches, by what each needs beside its own names
-
--- the variables that some branch needs
-abbrev pub names_of_outer : List Needs → List ℕ
-names_of_outer [] = []
-names_of_outer (needs ∷ rest) = add_all (keys_of needs) (names_of_outer rest)
 
 -- what each branch needs of a variable
 abbrev pub column_at : ℕ → List Needs → List (Option types.MailboxType)

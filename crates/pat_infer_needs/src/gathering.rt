@@ -8,8 +8,8 @@ ghost use Rattle.pat_infer_needs.specs.Gathering.{Gathers, need_here, outer_gath
 use crate::branching::join_branches;
 use crate::joining::join_parts;
 use crate::looking::{column_of, find_next, first_place, first_places};
-use crate::names::{names_of, names_of_parts};
 use pat_core::Program;
+use pat_infer_names::{names_of, names_of_parts};
 use pat_infer_problems::Problem;
 use pat_sequences::Sequence;
 use pat_types::MailboxType;

@@ -7,7 +7,6 @@ mod gathering;
 mod joining;
 mod kinds;
 mod looking;
-mod names;
 mod needs;
 
 pub use arguments::{Arguments, args_needs, payload_types, type_at};
@@ -15,5 +14,4 @@ pub use branching::do_agree;
 pub use gathering::{gather_branches, gather_parts};
 pub use kinds::{is_receiver, is_second};
 pub use looking::{Cursor, column_of, find_next, first_place, first_places};
-pub use names::{names_of, names_of_parts};
 pub use needs::{find, is_named, put, without};

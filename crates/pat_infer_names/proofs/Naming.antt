@@ -3,7 +3,7 @@ use Rattle.std.proofs.Common.{◌≡◌, ℕ, ◌<◌, true, false, nat_eq, nat_
 use Rattle.std.specs.List.{AllByRecursion}
 use Rattle.std.proofs.lemmas.Bool.{cond-true, cond-false, ne_eqb, lt-ltb, false_from_ne_true, ltb-true, eqb-true, eq-eqb}
 use Rattle.pat_inference.specs.Needs.{add}
-use Rattle.pat_infer_needs.specs.Stopping.{has_lesser, first_is_name, put_on, IsLifted}
+use Rattle.pat_infer_names.specs.Names.{has_lesser, first_is_name, put_on, IsLifted}
 
 add_behind : (x z : ℕ) (zs : List ℕ) → z < x → add x (z ∷ zs) ≡ z ∷ add x zs
 add_behind x z zs l =

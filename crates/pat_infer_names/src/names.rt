@@ -4,8 +4,7 @@ ghost use Rattle.std.specs.Prelude.{◌≡◌, ◌<◌, ◌∷◌, false, map, I
 ghost use Rattle.std.specs.Map.{keys_of};
 ghost use Rattle.pat_inference.specs.Needs.{add, add_all, names_of_two};
 ghost use Rattle.pat_types.specs.Views.{needs_view};
-ghost use Rattle.pat_infer_needs.specs.Gathering.{names_of_outer};
-ghost use Rattle.pat_infer_needs.specs.Stopping.{put_on, IsLifted, has_lesser, first_is_name};
+ghost use Rattle.pat_infer_names.specs.Names.{names_of_outer, put_on, IsLifted, has_lesser, first_is_name};
 
 use pat_sequences::{Sequence, Stack};
 use pat_types::MailboxType;

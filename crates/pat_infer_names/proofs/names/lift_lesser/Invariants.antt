@@ -1,7 +1,7 @@
 use Rattle.std.proofs.Common.{◌≡◌, ◌<◌, length}
 use Rattle.std.specs.List.{AllByRecursion}
-use Rattle.pat_infer_needs.specs.Stopping.{put_on}
-use Rattle.pat_infer_needs.proofs.names.lift_lesser.Given as goal
+use Rattle.pat_infer_names.specs.Names.{put_on}
+use Rattle.pat_infer_names.proofs.names.lift_lesser.Given as goal
 
 abbrev pub decreases-loop-name : goal.decreases-loop-name
 decreases-loop-name l = length l.names

@@ -2,7 +2,7 @@ use Rattle.std.proofs.Common.{◌≡◌, ◌≤◌, length, drop}
 use Rattle.std.specs.Map.{keys_of}
 use Rattle.pat_inference.specs.Needs.{add_all}
 use Rattle.pat_types.specs.Views.{needs_view}
-use Rattle.pat_infer_needs.proofs.names.add_names.Given as goal
+use Rattle.pat_infer_names.proofs.names.add_names.Given as goal
 
 abbrev pub decreases-loop-place : goal.decreases-loop-place
 decreases-loop-place l = l.place

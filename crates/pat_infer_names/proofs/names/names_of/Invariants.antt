@@ -1,7 +1,7 @@
 use Rattle.std.proofs.Common.{◌≡◌, ◌≤◌, length, map, drop}
 use Rattle.pat_types.specs.Views.{needs_view}
-use Rattle.pat_infer_needs.specs.Gathering.{names_of_outer}
-use Rattle.pat_infer_needs.proofs.names.names_of.Given as goal
+use Rattle.pat_infer_names.specs.Names.{names_of_outer}
+use Rattle.pat_infer_names.proofs.names.names_of.Given as goal
 
 abbrev pub decreases-loop-place : goal.decreases-loop-place
 decreases-loop-place l = l.place

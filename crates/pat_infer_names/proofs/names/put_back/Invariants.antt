@@ -1,6 +1,6 @@
 use Rattle.std.proofs.Common.{◌≡◌, length}
-use Rattle.pat_infer_needs.specs.Stopping.{put_on}
-use Rattle.pat_infer_needs.proofs.names.put_back.Given as goal
+use Rattle.pat_infer_names.specs.Names.{put_on}
+use Rattle.pat_infer_names.proofs.names.put_back.Given as goal
 
 abbrev pub decreases-loop-name : goal.decreases-loop-name
 decreases-loop-name l = length l.left

@@ -1,5 +1,5 @@
 use Rattle.std.proofs.Common.{◌≡◌, ◌++◌, length}
-use Rattle.pat_infer_needs.proofs.names.listed.Given as goal
+use Rattle.pat_infer_names.proofs.names.listed.Given as goal
 
 abbrev pub decreases-loop-name : goal.decreases-loop-name
 decreases-loop-name l = length l.left

@@ -1,0 +1,10 @@
+//! Inference of whole texts: tests, and the program of a text for those who measure.
+#![tactic(auto)]
+
+mod programs;
+#[cfg(test)]
+mod tests;
+#[cfg(test)]
+mod written;
+
+pub use programs::program_of_text;
