@@ -1,0 +1,3 @@
+mod Gets
+mod Breaking
+mod FirstBad

@@ -1,0 +1,5 @@
+mod Taken
+mod CoverTags
+mod Plainly
+mod CutsShown
+mod Numbered

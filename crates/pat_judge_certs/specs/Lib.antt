@@ -1,0 +1,4 @@
+pub mod Numbering
+pub mod Views
+pub mod Plain
+pub mod Shown

@@ -1,0 +1,12 @@
+//! Certificates of a node: whether each inclusion that it needs is shown, and none is left over.
+#![tactic(auto)]
+
+mod covers;
+mod grids;
+mod inclusions;
+mod numbering;
+mod showing;
+mod trivial;
+
+pub use showing::are_shown;
+pub use trivial::plain_values;

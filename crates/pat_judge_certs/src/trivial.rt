@@ -1,0 +1,71 @@
+// Trivial inclusions.
+ghost use Rattle.std.specs.Prelude.{◌≡◌, ℕ, length, IsTrue, IfOk};
+ghost use Rattle.pat_words.specs.Substitutions.{has_values};
+ghost use Rattle.pat_inclusions.specs.Values.{Scope, is_formed};
+ghost use Rattle.pat_inclusions.specs.Certificates.{is_arm as is_arm_of, is_trivial as is_trivial_of};
+ghost use Rattle.pat_patterns.specs.Views.{pattern_view, patterns_view};
+ghost use Rattle.pat_derivations.specs.Views.{value_view, derivation_view};
+ghost use Rattle.pat_judge_certs.specs.Plain.{plain_value_of, all_plain};
+
+use pat_derivations::{Derivation, VarValue};
+use pat_judge_types::same_pattern;
+use pat_patterns::{Pattern, subst};
+use pat_sequences::Sequence;
+use std::alloc::{AllocError, Global};
+
+/// Whether the left side is the right one or one of its arms.
+fn is_arm(left: &Pattern, right: &Pattern) -> bool
+    ensures { result ≡ is_arm_of (pattern_view left.now) (pattern_view right.now) }
+{
+    match right {
+        Pattern::Sum(first, second) => {
+            same_pattern(left, right) || (is_arm(left, first) || is_arm(left, second))
+        }
+        _ => same_pattern(left, right),
+    }
+}
+
+/// The value where it is a pattern, and otherwise the variable.
+fn plain_value(alloc: Global, number: u32, value: &VarValue) -> Result<Pattern, AllocError>
+    ensures { IfOk result (λ p. pattern_view p ≡ plain_value_of number (value_view value.now)) }
+{
+    match value {
+        VarValue::Pattern(pattern) => pattern.copy(alloc),
+        VarValue::Grid { k: _, points: _ } => Ok(Pattern::Var(number)),
+    }
+}
+
+/// For each number of a variable, from 0, its value where that is a pattern, and otherwise the variable.
+pub fn plain_values(alloc: Global, derivation: &Derivation) -> Result<Sequence<Pattern>, AllocError>
+    ensures { IfOk result (λ plain. patterns_view plain ≡ all_plain (derivation_view derivation.now).vars) }
+{
+    let mut plain = Sequence::new(alloc);
+    plain.push(Pattern::Var(0))?;
+    let mut number: u32 = 0;
+    for (_, value) in derivation.vars.as_slice() {
+        number = match number.checked_add(1) {
+            None => return Err(AllocError),
+            Some(next) => next,
+        };
+        let own = plain_value(alloc, number, value)?;
+        plain.push(own)?;
+    }
+    Ok(plain)
+}
+
+/// Whether the left side is the right one or one of its arms, once the values that are patterns are put in. Both are patterns of
+/// an interface.
+pub fn is_trivial(
+    alloc: Global,
+    plain: &[Pattern],
+    left: &Pattern,
+    right: &Pattern,
+) -> Result<bool, AllocError>
+    requires left { IsTrue (has_values (length plain.now) (pattern_view left.now)) }
+    requires right { IsTrue (has_values (length plain.now) (pattern_view right.now)) }
+    ensures { IfOk result (λ yes. (s : Scope) (i : ℕ) → patterns_view plain.now ≡ all_plain s.vars → IsTrue (is_formed s i (pattern_view left.now)) → IsTrue (is_formed s i (pattern_view right.now)) → yes ≡ is_trivial_of s (pattern_view left.now) (pattern_view right.now)) }
+{
+    let left = subst(alloc, left, plain)?;
+    let right = subst(alloc, right, plain)?;
+    Ok(is_arm(&left, &right))
+}

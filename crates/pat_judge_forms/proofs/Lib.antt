@@ -1,0 +1,4 @@
+mod Large
+mod FormTags
+mod Powers
+mod Pushed

@@ -1,0 +1,9 @@
+//! Closed forms of patterns in which values are put, built only as far as they can be small.
+#![tactic(auto)]
+
+mod building;
+mod forms;
+mod point_patterns;
+mod replacing;
+
+pub use forms::form_of;
