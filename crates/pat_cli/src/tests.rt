@@ -40,6 +40,14 @@ fn answer(
     Ok((status, sink.taken().to_vec(alloc)?))
 }
 
+fn bad(offset: u32) -> Status {
+    Status::Refused(Verdict::BadText(offset))
+}
+
+fn refused(entry: u32) -> Status {
+    Status::Refused(Verdict::RefusedAt(entry))
+}
+
 fn broken(kind: ResolveKind, from: u32, to: u32) -> Status {
     Status::Refused(Verdict::Resolve(kind, Span { from, to }))
 }
@@ -221,12 +229,20 @@ fn each_rule_where_it_is_first_broken(rt: HostRuntime) -> Result<(), Fail> {
 #[test]
 fn words_that_are_no_command(rt: HostRuntime) -> Result<(), Fail> {
     let alloc = rt.alloc();
-    let rows: [&[&str]; 5] = [
+    let rows: [&[&str]; 13] = [
         &[],
         &["run", "run"],
         &["runs"],
         &["check"],
         &["print", "run"],
+        &["replay", "--steps", "1"],
+        &["run", "--steps"],
+        &["run", "--steps", "1000001"],
+        &["run", "--steps", "00000001"],
+        &["run", "--messages", "0"],
+        &["run", "--steps", "1", "--steps", "1"],
+        &["run", "--steps", "1", "--messages", "1", "--steps", "1"],
+        &["run", "--steps", "-1"],
     ];
     for words in rows {
         let (came, taken) = answer(alloc, words, FIRST, (8, 8), (0, 0))?;
@@ -234,6 +250,114 @@ fn words_that_are_no_command(rt: HostRuntime) -> Result<(), Fail> {
         assert_eq!(rt; taken.as_slice(), USAGE);
     }
     Ok(())
+}
+
+#[test]
+fn runs_with_options(rt: HostRuntime) -> Result<(), Fail> {
+    let alloc = rt.alloc();
+    let spent = Status::Budget;
+    let rows: [(&[&str], Status, &[u8]); 5] = [
+        (
+            &["run", "--steps", "0"],
+            spent,
+            b"%%history\n%%output\nbudget 0\n",
+        ),
+        (
+            &["run", "--steps", "0000003"],
+            spent,
+            b"%%history\n0 0 2 print\n%%output\nout 42\nbudget 3\n",
+        ),
+        (
+            &["run", "--messages", "1", "--steps", "2"],
+            spent,
+            b"%%history\n0 0 2 -\n%%output\nbudget 2\n",
+        ),
+        (&["run", "--messages", "1000000"], Status::Ok, FIRST_TEXT),
+        (
+            &["run", "--steps", "1000000", "--messages", "1"],
+            Status::Ok,
+            FIRST_TEXT,
+        ),
+    ];
+    for (words, status, text) in rows {
+        let (came, taken) = answer(alloc, words, FIRST, (8, 8), (0, 0))?;
+        assert_eq!(rt; came, status);
+        assert_eq!(rt; taken.as_slice(), text);
+    }
+    Ok(())
+}
+
+#[test]
+fn replay_rows(rt: HostRuntime) -> Result<(), Fail> {
+    let rows: [(&[u8], Status, &[u8]); 14] = [
+        (
+            b"def main(): Unit { () }\n%%history\n",
+            Status::Ok,
+            b"open 0\n",
+        ),
+        (
+            b"def main(): Unit { () }\n%%history\n0 0 0 end\n",
+            Status::Ok,
+            b"done 1\n",
+        ),
+        (
+            b"def main(): Unit { print(7) }\n%%history\n3 0 0 print\n%%output\nwhatever\n%%history\n",
+            Status::Ok,
+            b"out 7\nopen 1\n",
+        ),
+        (
+            b"def main(): Unit { () }\n%%history\n0 0 0 end\n0 0 0 end\n",
+            refused(1),
+            b"refused at entry 1\n",
+        ),
+        (
+            b"def main(): Unit { () }\n%%history\n0 1 0 end\n",
+            refused(0),
+            b"refused at entry 0\n",
+        ),
+        (
+            b"def main(): Unit { () }\n%%history\n0 0 0 -\n",
+            refused(0),
+            b"refused at entry 0\n",
+        ),
+        (
+            b"def main(): Unit { () }\n%%history\n0 0 1 end\n",
+            refused(0),
+            b"refused at entry 0\n",
+        ),
+        (
+            b"def main(): Unit { () }\n%%history\n0 0 00 end\n",
+            bad(34),
+            b"bad text at 34\n",
+        ),
+        (
+            b"def main(): Unit { () }\n%%history\n0 0 4294967296 end\n",
+            bad(34),
+            b"bad text at 34\n",
+        ),
+        (
+            b"def main(): Unit { () }\n%%history\n0 0 0 local\n",
+            bad(34),
+            b"bad text at 34\n",
+        ),
+        (
+            b"def main(): Unit { () }\n%%history\n0 0 0 end",
+            bad(34),
+            b"bad text at 34\n",
+        ),
+        (
+            b"def main(): Unit { () }\n%%history",
+            bad(24),
+            b"bad text at 24\n",
+        ),
+        (b"def main(): Unit { () }\n", bad(24), b"bad text at 24\n"),
+        (
+            b"def main() Unit { () }\n%%history\nnone\n",
+            Status::Refused(Verdict::Syntax(11)),
+            b"syntax error at 11\n",
+        ),
+    ];
+    try_rows(&rt, rt.alloc(), "replay", &rows)
 }
 
 // A program of so many lets in a row.

@@ -1,5 +1,4 @@
 mod Runs
-mod Answering
 mod Runnable
 -- for the crates above
 pub mod Statuses

@@ -1,64 +1,73 @@
--- What a finished run says of the program's runs.
-use Rattle.std.proofs.Common.{◌≡◌, ℕ, ◌-◌, Bool, true, false, not, nat_eq, List, [], ◌∷◌, length, Some, None, refl, sym, ap, ◌∙◌, subst, map}
-use Rattle.std.specs.Prelude.{if◌then◌else◌, ◌&&◌}
-use Rattle.std.specs.List.{AllByRecursion}
+-- What a finished run shows of its program.
+use Rattle.std.proofs.Common.{◌≡◌, ℕ, ◌+◌, ◌<◌, ◌≤◌, List, [], ◌∷◌, length, map, Option, Some, None, refl, sym, ap, ◌∙◌, subst, arith}
+use Rattle.std.specs.Prelude.{option_and_then}
+use Rattle.std.proofs.lemmas.List.{length-map}
 use Rattle.pat_model.specs.Programs.{Program}
 use Rattle.pat_model.specs.Configs.{Config, start}
-use Rattle.pat_model.specs.Runs.{Entry, Outcome, EndDone, EndWaiting, EndFull, EndBudget, outcome, has_threads, is_at_limit, can_step, can_step_without_sending, entry_steps, replay, step_count}
-use Rattle.pat_model_laws.specs.Laws.{history_steps}
-use Rattle.pat_model_laws.proofs.Replays.{replay_runs}
-use Rattle.pat_run.specs.Jobs.{Jobs}
-use Rattle.pat_run.specs.declared.finished.Finished.{Finished}
-use Rattle.pat_run.specs.Finished.{IsRun}
-use Rattle.pat_reduce.specs.declared.history.Outcome.TheVariants.{Waiting as CodeWaiting}
-use Rattle.pat_reduce.specs.Views.{config_view, entry_view, outcome_view}
+use Rattle.pat_model.specs.Steps.{Step}
+use Rattle.pat_model.specs.Runs.{Entry, IsHistory, entry_steps, entry_from, replay_from, replay, step_count}
+use Rattle.pat_core.specs.declared.program.Program.{Program as CodeProgram}
+use Rattle.pat_core.specs.Views.{program_view}
+use Rattle.pat_reduce.specs.declared.config.Config.{Config as CodeConfig}
+use Rattle.pat_reduce.specs.declared.history.Entry.{Entry as CodeEntry}
+use Rattle.pat_reduce.specs.Views.{config_view, entry_view}
+use Rattle.pat_commits.specs.Machines.{StaysWithin}
+use Rattle.pat_machine.specs.declared.job.Named.{Named}
+use Rattle.pat_machine.specs.Shown.{Shown, IsMachine, program_of, entries_of}
+use Rattle.pat_machine.specs.Gives.{outcome_view}
+use Rattle.pat_options.specs.declared.options.RunOptions.{RunOptions}
+use Rattle.pat_run.specs.declared.running.Finished.{Finished}
+use Rattle.pat_run.specs.Runs.{IsRun, RunGives}
 use Rattle.pat_lines.specs.RunText.{run_text}
 use Rattle.pat_answers.specs.declared.status.Status.{Status}
-use Rattle.pat_plain_laws.specs.Laws.{NeverWaits}
-use Rattle.pat_command_run.specs.Allowed.{EndsWith, RunShows}
+use Rattle.pat_command_run.specs.Allowed.{EndsWith, RunsTo, RunShows}
 
-waits : (threads can full spent : Bool) → (if not threads then Some EndDone else if not can then Some EndWaiting else if full then Some EndFull else if spent then Some EndBudget else None) ≡ Some EndWaiting → (threads ≡ true) × (can ≡ false)
-waits false can full spent h = cc
-waits true false full spent h = (refl, refl)
-waits true true true spent h = cc
-waits true true false true h = cc
-waits true true false false h = cc
+-- each entry of a history that replays has a step
+some_step : (p : Program) (c d : Config) (es : List Entry) (ks : List Step) → option_and_then (λ m. replay_from p m es) (entry_from p c ks) ≡ Some d → 0 < length ks
+some_step p c d es [] h = let clash : None ≡ Some d = h in cc
+some_step p c d es (k ∷ ks) h = omega arith
 
--- a history of a program that never waits doesn't end in waiting
-pub never_waits : (p : Program) (es : List Entry) (c : Config) (n b : ℕ) (o : Outcome) → NeverWaits p → replay p es ≡ Some c → outcome p c n b None ≡ Some o → o ≡ EndWaiting → ⊥
-never_waits p es c n b o never replayed ends is =
-    let w = waits (has_threads c.threads) (can_step p c) (is_at_limit None (length c.messages) && not (can_step_without_sending p c)) (nat_eq n b) (ends ∙ ap Some is) in
-    let goes = never (history_steps es) c (replay_runs p (start p) c es replayed).1 w.0 in
-    let clash : true ≡ false = sym goes ∙ w.1 in
-    cc
+record Goes (p : Program) (es : List Entry) (d : Config) : Type 0 where
+  from : Config
+  is : replay_from p from es ≡ Some d
 
--- the entries of jobs are of worker 0
-pub jobs_workers : (p : Program) (left : ℕ) (c : Config) (es : List Entry) (d : Config) → Jobs p left c es d → AllByRecursion (λ e. e.worker ≡ 0) es
-jobs_workers p left c [] d h = tt
-jobs_workers p left c (e ∷ es) d (m, j, rest) = (j.worker, jobs_workers p (left - length (entry_steps e)) m es d rest)
+goes : (p : Program) (d : Config) (es : List Entry) (o : Option Config) → option_and_then (λ m. replay_from p m es) o ≡ Some d → Goes p es d
+goes p d es None h = let clash : None ≡ Some d = h in absurd cc
+goes p d es (Some m) h = record { from = m; is = h }
 
--- a finished run of a program that never waits isn't waiting
-pub not_waiting : (q p : Program) (f : Finished) → q ≡ p → NeverWaits p → IsRun q 100000 f → f.outcome ≡ CodeWaiting → ⊥
-not_waiting q p f same never r is =
-    never_waits p (map entry_view f.entries) (config_view f.config) (step_count (map entry_view f.entries)) 100000 (outcome_view f.outcome) never
-    (subst (λ k. replay k (map entry_view f.entries) ≡ Some (config_view f.config)) same r.replayed)
-    (subst (λ k. outcome k (config_view f.config) (step_count (map entry_view f.entries)) 100000 None ≡ Some (outcome_view f.outcome)) same r.ends)
-    (ap outcome_view is)
+entries_few : (p : Program) (c d : Config) (es : List Entry) → replay_from p c es ≡ Some d → length es ≤ step_count es
+entries_few p c d [] h = omega arith
+entries_few p c d (e ∷ es) h =
+    let more = goes p d es (entry_from p c (entry_steps e)) h in
+    let some = some_step p c d es (entry_steps e) h in
+    let others = entries_few p more.from d es more.is in
+    omega (arith, some, others)
+
+-- a machine's history is short
+pub few_entries : (m : Shown) (h : List CodeEntry) (named : Named) → IsMachine m → h ≡ m.history → m.named ≡ named → named.budget ≤ 1000000 → length h < 4294967296
+few_entries m h named facts same is small =
+    let budget : m.named.budget ≡ named.budget = ap (λ (n : Named). n.budget) is in
+    let long : length (entries_of m) ≡ length h = length-map m.history entry_view ∙ ap length (sym same) in
+    let few = entries_few (program_of m) (start (program_of m)) m.config (entries_of m) facts.replayed in
+    let counted = facts.counted in
+    omega (arith, budget, long, few, counted, small)
+
+pub shown_history : (m : Shown) (h : List CodeEntry) → IsMachine m → h ≡ m.history → IsHistory (map entry_view h)
+shown_history m h facts same = subst (λ l. IsHistory (map entry_view l)) (sym same) facts.history
 
 -- a finished run shows its text and its status
-pub run_shows : (q p : Program) (f : Finished) (text : List ℕ) (s : Status) → q ≡ p → IsRun q 100000 f → text ≡ run_text (map entry_view f.entries) (config_view f.config) (outcome_view f.outcome) f.steps → EndsWith (outcome_view f.outcome) s → RunShows p text s
-run_shows q p f text s same r shown ends =
-    subst (λ k. RunShows k text s) same (
-      outcome_view f.outcome,
+pub run_shows : (program : CodeProgram) (o : RunOptions) (f : Finished) (h : List CodeEntry) (c : CodeConfig) (text : List ℕ) (s : Status) → RunGives program o.steps o.messages f → IsMachine f.machine → h ≡ f.machine.history → config_view c ≡ f.machine.config → text ≡ run_text (map entry_view h) (config_view c) (outcome_view f.outcome) → EndsWith (outcome_view f.outcome) s → RunShows (program_view program) o text s
+run_shows program o f h c text s gives facts same config shown ends =
+    let own = outcome_view f.outcome in
+    let es = entries_of f.machine in (
+      own,
       ends,
       record {
-        entries = map entry_view f.entries;
-        config = config_view f.config;
-        replayed = r.replayed;
-        workers = jobs_workers q 100000 (start q) (map entry_view f.entries) (config_view f.config) r.jobs;
-        jobs = r.jobs;
-        turns = r.turns;
-        ends = r.ends;
-        shown = shown ∙ ap (λ n. run_text (map entry_view f.entries) (config_view f.config) (outcome_view f.outcome) n) r.counted;
+        entries = es;
+        config = f.machine.config;
+        replayed = subst (λ (n : Named). replay (program_view n.program) es ≡ Some f.machine.config) gives.named facts.replayed;
+        limited = subst (λ (n : Named). StaysWithin (program_view n.program) n.limit es) gives.named facts.limited;
+        run = gives.run;
+        shown = shown ∙ ap (λ l. run_text (map entry_view l) (config_view c) own) same ∙ ap (λ k. run_text es k own) config;
       },
     )

@@ -1,42 +1,42 @@
 -- What `run` may answer.
-use Rattle.std.specs.Prelude.{◌≡◌, ◌⊎◌, ℕ, true, false, List, Some, None}
-use Rattle.std.specs.List.{AllByRecursion}
+use Rattle.std.specs.Prelude.{◌≡◌, ◌⊎◌, ℕ, true, false, List, Some}
 use Rattle.pat_model.specs.Programs.{Program}
-use Rattle.pat_model.specs.Configs.{Config, start}
-use Rattle.pat_model.specs.Runs.{Entry, Outcome, EndDone, EndBudget, replay, step_count, outcome}
+use Rattle.pat_model.specs.Configs.{Config}
+use Rattle.pat_model.specs.Runs.{Entry, Outcome, EndDone, EndWaiting, EndFull, EndBudget, replay}
 use Rattle.pat_model.specs.Faults.{IsSafe}
 use Rattle.pat_grammar.specs.Trees.{Tree}
 use Rattle.pat_plain_laws.specs.Straight.{is_straight}
-use Rattle.pat_run.specs.Jobs.{Jobs}
-use Rattle.pat_run.specs.Turns.{InTurn}
+use Rattle.pat_commits.specs.Machines.{StaysWithin}
+use Rattle.pat_options.specs.declared.options.RunOptions.{RunOptions}
+use Rattle.pat_run.specs.Runs.{IsRun}
 use Rattle.pat_lines.specs.RunText.{run_text}
 use Rattle.pat_front.specs.Lines.{line_of_verdict}
 use Rattle.pat_front.specs.Texts.{IsProgramText, IsRefusal}
 use Rattle.pat_front.specs.declared.verdict.Verdict.{Verdict}
 use Rattle.pat_front.specs.declared.verdict.Verdict.TheVariants.{NotYet}
 use Rattle.pat_answers.specs.declared.status.Status.{Status}
-use Rattle.pat_answers.specs.declared.status.Status.TheVariants.{Ok, Refused, Budget}
+use Rattle.pat_answers.specs.declared.status.Status.TheVariants.{Ok, Refused, Usage, ReadFault, WriteFault, NoMemory, Budget, Waiting, Full}
 
--- the text is that of a run of the program by one worker with a budget of 100,000 steps, and this is how it ended
-pub record RunsTo (p : Program) (o : Outcome) (text : List ℕ) : Type 0 where
+-- the text is that of a history that replays, of jobs of one worker within so many steps, with at most so many pending messages after
+-- each of its entries, and this is how it ended
+pub record RunsTo (p : Program) (budget limit : ℕ) (o : Outcome) (text : List ℕ) : Type 0 where
   pub entries : List Entry
   pub config : Config
   pub replayed : replay p entries ≡ Some config
-  pub workers : AllByRecursion (λ e. e.worker ≡ 0) entries
-  pub jobs : Jobs p 100000 (start p) entries config
-  pub turns : InTurn p None (start p) entries
-  pub ends : outcome p config (step_count entries) 100000 None ≡ Some o
-  pub shown : text ≡ run_text entries config o (step_count entries)
+  pub limited : StaysWithin p limit entries
+  pub run : IsRun p budget limit entries config o
+  pub shown : text ≡ run_text entries config o
 
--- the status of a run that ended so; one that waits has none yet
+-- the status of a run that ended so
 abbrev pub EndsWith : Outcome → Status → Type 0
 EndsWith EndDone status = status ≡ Ok
 EndsWith EndBudget status = status ≡ Budget
-EndsWith _ status = ⊥
+EndsWith EndWaiting status = status ≡ Waiting
+EndsWith EndFull status = status ≡ Full
 
 -- the text and the status of a run of the program
-abbrev pub RunShows : Program → List ℕ → Status → Type 0
-RunShows p text status = (o : Outcome) × EndsWith o status × RunsTo p o text
+abbrev pub RunShows : Program → RunOptions → List ℕ → Status → Type 0
+RunShows p options text status = (o : Outcome) × EndsWith o status × RunsTo p options.steps options.messages o text
 
 -- the bytes are the text of a straight-line program, which is safe
 pub record IsRunnable (bytes : List ℕ) : Type 0 where
@@ -54,9 +54,18 @@ IsNotYet bytes = (t : Tree) × (p : Program) × IsProgramText bytes t p × (is_s
 abbrev pub IsRunRefusal : List ℕ → Verdict → Type 0
 IsRunRefusal bytes v = IsRefusal bytes v ⊎ ((v ≡ NotYet) × IsNotYet bytes)
 
--- the text and the status of `run` on these bytes
-abbrev pub AllowedRun : List ℕ → List ℕ → Status → Type 0
-AllowedRun bytes text Ok = (r : IsRunnable bytes) × RunShows r.program text Ok
-AllowedRun bytes text Budget = (r : IsRunnable bytes) × RunShows r.program text Budget
-AllowedRun bytes text (Refused v) = IsRunRefusal bytes v × (text ≡ line_of_verdict v)
-AllowedRun bytes text _ = ⊥
+-- the bytes are the text of a program, and these are the text and the status of a run of it
+abbrev pub ShowsOne : RunOptions → List ℕ → List ℕ → Status → Type 0
+ShowsOne options bytes text status = (r : IsRunnable bytes) × RunShows r.program options text status
+
+-- the text and the status of `run` with these options on these bytes
+abbrev pub AllowedRun : RunOptions → List ℕ → List ℕ → Status → Type 0
+AllowedRun options bytes text Ok = ShowsOne options bytes text Ok
+AllowedRun options bytes text Budget = ShowsOne options bytes text Budget
+AllowedRun options bytes text Waiting = ShowsOne options bytes text Waiting
+AllowedRun options bytes text Full = ShowsOne options bytes text Full
+AllowedRun options bytes text (Refused v) = IsRunRefusal bytes v × (text ≡ line_of_verdict v)
+AllowedRun options bytes text Usage = ⊥
+AllowedRun options bytes text ReadFault = ⊥
+AllowedRun options bytes text WriteFault = ⊥
+AllowedRun options bytes text NoMemory = ⊥

@@ -1,9 +1,9 @@
--- The text of a run: its history, what it printed, and how it ended.
-use Rattle.std.specs.Prelude.{ℕ, List, ◌∷◌, ◌++◌, codes}
+-- The text of a run, with its history, what it printed, and how it ended; and that of a history that was replayed.
+use Rattle.std.specs.Prelude.{ℕ, nat_eq, List, [], ◌∷◌, ◌++◌, length, codes, Option, Some, None, if◌then◌else◌}
 use Rattle.std.specs.List.{flat_map}
 use Rattle.std.specs.Fmt.{decimal}
 use Rattle.pat_model.specs.Configs.{Thread, Config}
-use Rattle.pat_model.specs.Runs.{Entry, Outcome, EndDone, EndWaiting, EndFull, EndBudget}
+use Rattle.pat_model.specs.Runs.{Entry, Outcome, EndDone, EndWaiting, EndFull, EndBudget, step_count}
 use Rattle.pat_history_text.specs.HistoryText.{line, spaced, history_text}
 
 -- a line that was printed
@@ -17,16 +17,26 @@ output_text printed = line (codes "%%output") ++ flat_map output_line printed
 abbrev pub numbers_text : List (ℕ × Thread) → List ℕ
 numbers_text threads = flat_map (λ e. 32 ∷ decimal e.0) threads
 
--- the outcome after so many steps; where the run waits, with the threads that are left
+-- how many mailboxes are left, where some are
+abbrev pub left_text : ℕ → List ℕ
+left_text n = if nat_eq n 0 then [] else spaced (codes " left") (decimal n)
+
+-- the outcome after so many steps; where the run waits, with the threads that are left, and where it is done, with the mailboxes
 abbrev pub outcome_text : Outcome → ℕ → Config → List ℕ
-outcome_text EndDone steps c = spaced (codes "done") (decimal steps)
+outcome_text EndDone steps c = spaced (codes "done") (decimal steps) ++ left_text (length c.live)
 outcome_text EndWaiting steps c = spaced (codes "waiting") (decimal steps) ++ numbers_text c.threads
 outcome_text EndFull steps c = spaced (codes "full") (decimal steps)
 outcome_text EndBudget steps c = spaced (codes "budget") (decimal steps)
 
-abbrev pub outcome_line : Outcome → ℕ → Config → List ℕ
-outcome_line o steps c = line (outcome_text o steps c)
+-- the same, or that a thread can go on
+abbrev pub standing_text : Option Outcome → ℕ → Config → List ℕ
+standing_text (Some o) steps c = outcome_text o steps c
+standing_text None steps c = spaced (codes "open") (decimal steps)
 
--- the whole text
-abbrev pub run_text : List Entry → Config → Outcome → ℕ → List ℕ
-run_text entries c o steps = history_text entries ++ output_text c.printed ++ outcome_line o steps c
+-- the text of a run: its history, its output and its outcome
+abbrev pub run_text : List Entry → Config → Outcome → List ℕ
+run_text entries c o = history_text entries ++ output_text c.printed ++ line (outcome_text o (step_count entries) c)
+
+-- the text of a replay: the lines that were printed, and how it stands after the history
+abbrev pub replay_text : List Entry → Config → Option Outcome → List ℕ
+replay_text entries c o = flat_map output_line c.printed ++ line (standing_text o (step_count entries) c)

@@ -1,6 +1,8 @@
-//! The text that a run shows: its history, its output, and its outcome.
+//! The text that a run shows, and that of a replay: history, output, and outcome.
 #![tactic(auto)]
 
+mod counting;
 mod run_text;
+mod standing;
 
-pub use run_text::text_of;
+pub use run_text::{replay_text_of, text_of};

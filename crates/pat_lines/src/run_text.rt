@@ -1,23 +1,54 @@
-// The text of a run.
-ghost use Rattle.std.specs.Prelude.{◌≡◌, ◌++◌, map, IfOk, OnOk};
+// The text of a run, and that of a replay.
+ghost use Rattle.std.specs.Prelude.{◌≡◌, ◌<◌, ◌++◌, length, map, option_map, IfOk, OnOk};
+ghost use Rattle.std.specs.List.{flat_map};
 ghost use Rattle.pat_model.specs.Runs.{IsHistory};
-ghost use Rattle.pat_reduce.specs.Views.{config_view, entry_view, outcome_view, threads_view};
-ghost use Rattle.pat_lines.specs.RunText.{output_line, output_text, outcome_line, numbers_text, run_text};
+ghost use Rattle.pat_reduce.specs.Views.{config_view, entry_view};
+ghost use Rattle.pat_machine.specs.Gives.{outcome_view};
+ghost use Rattle.pat_lines.specs.RunText.{output_line, output_text, run_text, replay_text};
 
-use pat_decimal::push_number;
-use pat_reduce::{Config, Outcome, ThreadState};
-use pat_run::Finished;
+use crate::counting::count_steps;
+use crate::standing::push_standing;
+use pat_machine::Outcome;
+use pat_reduce::{Config, Entry};
 use pat_sequences::Text;
 use std::alloc::{AllocError, Global};
 
 /// The history, the lines printed, and the outcome.
-pub fn text_of(alloc: Global, run: &Finished) -> Result<Vec<u8>, AllocError>
-    requires { IsHistory (map entry_view run.now.entries) }
-    ensures { IfOk result (λ t. t.items ≡ run_text (map entry_view run.now.entries) (config_view run.now.config) (outcome_view run.now.outcome) run.now.steps) }
+pub fn text_of(
+    alloc: Global,
+    entries: &[Entry],
+    config: &Config,
+    outcome: Outcome,
+) -> Result<Vec<u8>, AllocError>
+    requires history { IsHistory (map entry_view entries.now) }
+    requires few { length entries.now < 4294967296 }
+    ensures { IfOk result (λ t. t.items ≡ run_text (map entry_view entries.now) (config_view config.now) (outcome_view outcome)) }
 {
-    let mut text = pat_history::write(alloc, run.entries.as_slice())?;
-    push_output(&mut text, run.config.printed.as_slice())?;
-    push_outcome(alloc, &mut text, run.outcome, run.steps, &run.config)?;
+    let mut text = pat_history::write(alloc, entries)?;
+    push_output(&mut text, config.printed.as_slice())?;
+    push_standing(
+        alloc,
+        &mut text,
+        Some(outcome),
+        count_steps(entries),
+        config,
+    )?;
+    Ok(text)
+}
+
+/// The lines printed, and how a history stands that was replayed: its outcome, or none where a thread can go on.
+pub fn replay_text_of(
+    alloc: Global,
+    entries: &[Entry],
+    config: &Config,
+    standing: Option<Outcome>,
+) -> Result<Vec<u8>, AllocError>
+    requires { length entries.now < 4294967296 }
+    ensures { IfOk result (λ t. t.items ≡ replay_text (map entry_view entries.now) (config_view config.now) (option_map outcome_view standing)) }
+{
+    let mut text = Vec::new(alloc);
+    push_lines(&mut text, config.printed.as_slice())?;
+    push_standing(alloc, &mut text, standing, count_steps(entries), config)?;
     Ok(text)
 }
 
@@ -25,6 +56,12 @@ fn push_output(text: &mut Vec<u8>, printed: &[Text]) -> Result<(), AllocError>
     ensures { OnOk result (text.new.items ≡ text.old.items ++ output_text printed.now) }
 {
     text.extend_from_slice(b"%%output\n")?;
+    push_lines(text, printed)
+}
+
+fn push_lines(text: &mut Vec<u8>, printed: &[Text]) -> Result<(), AllocError>
+    ensures { OnOk result (text.new.items ≡ text.old.items ++ flat_map output_line printed.now) }
+{
     for line in printed {
         push_line(text, line)?;
     }
@@ -37,48 +74,5 @@ fn push_line(text: &mut Vec<u8>, line: &Text) -> Result<(), AllocError>
     text.extend_from_slice(b"out ")?;
     text.extend_from_slice(line.as_bytes())?;
     text.push(b'\n')?;
-    Ok(())
-}
-
-fn push_outcome(
-    alloc: Global,
-    text: &mut Vec<u8>,
-    outcome: Outcome,
-    steps: u64,
-    config: &Config,
-) -> Result<(), AllocError>
-    ensures { OnOk result (text.new.items ≡ text.old.items ++ outcome_line (outcome_view outcome) steps (config_view config.now)) }
-{
-    match outcome {
-        Outcome::Done => {
-            text.extend_from_slice(b"done ")?;
-            push_number(alloc, text, steps)?;
-        }
-        Outcome::Budget => {
-            text.extend_from_slice(b"budget ")?;
-            push_number(alloc, text, steps)?;
-        }
-        Outcome::Waiting => {
-            text.extend_from_slice(b"waiting ")?;
-            push_number(alloc, text, steps)?;
-            push_threads(alloc, text, config.threads.as_slice())?;
-        }
-    }
-    text.push(b'\n')?;
-    Ok(())
-}
-
-// The numbers of the threads, each after a space.
-fn push_threads(
-    alloc: Global,
-    text: &mut Vec<u8>,
-    threads: &[(u32, ThreadState)],
-) -> Result<(), AllocError>
-    ensures { OnOk result (text.new.items ≡ text.old.items ++ numbers_text (threads_view threads.now)) }
-{
-    for entry in threads {
-        text.push(b' ')?;
-        push_number(alloc, text, entry.0 as u64)?;
-    }
     Ok(())
 }

@@ -2,6 +2,6 @@ mod Places
 mod Candidates
 mod Taken
 mod Shared
+mod LeastActs
 -- for the crates above
-pub mod LeastActs
 pub mod StepNumbers

@@ -1,4 +1,1 @@
-mod Cuts
-mod Numbers
-mod TurnsTaken
-mod Histories
+mod Serving

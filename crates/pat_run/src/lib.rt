@@ -1,8 +1,6 @@
-//! The run of a program by one worker, from its start to an outcome.
+//! The run of an accepted program by one worker, from its start to an outcome.
 #![tactic(auto)]
 
-mod finished;
-mod job;
-mod turns;
+mod running;
 
-pub use finished::{Finished, run};
+pub use running::{Finished, run};

@@ -1,5 +1,5 @@
 -- What an answer allows, and what follows from it.
-use Rattle.std.proofs.Common.{◌≡◌, ◌≤◌, ℕ, List, [], ◌∷◌, length, Option, refl, sym, ap, ◌∙◌, subst, ⊎_elim, arith}
+use Rattle.std.proofs.Common.{◌≡◌, ◌≤◌, ℕ, List, [], ◌∷◌, length, Option, Some, refl, sym, ap, ◌∙◌, subst, ⊎_elim, arith}
 use Rattle.std.specs.Io.KnownBytes.{Appends}
 use Rattle.pat_ports.specs.Bytes.{AppendsFront}
 use Rattle.pat_input.specs.Inputs.{IsInput, IsInputWithin}
@@ -8,36 +8,54 @@ use Rattle.pat_front.specs.declared.verdict.Verdict.{Verdict}
 use Rattle.pat_answers.specs.declared.status.Status.{Status}
 use Rattle.pat_answers.specs.declared.status.Status.TheVariants.{Ok, Refused, Usage, ReadFault, WriteFault, NoMemory, Budget, Waiting, Full}
 use Rattle.pat_session.specs.declared.words.Command.{Command}
-use Rattle.pat_session.specs.declared.words.Command.TheVariants.{Print, Run}
+use Rattle.pat_session.specs.declared.words.Command.TheVariants.{Print, Run, Replay}
 use Rattle.pat_session.specs.Ports.{IsCutShort, Written}
 use Rattle.pat_answers.specs.Answers.{IsStatusWithin}
 use Rattle.pat_command_print.specs.Allowed.{AllowedPrint}
 use Rattle.pat_command_print.proofs.Statuses.{print_status}
-use Rattle.pat_command_run.specs.Allowed.{RunShows, IsRunnable, AllowedRun}
+use Rattle.pat_options.specs.declared.options.RunOptions.{RunOptions}
+use Rattle.pat_options.specs.Options.{options_of}
+use Rattle.pat_command_run.specs.Allowed.{RunShows, IsRunnable, ShowsOne, AllowedRun}
 use Rattle.pat_command_run.proofs.Statuses.{run_status}
+use Rattle.pat_command_replay.specs.Allowed.{AllowedReplay}
+use Rattle.pat_command_replay.proofs.Statuses.{replay_status}
 use Rattle.pat_session.specs.Allowed.{IsCommand, HasCommand, AllowedTo, limit_of, Allowed, usage_line}
 use Rattle.pat_session.specs.Calls.{ReadsAll}
-use Rattle.pat_session.specs.Answers.{Completes, BreaksOff, Begins, Answers, IsAccepted, AcceptsSafe, ShowsRun, ShowsTree, ShowsVerdict}
+use Rattle.pat_session.specs.Answers.{Completes, BreaksOff, Begins, Answers, IsAccepted, AcceptsSafe, ShowsRun, ShowsTree, ShowsReplay, ShowsVerdict}
 
 -- ---- words
 
-abbrev first_length : List (List ℕ) → ℕ
+abbrev pub first_length : List (List ℕ) → ℕ
 first_length [] = 0
 first_length (w ∷ ws) = length w
+
+abbrev pub rest_words : List (List ℕ) → List (List ℕ)
+rest_words [] = []
+rest_words (w ∷ ws) = ws
 
 -- words are one command at most
 one_command : (words : List (List ℕ)) (c d : Command) → IsCommand c words → IsCommand d words → c ≡ d
 one_command words Print Print p q = refl
-one_command words Run Run p q = refl
-one_command words Print Run p q = let clash : 5 ≡ 3 = ap first_length (sym p ∙ q) in absurd (omega (arith, clash))
-one_command words Run Print p q = let clash : 3 ≡ 5 = ap first_length (sym p ∙ q) in absurd (omega (arith, clash))
+one_command words Replay Replay p q = refl
+one_command words (Run o) (Run u) p q =
+    let rest : p.0 ≡ q.0 = ap rest_words (sym p.1 ∙ q.1) in
+    let both : Some o ≡ Some u = sym p.2 ∙ ap options_of rest ∙ q.2 in
+    let same : o ≡ u = cc in
+    ap (λ (k : RunOptions). Run k) same
+one_command words Print (Run o) p q = let clash : 5 ≡ 3 = ap first_length (sym p ∙ q.1) in absurd (omega (arith, clash))
+one_command words Print Replay p q = let clash : 5 ≡ 6 = ap first_length (sym p ∙ q) in absurd (omega (arith, clash))
+one_command words (Run o) Print p q = let clash : 3 ≡ 5 = ap first_length (sym p.1 ∙ q) in absurd (omega (arith, clash))
+one_command words (Run o) Replay p q = let clash : 3 ≡ 6 = ap first_length (sym p.1 ∙ q) in absurd (omega (arith, clash))
+one_command words Replay Print p q = let clash : 6 ≡ 5 = ap first_length (sym p ∙ q) in absurd (omega (arith, clash))
+one_command words Replay (Run o) p q = let clash : 6 ≡ 3 = ap first_length (sym p ∙ q.1) in absurd (omega (arith, clash))
 
 -- ---- statuses
 
 -- what is allowed of a command has a command's status
 pub command_status : (c : Command) (bytes text : List ℕ) (s : Status) → AllowedTo c bytes text s → IsStatusWithin (limit_of c) bytes s
 command_status Print bytes text s a = print_status bytes text s a
-command_status Run bytes text s a = run_status bytes text s a
+command_status (Run o) bytes text s a = run_status o bytes text s a
+command_status Replay bytes text s a = replay_status bytes text s a
 
 -- so it is no fault
 pub not_a_write_fault : (c : Command) (bytes text : List ℕ) (s : Status) → AllowedTo c bytes text s → s ≡ WriteFault → ⊥
@@ -119,8 +137,8 @@ module _ (words : List (List ℕ)) (had left old new : Option (List ℕ)) where
   -- ---- run
 
   -- what is allowed of a run command is allowed of `run`
-  is_run : (c : Command) (bytes text : List ℕ) (s : Status) → IsCommand Run words → IsCommand c words → AllowedTo c bytes text s → AllowedRun bytes text s
-  is_run c bytes text s run command a = subst (λ d. AllowedTo d bytes text s) (one_command words c Run command run) a
+  is_run : (o : RunOptions) (c : Command) (bytes text : List ℕ) (s : Status) → IsCommand (Run o) words → IsCommand c words → AllowedTo c bytes text s → AllowedRun o bytes text s
+  is_run o c bytes text s run command a = subst (λ d. AllowedTo d bytes text s) (one_command words c (Run o) command run) a
 
   safe_input : (bytes : List ℕ) → IsInput had left bytes → (r : IsRunnable bytes) → AcceptsSafe had left
   safe_input bytes input r = record {
@@ -133,16 +151,8 @@ module _ (words : List (List ℕ)) (had left old new : Option (List ℕ)) where
     safe = r.safe;
   }
 
-  -- what is accepted is safe
-  pub accepts_safe : (s : Status) → Answers words had left old new s → IsCommand Run words → IsAccepted s → AcceptsSafe had left
-  accepts_safe s a run is =
-      ⊎_elim
-      (λ (e : s ≡ Ok). let c : Completes words had left old new Ok = at_status s Ok e a in let k = c.allowed in safe_input c.bytes (c.input Run run) (is_run k.0 c.bytes c.text Ok run k.1 k.2).0)
-      (λ (e : s ≡ Budget). let c : Completes words had left old new Budget = at_status s Budget e a in let k = c.allowed in safe_input c.bytes (c.input Run run) (is_run k.0 c.bytes c.text Budget run k.1 k.2).0)
-      is
-
-  shown_run : (s : Status) (bytes text : List ℕ) → IsInput had left bytes → (r : IsRunnable bytes) → RunShows r.program text s → Appends old new text → ShowsRun had left old new s
-  shown_run s bytes text input r shows written = record {
+  shown_run : (o : RunOptions) (s : Status) (bytes text : List ℕ) → IsInput had left bytes → (r : IsRunnable bytes) → RunShows r.program o text s → Appends old new text → ShowsRun o had left old new s
+  shown_run o s bytes text input r shows written = record {
     bytes = bytes;
     tree = r.tree;
     program = r.program;
@@ -155,21 +165,53 @@ module _ (words : List (List ℕ)) (had left old new : Option (List ℕ)) where
     written = written;
   }
 
-  -- what is accepted shows its run
-  pub shows_run : (s : Status) → Answers words had left old new s → IsCommand Run words → IsAccepted s → ShowsRun had left old new s
-  shows_run s a run is =
-      ⊎_elim
-      (λ (e : s ≡ Ok).
+  -- what is accepted was run
+  record WasRun (o : RunOptions) (s : Status) : Type 0 where
+    bytes : List ℕ
+    text : List ℕ
+    input : IsInput had left bytes
+    shows : ShowsOne o bytes text s
+    written : Appends old new text
+
+  was_run : (o : RunOptions) (s : Status) → IsCommand (Run o) words → Answers words had left old new s → IsAccepted s → WasRun o s
+  was_run o Ok run c is = let k = c.allowed in record { bytes = c.bytes; text = c.text; input = c.input (Run o) run; shows = is_run o k.0 c.bytes c.text Ok run k.1 k.2; written = c.written }
+  was_run o Budget run c is = let k = c.allowed in record { bytes = c.bytes; text = c.text; input = c.input (Run o) run; shows = is_run o k.0 c.bytes c.text Budget run k.1 k.2; written = c.written }
+  was_run o Waiting run c is = let k = c.allowed in record { bytes = c.bytes; text = c.text; input = c.input (Run o) run; shows = is_run o k.0 c.bytes c.text Waiting run k.1 k.2; written = c.written }
+  was_run o Full run c is = let k = c.allowed in record { bytes = c.bytes; text = c.text; input = c.input (Run o) run; shows = is_run o k.0 c.bytes c.text Full run k.1 k.2; written = c.written }
+  was_run o (Refused v) run c is = absurd is
+  was_run o Usage run c is = absurd is
+  was_run o ReadFault run c is = absurd is
+  was_run o WriteFault run c is = absurd is
+  was_run o NoMemory run c is = absurd is
+
+  -- so it is safe
+  pub accepts_safe : (s : Status) → Answers words had left old new s → (o : RunOptions) → IsCommand (Run o) words → IsAccepted s → AcceptsSafe had left
+  accepts_safe s a o run is = let w = was_run o s run a is in safe_input w.bytes w.input w.shows.0
+
+  -- and shows its run
+  pub shows_run : (s : Status) → Answers words had left old new s → (o : RunOptions) → IsCommand (Run o) words → IsAccepted s → ShowsRun o had left old new s
+  shows_run s a o run is = let w = was_run o s run a is in shown_run o s w.bytes w.text w.input w.shows.0 w.shows.1 w.written
+
+  -- ---- replay
+
+  is_replay : (c : Command) (bytes text : List ℕ) (s : Status) → IsCommand Replay words → IsCommand c words → AllowedTo c bytes text s → AllowedReplay bytes text s
+  is_replay c bytes text s replay command a = subst (λ d. AllowedTo d bytes text s) (one_command words c Replay command replay) a
+
+  -- what is replayed is the history that was read
+  pub shows_replay : (s : Status) → Answers words had left old new s → IsCommand Replay words → s ≡ Ok → ShowsReplay had left old new
+  shows_replay s a replay e =
       let c : Completes words had left old new Ok = at_status s Ok e a in
       let k = c.allowed in
-      let shown = is_run k.0 c.bytes c.text Ok run k.1 k.2 in
-      subst (λ o. ShowsRun had left old new o) (sym e) (shown_run Ok c.bytes c.text (c.input Run run) shown.0 shown.1 c.written))
-      (λ (e : s ≡ Budget).
-      let c : Completes words had left old new Budget = at_status s Budget e a in
-      let k = c.allowed in
-      let shown = is_run k.0 c.bytes c.text Budget run k.1 k.2 in
-      subst (λ o. ShowsRun had left old new o) (sym e) (shown_run Budget c.bytes c.text (c.input Run run) shown.0 shown.1 c.written))
-      is
+      let own = is_replay k.0 c.bytes c.text Ok replay k.1 k.2 in
+      let input = c.input Replay replay in
+      record {
+        bytes = c.bytes;
+        text = c.text;
+        input = input;
+        whole = input.all own.has.small;
+        replayed = own;
+        written = c.written;
+      }
 
   -- ---- print
 
@@ -196,7 +238,8 @@ module _ (words : List (List ℕ)) (had left old new : Option (List ℕ)) where
 
   verdict_text : (c : Command) (bytes text : List ℕ) (v : Verdict) → AllowedTo c bytes text (Refused v) → (text ≡ line_of_verdict v) × AllowedTo c bytes (line_of_verdict v) (Refused v)
   verdict_text Print bytes text v a = (a.1, (a.0, refl))
-  verdict_text Run bytes text v a = (a.1, (a.0, refl))
+  verdict_text (Run o) bytes text v a = (a.1, (a.0, refl))
+  verdict_text Replay bytes text v a = (a.1, (a.0, refl))
 
   -- a refusal is a verdict of the command
   pub shows_verdict : (s : Status) → Answers words had left old new s → (v : Verdict) → s ≡ Refused v → ShowsVerdict words had left old new v

@@ -1,6 +1,7 @@
 -- What each command asks, and what it answers.
-use Rattle.std.proofs.Common.{◌≡◌, ◌≤◌, ◌<◌, ℕ, List, length, Option, Result, Ok, Err, sym, subst, arith}
-use Rattle.std.specs.Prelude.{◌≢◌, IfOk}
+use Rattle.std.proofs.Common.{◌≡◌, ◌≤◌, ◌<◌, ℕ, List, length, Option, Result, Ok, Err, refl, sym, subst, arith}
+use Rattle.std.specs.Prelude.{◌≢◌, IfOk, Vec}
+use Rattle.std.specs.declared.alloc.Global.{Global}
 use Rattle.pat_ports.specs.declared.reach.Reach.{Reach}
 use Rattle.pat_ports.specs.Ends.{EndsThere}
 use Rattle.pat_input.specs.declared.reading.Input.{Input}
@@ -8,11 +9,14 @@ use Rattle.pat_input.specs.declared.reading.Input.TheVariants.{TooLong}
 use Rattle.pat_input.specs.Inputs.{IsInput, IsInputWithin, IsRead, limit}
 use Rattle.pat_answers.specs.declared.answer.Answer.{Answer}
 use Rattle.pat_command_print.specs.Allowed.{AllowedPrint}
+use Rattle.pat_options.specs.declared.options.RunOptions.{RunOptions}
+use Rattle.pat_options.specs.Options.{IsWithin}
 use Rattle.pat_command_run.specs.Allowed.{AllowedRun}
+use Rattle.pat_command_replay.specs.Allowed.{AllowedReplay}
 use Rattle.pat_session.specs.declared.commands.Asked.{Asked}
 use Rattle.pat_session.specs.declared.commands.Asked.TheVariants as asked
 use Rattle.pat_session.specs.declared.words.Command.{Command}
-use Rattle.pat_session.specs.declared.words.Command.TheVariants.{Print, Run}
+use Rattle.pat_session.specs.declared.words.Command.TheVariants.{Print, Run, Replay}
 use Rattle.pat_session.specs.Allowed.{AllowedTo, limit_of}
 use Rattle.pat_session.specs.Asking.{Asks, IsAsked}
 
@@ -24,23 +28,41 @@ module _ {E : Type 0} (c : Command) (bytes : List ℕ) (r : Result Answer E) whe
     where
       go : (d : Command) → Asks d bytes (asked.Print input) → IfOk r (λ a. AllowedTo d bytes a.text.items a.status)
       go Print h = answer h
-      go Run h = absurd h
+      go (Run o) h = absurd h
+      go Replay h = absurd h
 
-  pub of_run : (input : Input) → Asks c bytes (asked.Run input) → (IsRead bytes input → IfOk r (λ a. AllowedRun bytes a.text.items a.status)) → IfOk r (λ a. AllowedTo c bytes a.text.items a.status)
-  of_run input asks answer = go c asks
+  pub of_run : (options : RunOptions) (input : Input) → Asks c bytes (asked.Run options input) → (IsRead bytes input → IfOk r (λ a. AllowedRun options bytes a.text.items a.status)) → IfOk r (λ a. AllowedTo c bytes a.text.items a.status)
+  of_run options input asks answer = go c asks
     where
-      go : (d : Command) → Asks d bytes (asked.Run input) → IfOk r (λ a. AllowedTo d bytes a.text.items a.status)
+      go : (d : Command) → Asks d bytes (asked.Run options input) → IfOk r (λ a. AllowedTo d bytes a.text.items a.status)
       go Print h = absurd h
-      go Run h = answer h
+      go (Run o) h = subst (λ k. IfOk r (λ a. AllowedRun k bytes a.text.items a.status)) (sym h.0) (answer h.2)
+      go Replay h = absurd h
+
+  pub of_replay : (read : Vec ℕ Global) → Asks c bytes (asked.Replay read) → IfOk r (λ a. AllowedReplay read.items a.text.items a.status) → IfOk r (λ a. AllowedTo c bytes a.text.items a.status)
+  of_replay read asks answer = go c asks
+    where
+      go : (d : Command) → Asks d bytes (asked.Replay read) → IfOk r (λ a. AllowedTo d bytes a.text.items a.status)
+      go Print h = absurd h
+      go (Run o) h = absurd h
+      go Replay h = subst (λ l. IfOk r (λ a. AllowedReplay l a.text.items a.status)) h answer
 
 -- what print asks was read as its input; so of run
 pub print_read : (input : Input) → IsAsked (asked.Print input) → (bytes : List ℕ) × IsRead bytes input
 print_read input (Print, bytes, h) = (bytes, h)
-print_read input (Run, bytes, h) = absurd h
+print_read input (Run o, bytes, h) = absurd h
+print_read input (Replay, bytes, h) = absurd h
 
-pub run_read : (input : Input) → IsAsked (asked.Run input) → (bytes : List ℕ) × IsRead bytes input
-run_read input (Print, bytes, h) = absurd h
-run_read input (Run, bytes, h) = (bytes, h)
+pub run_read : (options : RunOptions) (input : Input) → IsAsked (asked.Run options input) → (bytes : List ℕ) × IsRead bytes input
+run_read options input (Print, bytes, h) = absurd h
+run_read options input (Run o, bytes, h) = (bytes, h.2)
+run_read options input (Replay, bytes, h) = absurd h
+
+-- and its options have their bounds
+pub run_within : (options : RunOptions) (input : Input) → IsAsked (asked.Run options input) → IsWithin options
+run_within options input (Print, bytes, h) = absurd h
+run_within options input (Run o, bytes, h) = h.1
+run_within options input (Replay, bytes, h) = absurd h
 
 -- ---- what is read
 
@@ -56,5 +78,5 @@ module _ (had left : Option (List ℕ)) (before now : Option Reach) where
   pub reads_print : (input : Input) → ((bytes : List ℕ) × IsInput had left bytes × IsRead bytes input) → (input ≢ TooLong → EndsThere before now) → ReadAs Print had left before now (asked.Print input)
   reads_print input (bytes, own, read) there = (bytes, own, read, λ small. there (small_input bytes input read small))
 
-  pub reads_run : (input : Input) → ((bytes : List ℕ) × IsInput had left bytes × IsRead bytes input) → (input ≢ TooLong → EndsThere before now) → ReadAs Run had left before now (asked.Run input)
-  reads_run input (bytes, own, read) there = (bytes, own, read, λ small. there (small_input bytes input read small))
+  pub reads_run : (options : RunOptions) (input : Input) → IsWithin options → ((bytes : List ℕ) × IsInput had left bytes × IsRead bytes input) → (input ≢ TooLong → EndsThere before now) → ReadAs (Run options) had left before now (asked.Run options input)
+  reads_run options input within (bytes, own, read) there = (bytes, own, (refl, within, read), λ small. there (small_input bytes input read small))

@@ -3,3 +3,4 @@ mod Writing
 mod Allows
 mod Asking
 mod Calls
+mod NoCommands

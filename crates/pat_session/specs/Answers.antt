@@ -1,5 +1,5 @@
 -- What a call read and wrote, for each answer.
-use Rattle.std.specs.Prelude.{◌≡◌, ◌⊎◌, ℕ, List}
+use Rattle.std.specs.Prelude.{◌≡◌, ℕ, List}
 use Rattle.std.specs.declared.option.Option.{Option}
 use Rattle.std.specs.Io.KnownBytes.{IsAtEnd, Appends, Keeps}
 use Rattle.pat_model.specs.Programs.{Program}
@@ -7,13 +7,15 @@ use Rattle.pat_model.specs.Faults.{IsSafe}
 use Rattle.pat_grammar.specs.Trees.{Tree}
 use Rattle.pat_canonical.specs.Text.{canonical_text}
 use Rattle.pat_ports.specs.Bytes.{AppendsFront}
-use Rattle.pat_input.specs.Inputs.{IsInput, IsInputWithin}
+use Rattle.pat_input.specs.Inputs.{IsInput, IsInputWithin, whole_limit}
 use Rattle.pat_front.specs.Lines.{line_of_verdict}
 use Rattle.pat_front.specs.Texts.{IsProgramText}
 use Rattle.pat_front.specs.declared.verdict.Verdict.{Verdict}
 use Rattle.pat_answers.specs.declared.status.Status.{Status}
 use Rattle.pat_answers.specs.declared.status.Status.TheVariants.{Ok, Refused, Usage, ReadFault, WriteFault, NoMemory, Budget, Waiting, Full}
+use Rattle.pat_options.specs.declared.options.RunOptions.{RunOptions}
 use Rattle.pat_command_run.specs.Allowed.{RunShows}
+use Rattle.pat_command_replay.specs.Allowed.{IsReplayed}
 use Rattle.pat_session.specs.declared.words.Command.{Command}
 use Rattle.pat_session.specs.Ports.{IsCutShort}
 use Rattle.pat_session.specs.Allowed.{IsCommand, AllowedTo, limit_of, Allowed}
@@ -58,7 +60,11 @@ Answers words had left old new Usage = Completes words had left old new Usage
 
 -- the run was accepted
 abbrev pub IsAccepted : Status → Type 0
-IsAccepted status = (status ≡ Ok) ⊎ (status ≡ Budget)
+IsAccepted Ok = Unit {0}
+IsAccepted Budget = Unit {0}
+IsAccepted Waiting = Unit {0}
+IsAccepted Full = Unit {0}
+IsAccepted _ = ⊥
 
 -- all that the source had was read, and is the text of a program that is safe
 pub record AcceptsSafe (had left : Option (List ℕ)) : Type 0 where
@@ -71,7 +77,7 @@ pub record AcceptsSafe (had left : Option (List ℕ)) : Type 0 where
   pub safe : IsSafe program
 
 -- all that the source had was read and is the text of a program that is safe, and the sink took the text of a run of it
-pub record ShowsRun (had left old new : Option (List ℕ)) (status : Status) : Type 0 where
+pub record ShowsRun (options : RunOptions) (had left old new : Option (List ℕ)) (status : Status) : Type 0 where
   pub bytes : List ℕ
   pub tree : Tree
   pub program : Program
@@ -80,7 +86,7 @@ pub record ShowsRun (had left old new : Option (List ℕ)) (status : Status) : T
   pub whole : IsAtEnd left
   pub spelled : IsProgramText bytes tree program
   pub safe : IsSafe program
-  pub shown : RunShows program text status
+  pub shown : RunShows program options text status
   pub written : Appends old new text
 
 -- all that the source had was read and is the text of a program, and the sink took the canonical text of its tree
@@ -92,6 +98,16 @@ pub record ShowsTree (had left old new : Option (List ℕ)) : Type 0 where
   pub whole : IsAtEnd left
   pub spelled : IsProgramText bytes tree program
   pub written : Appends old new (canonical_text tree)
+
+-- all that the source had was read, and is the text of a program and behind it that of a history that replays; and the sink took what
+-- the program printed in it, and how it stands
+pub record ShowsReplay (had left old new : Option (List ℕ)) : Type 0 where
+  pub bytes : List ℕ
+  pub text : List ℕ
+  pub input : IsInputWithin whole_limit had left bytes
+  pub whole : IsAtEnd left
+  pub replayed : IsReplayed bytes text
+  pub written : Appends old new text
 
 -- the verdict is one that the command gives on what was read, and the sink took the line that says it
 pub record ShowsVerdict (words : List (List ℕ)) (had left old new : Option (List ℕ)) (v : Verdict) : Type 0 where

@@ -3,8 +3,9 @@ ghost use Rattle.std.specs.Prelude.{◌≡◌, ◌≢◌, ◌⊎◌, ℕ, List, 
 ghost use Rattle.pat_ports.specs.Causes.{Raised};
 ghost use Rattle.pat_ports.specs.Ends.{EndsOnce, EndsThere};
 ghost use Rattle.pat_front.specs.declared.verdict.Verdict.{Verdict};
-ghost use Rattle.pat_session.specs.Allowed.{IsCommand, HasCommand};
-ghost use Rattle.pat_session.specs.Answers.{Answers, Begins, IsAccepted, AcceptsSafe, ShowsRun, ShowsTree, ShowsVerdict};
+ghost use Rattle.pat_session.specs.Allowed.{IsCommand, HasCommand, HasBounds};
+ghost use Rattle.pat_session.specs.Answers.{Answers, Begins, IsAccepted, AcceptsSafe, ShowsRun, ShowsTree, ShowsReplay, ShowsVerdict};
+ghost use Rattle.pat_options.specs.declared.options.RunOptions.{RunOptions};
 ghost use Rattle.pat_session.specs.Ports.{source_state, sink_state};
 ghost use Rattle.pat_session.specs.Calls.{Call, ReadsAll};
 
@@ -48,9 +49,12 @@ pub fn pat<S: Source, K: Sink, G: Gate>(
     ensures begun { result ≡ Status.WriteFault → Begins (map string_bytes words.now) (S.rest source.old) (S.rest source.new) (K.handed sink.old) (K.handed sink.new) }
 
     // What that says of the program that was read, of its run, and of its canonical text.
-    ensures accepted_is_safe { IsCommand Command.Run (map string_bytes words.now) → IsAccepted result → AcceptsSafe (S.rest source.old) (S.rest source.new) }
-    ensures run { IsCommand Command.Run (map string_bytes words.now) → IsAccepted result → ShowsRun (S.rest source.old) (S.rest source.new) (K.taken sink.old) (K.taken sink.new) result }
+    ensures accepted_is_safe { (options : RunOptions) → IsCommand (Command.Run options) (map string_bytes words.now) → IsAccepted result → AcceptsSafe (S.rest source.old) (S.rest source.new) }
+    ensures run { (options : RunOptions) → IsCommand (Command.Run options) (map string_bytes words.now) → IsAccepted result → ShowsRun options (S.rest source.old) (S.rest source.new) (K.taken sink.old) (K.taken sink.new) result }
     ensures printed { IsCommand Command.Print (map string_bytes words.now) → result ≡ Status.Ok → ShowsTree (S.rest source.old) (S.rest source.new) (K.taken sink.old) (K.taken sink.new) }
+
+    // What a replay wrote: the output and the standing of just the history that was read, after the program that was read.
+    ensures replayed { IsCommand Command.Replay (map string_bytes words.now) → result ≡ Status.Ok → ShowsReplay (S.rest source.old) (S.rest source.new) (K.taken sink.old) (K.taken sink.new) }
 
     // What a refusal says of what was read.
     ensures refused { (v : Verdict) → result ≡ Status.Refused v → ShowsVerdict (map string_bytes words.now) (S.rest source.old) (S.rest source.new) (K.taken sink.old) (K.taken sink.new) v }
@@ -76,6 +80,7 @@ fn respond<S: Source, K: Sink>(
 
 // Does what a command asks.
 fn obey<S: Source, K: Sink>(alloc: Global, command: Command, source: &mut S, sink: &mut K) -> Status
+    requires { HasBounds command }
     ensures { (words : List (List ℕ)) → IsCommand command words → Call words (source_state S.rest S.faults S.reach source.old) (source_state S.rest S.faults S.reach source.new) (sink_state K.taken K.handed K.faults sink.old) (sink_state K.taken K.handed K.faults sink.new) result }
 {
     let asked = match read_asked(alloc, command, source) {

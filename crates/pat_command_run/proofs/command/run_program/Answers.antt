@@ -1,12 +1,15 @@
 use Rattle.std.proofs.Common.{ap}
-use Rattle.pat_core.specs.Views.{program_view}
-use Rattle.pat_command_run.proofs.Runs.{not_waiting, run_shows}
+use Rattle.pat_command_run.proofs.Runs.{few_entries, shown_history, run_shows}
 use Rattle.pat_command_run.proofs.command.run_program.Goals as goal
 
-pub status_of-requires : goal.status_of-requires
-status_of-requires c =
-    not_waiting (program_view c.in_ok-code.code.program) (program_view c.args.program) c.in_ok-run.run' (ap program_view c.in_ok-code.ensures) c.requires.goes_on c.in_ok-run.ensures
+pub text_of-requires-clause-history : goal.text_of-requires-clause-history
+text_of-requires-clause-history c =
+    shown_history c.in_ok-finished.finished.machine c.history-entries.result.now c.history-entries.ensures.facts c.history-entries.ensures.history
+
+pub text_of-requires-clause-few : goal.text_of-requires-clause-few
+text_of-requires-clause-few c =
+    few_entries c.in_ok-finished.finished.machine c.history-entries.result.now _ c.history-entries.ensures.facts c.history-entries.ensures.history c.in_ok-finished.ensures.named c.requires.steps
 
 pub returns : goal.returns
 returns c =
-    run_shows (program_view c.in_ok-code.code.program) (program_view c.args.program) c.in_ok-run.run' c.in_ok-text.text.items c.status_of.result (ap program_view c.in_ok-code.ensures) c.in_ok-run.ensures c.in_ok-text.ensures c.status_of.ensures
+    run_shows c.args.accepted c.args.options c.in_ok-finished.finished c.history-entries.result.now c.in_ok-config.config c.in_ok-text.text.items c.status_of.result c.in_ok-finished.ensures c.history-entries.ensures.facts c.history-entries.ensures.history c.in_ok-config.ensures.config c.in_ok-text.ensures c.status_of.ensures

@@ -1,0 +1,7 @@
+//! The command `replay`: what a program's history leads to.
+#![tactic(auto)]
+
+mod command;
+mod standing;
+
+pub use command::answer_replay;
