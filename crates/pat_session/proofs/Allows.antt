@@ -8,7 +8,7 @@ use Rattle.pat_front.specs.declared.verdict.Verdict.{Verdict}
 use Rattle.pat_answers.specs.declared.status.Status.{Status}
 use Rattle.pat_answers.specs.declared.status.Status.TheVariants.{Ok, Refused, Usage, ReadFault, WriteFault, NoMemory, Budget, Waiting, Full}
 use Rattle.pat_session.specs.declared.words.Command.{Command}
-use Rattle.pat_session.specs.declared.words.Command.TheVariants.{Print, Run, Replay}
+use Rattle.pat_session.specs.declared.words.Command.TheVariants.{Print, Run, Replay, Verify}
 use Rattle.pat_session.specs.Ports.{IsCutShort, Written}
 use Rattle.pat_answers.specs.Answers.{IsStatusWithin}
 use Rattle.pat_command_print.specs.Allowed.{AllowedPrint}
@@ -19,15 +19,26 @@ use Rattle.pat_command_run.specs.Allowed.{RunShows, IsRunnable, ShowsOne, Allowe
 use Rattle.pat_command_run.proofs.Statuses.{run_status}
 use Rattle.pat_command_replay.specs.Allowed.{AllowedReplay}
 use Rattle.pat_command_replay.proofs.Statuses.{replay_status}
+use Rattle.pat_command_verify.specs.Allowed.{AllowedVerify, accepted_line}
+use Rattle.pat_command_verify.proofs.Statuses.{verify_status}
 use Rattle.pat_session.specs.Allowed.{IsCommand, HasCommand, AllowedTo, limit_of, Allowed, usage_line}
 use Rattle.pat_session.specs.Calls.{ReadsAll}
-use Rattle.pat_session.specs.Answers.{Completes, BreaksOff, Begins, Answers, IsAccepted, AcceptsSafe, ShowsRun, ShowsTree, ShowsReplay, ShowsVerdict}
+use Rattle.pat_session.specs.Answers.{Completes, BreaksOff, Begins, Answers, IsAccepted, AcceptsSafe, ShowsRun, ShowsTree, ShowsReplay, ShowsVerified, ShowsVerdict}
 
 -- ---- words
 
 abbrev pub first_length : List (List ℕ) → ℕ
 first_length [] = 0
 first_length (w ∷ ws) = length w
+
+-- the first byte of the first word
+abbrev byte_of : List ℕ → ℕ
+byte_of [] = 0
+byte_of (b ∷ bs) = b
+
+abbrev first_byte : List (List ℕ) → ℕ
+first_byte [] = 0
+first_byte (w ∷ ws) = byte_of w
 
 abbrev pub rest_words : List (List ℕ) → List (List ℕ)
 rest_words [] = []
@@ -48,6 +59,13 @@ one_command words (Run o) Print p q = let clash : 3 ≡ 5 = ap first_length (sym
 one_command words (Run o) Replay p q = let clash : 3 ≡ 6 = ap first_length (sym p.1 ∙ q) in absurd (omega (arith, clash))
 one_command words Replay Print p q = let clash : 6 ≡ 5 = ap first_length (sym p ∙ q) in absurd (omega (arith, clash))
 one_command words Replay (Run o) p q = let clash : 6 ≡ 3 = ap first_length (sym p ∙ q.1) in absurd (omega (arith, clash))
+one_command words Verify Verify p q = refl
+one_command words Print Verify p q = let clash : 5 ≡ 6 = ap first_length (sym p ∙ q) in absurd (omega (arith, clash))
+one_command words (Run o) Verify p q = let clash : 3 ≡ 6 = ap first_length (sym p.1 ∙ q) in absurd (omega (arith, clash))
+one_command words Verify Print p q = let clash : 6 ≡ 5 = ap first_length (sym p ∙ q) in absurd (omega (arith, clash))
+one_command words Verify (Run o) p q = let clash : 6 ≡ 3 = ap first_length (sym p ∙ q.1) in absurd (omega (arith, clash))
+one_command words Replay Verify p q = let clash : 114 ≡ 118 = ap first_byte (sym p ∙ q) in absurd (omega (arith, clash))
+one_command words Verify Replay p q = let clash : 118 ≡ 114 = ap first_byte (sym p ∙ q) in absurd (omega (arith, clash))
 
 -- ---- statuses
 
@@ -56,6 +74,7 @@ pub command_status : (c : Command) (bytes text : List ℕ) (s : Status) → Allo
 command_status Print bytes text s a = print_status bytes text s a
 command_status (Run o) bytes text s a = run_status o bytes text s a
 command_status Replay bytes text s a = replay_status bytes text s a
+command_status Verify bytes text s a = verify_status bytes text s a
 
 -- so it is no fault
 pub not_a_write_fault : (c : Command) (bytes text : List ℕ) (s : Status) → AllowedTo c bytes text s → s ≡ WriteFault → ⊥
@@ -234,12 +253,32 @@ module _ (words : List (List ℕ)) (had left old new : Option (List ℕ)) where
         written = subst (λ l. Appends old new l) shown.3 c.written;
       }
 
+  -- ---- verify
+
+  is_verify : (c : Command) (bytes text : List ℕ) (s : Status) → IsCommand Verify words → IsCommand c words → AllowedTo c bytes text s → AllowedVerify bytes text s
+  is_verify c bytes text s verify command a = subst (λ d. AllowedTo d bytes text s) (one_command words c Verify command verify) a
+
+  -- what is verified has a valid derivation
+  pub shows_verified : (s : Status) → Answers words had left old new s → IsCommand Verify words → s ≡ Ok → ShowsVerified had left old new
+  shows_verified s a verify e =
+      let c : Completes words had left old new Ok = at_status s Ok e a in
+      let k = c.allowed in
+      let shown = is_verify k.0 c.bytes c.text Ok verify k.1 k.2 in
+      record {
+        bytes = c.bytes;
+        verified = shown.0;
+        input = c.input Verify verify;
+        whole = (c.input Verify verify).all shown.0.small;
+        written = subst (λ l. Appends old new l) shown.1 c.written;
+      }
+
   -- ---- refusals
 
   verdict_text : (c : Command) (bytes text : List ℕ) (v : Verdict) → AllowedTo c bytes text (Refused v) → (text ≡ line_of_verdict v) × AllowedTo c bytes (line_of_verdict v) (Refused v)
   verdict_text Print bytes text v a = (a.1, (a.0, refl))
   verdict_text (Run o) bytes text v a = (a.1, (a.0, refl))
   verdict_text Replay bytes text v a = (a.1, (a.0, refl))
+  verdict_text Verify bytes text v a = (a.1, (a.0, refl))
 
   -- a refusal is a verdict of the command
   pub shows_verdict : (s : Status) → Answers words had left old new s → (v : Verdict) → s ≡ Refused v → ShowsVerdict words had left old new v

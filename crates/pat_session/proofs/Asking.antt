@@ -13,10 +13,11 @@ use Rattle.pat_options.specs.declared.options.RunOptions.{RunOptions}
 use Rattle.pat_options.specs.Options.{IsWithin}
 use Rattle.pat_command_run.specs.Allowed.{AllowedRun}
 use Rattle.pat_command_replay.specs.Allowed.{AllowedReplay}
+use Rattle.pat_command_verify.specs.Allowed.{AllowedVerify}
 use Rattle.pat_session.specs.declared.commands.Asked.{Asked}
 use Rattle.pat_session.specs.declared.commands.Asked.TheVariants as asked
 use Rattle.pat_session.specs.declared.words.Command.{Command}
-use Rattle.pat_session.specs.declared.words.Command.TheVariants.{Print, Run, Replay}
+use Rattle.pat_session.specs.declared.words.Command.TheVariants.{Print, Run, Replay, Verify}
 use Rattle.pat_session.specs.Allowed.{AllowedTo, limit_of}
 use Rattle.pat_session.specs.Asking.{Asks, IsAsked}
 
@@ -30,6 +31,7 @@ module _ {E : Type 0} (c : Command) (bytes : List ℕ) (r : Result Answer E) whe
       go Print h = answer h
       go (Run o) h = absurd h
       go Replay h = absurd h
+      go Verify h = absurd h
 
   pub of_run : (options : RunOptions) (input : Input) → Asks c bytes (asked.Run options input) → (IsRead bytes input → IfOk r (λ a. AllowedRun options bytes a.text.items a.status)) → IfOk r (λ a. AllowedTo c bytes a.text.items a.status)
   of_run options input asks answer = go c asks
@@ -38,6 +40,7 @@ module _ {E : Type 0} (c : Command) (bytes : List ℕ) (r : Result Answer E) whe
       go Print h = absurd h
       go (Run o) h = subst (λ k. IfOk r (λ a. AllowedRun k bytes a.text.items a.status)) (sym h.0) (answer h.2)
       go Replay h = absurd h
+      go Verify h = absurd h
 
   pub of_replay : (read : Vec ℕ Global) → Asks c bytes (asked.Replay read) → IfOk r (λ a. AllowedReplay read.items a.text.items a.status) → IfOk r (λ a. AllowedTo c bytes a.text.items a.status)
   of_replay read asks answer = go c asks
@@ -46,23 +49,36 @@ module _ {E : Type 0} (c : Command) (bytes : List ℕ) (r : Result Answer E) whe
       go Print h = absurd h
       go (Run o) h = absurd h
       go Replay h = subst (λ l. IfOk r (λ a. AllowedReplay l a.text.items a.status)) h answer
+      go Verify h = absurd h
+
+  pub of_verify : (read : Vec ℕ Global) → Asks c bytes (asked.Verify read) → IfOk r (λ a. AllowedVerify read.items a.text.items a.status) → IfOk r (λ a. AllowedTo c bytes a.text.items a.status)
+  of_verify read asks answer = go c asks
+    where
+      go : (d : Command) → Asks d bytes (asked.Verify read) → IfOk r (λ a. AllowedTo d bytes a.text.items a.status)
+      go Print h = absurd h
+      go (Run o) h = absurd h
+      go Replay h = absurd h
+      go Verify h = subst (λ l. IfOk r (λ a. AllowedVerify l a.text.items a.status)) h answer
 
 -- what print asks was read as its input; so of run
 pub print_read : (input : Input) → IsAsked (asked.Print input) → (bytes : List ℕ) × IsRead bytes input
 print_read input (Print, bytes, h) = (bytes, h)
 print_read input (Run o, bytes, h) = absurd h
 print_read input (Replay, bytes, h) = absurd h
+print_read input (Verify, bytes, h) = absurd h
 
 pub run_read : (options : RunOptions) (input : Input) → IsAsked (asked.Run options input) → (bytes : List ℕ) × IsRead bytes input
 run_read options input (Print, bytes, h) = absurd h
 run_read options input (Run o, bytes, h) = (bytes, h.2)
 run_read options input (Replay, bytes, h) = absurd h
+run_read options input (Verify, bytes, h) = absurd h
 
 -- and its options have their bounds
 pub run_within : (options : RunOptions) (input : Input) → IsAsked (asked.Run options input) → IsWithin options
 run_within options input (Print, bytes, h) = absurd h
 run_within options input (Run o, bytes, h) = h.1
 run_within options input (Replay, bytes, h) = absurd h
+run_within options input (Verify, bytes, h) = absurd h
 
 -- ---- what is read
 

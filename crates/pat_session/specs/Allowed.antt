@@ -5,10 +5,11 @@ use Rattle.pat_answers.specs.declared.status.Status.TheVariants.{Usage}
 use Rattle.pat_command_print.specs.Allowed.{AllowedPrint}
 use Rattle.pat_command_run.specs.Allowed.{AllowedRun}
 use Rattle.pat_command_replay.specs.Allowed.{AllowedReplay}
+use Rattle.pat_command_verify.specs.Allowed.{AllowedVerify}
 use Rattle.pat_options.specs.Options.{IsWithin, options_of}
 use Rattle.pat_input.specs.Inputs.{limit, whole_limit}
 use Rattle.pat_session.specs.declared.words.Command.{Command}
-use Rattle.pat_session.specs.declared.words.Command.TheVariants.{Print, Run, Replay}
+use Rattle.pat_session.specs.declared.words.Command.TheVariants.{Print, Run, Replay, Verify}
 
 abbrev pub usage_line : List ℕ
 usage_line = codes "usage: pat check|derive|verify|print|run|replay|load|help" ++ 10 ∷ []
@@ -20,6 +21,7 @@ abbrev pub IsCommand : Command → List (List ℕ) → Type 0
 IsCommand Print words = words ≡ codes "print" ∷ []
 IsCommand (Run o) words = (rest : List (List ℕ)) × (words ≡ codes "run" ∷ rest) × (options_of rest ≡ Some o)
 IsCommand Replay words = words ≡ codes "replay" ∷ []
+IsCommand Verify words = words ≡ codes "verify" ∷ []
 
 -- the words are a command
 abbrev pub HasCommand : List (List ℕ) → Type 0
@@ -37,12 +39,14 @@ abbrev pub limit_of : Command → ℕ
 limit_of Print = limit
 limit_of (Run o) = limit
 limit_of Replay = whole_limit
+limit_of Verify = whole_limit
 
 -- the text and the status of the command on these bytes
 abbrev pub AllowedTo : Command → List ℕ → List ℕ → Status → Type 0
 AllowedTo Print bytes text status = AllowedPrint bytes text status
 AllowedTo (Run o) bytes text status = AllowedRun o bytes text status
 AllowedTo Replay bytes text status = AllowedReplay bytes text status
+AllowedTo Verify bytes text status = AllowedVerify bytes text status
 
 -- the text and the status that the words and the input allow; without a command there is no input
 abbrev pub Allowed : List (List ℕ) → List ℕ → List ℕ → Status → Type 0

@@ -16,6 +16,7 @@ use Rattle.pat_answers.specs.declared.status.Status.TheVariants.{Ok, Refused, Us
 use Rattle.pat_options.specs.declared.options.RunOptions.{RunOptions}
 use Rattle.pat_command_run.specs.Allowed.{RunShows}
 use Rattle.pat_command_replay.specs.Allowed.{IsReplayed}
+use Rattle.pat_command_verify.specs.Allowed.{IsVerified, accepted_line}
 use Rattle.pat_session.specs.declared.words.Command.{Command}
 use Rattle.pat_session.specs.Ports.{IsCutShort}
 use Rattle.pat_session.specs.Allowed.{IsCommand, AllowedTo, limit_of, Allowed}
@@ -108,6 +109,15 @@ pub record ShowsReplay (had left old new : Option (List ℕ)) : Type 0 where
   pub whole : IsAtEnd left
   pub replayed : IsReplayed bytes text
   pub written : Appends old new text
+
+-- all that the source had was read and is the text of a program, and behind it that of a derivation which is valid, so the program is
+-- safe; and the sink took the line that says so
+pub record ShowsVerified (had left old new : Option (List ℕ)) : Type 0 where
+  pub bytes : List ℕ
+  pub verified : IsVerified bytes
+  pub input : IsInputWithin whole_limit had left bytes
+  pub whole : IsAtEnd left
+  pub written : Appends old new accepted_line
 
 -- the verdict is one that the command gives on what was read, and the sink took the line that says it
 pub record ShowsVerdict (words : List (List ℕ)) (had left old new : Option (List ℕ)) (v : Verdict) : Type 0 where

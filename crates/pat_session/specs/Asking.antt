@@ -5,13 +5,14 @@ use Rattle.pat_input.specs.Inputs.{IsRead}
 use Rattle.pat_session.specs.declared.commands.Asked.{Asked}
 use Rattle.pat_session.specs.declared.commands.Asked.TheVariants as asked
 use Rattle.pat_session.specs.declared.words.Command.{Command}
-use Rattle.pat_session.specs.declared.words.Command.TheVariants.{Print, Run, Replay}
+use Rattle.pat_session.specs.declared.words.Command.TheVariants.{Print, Run, Replay, Verify}
 
 -- it is what the command asks of these bytes
 abbrev pub Asks : Command → List ℕ → Asked → Type 0
 Asks Print bytes (asked.Print input) = IsRead bytes input
 Asks (Run o) bytes (asked.Run options input) = (o ≡ options) × IsWithin options × IsRead bytes input
 Asks Replay bytes (asked.Replay read) = read.items ≡ bytes
+Asks Verify bytes (asked.Verify read) = read.items ≡ bytes
 Asks c bytes a = ⊥
 
 -- it is what some command asks of some bytes

@@ -10,6 +10,7 @@ use pat_answers::Answer;
 use pat_command_print::answer_print;
 use pat_command_replay::answer_replay;
 use pat_command_run::answer_run;
+use pat_command_verify::answer_verify;
 use pat_input::{Input, InputError, read_bytes, read_tokens};
 use pat_options::RunOptions;
 use pat_ports::Source;
@@ -21,6 +22,7 @@ pub enum Asked {
     Print(Input),
     Run(RunOptions, Input),
     Replay(Vec<u8>),
+    Verify(Vec<u8>),
 }
 
 /// What a command answers on this input.
@@ -32,6 +34,7 @@ pub fn answer_to(alloc: Global, asked: Asked) -> Result<Answer, AllocError>
         Asked::Print(input) => answer_print(alloc, input),
         Asked::Run(options, input) => answer_run(alloc, options, input),
         Asked::Replay(bytes) => answer_replay(alloc, bytes.as_slice()),
+        Asked::Verify(bytes) => answer_verify(alloc, bytes.as_slice()),
     }
 }
 
@@ -50,5 +53,6 @@ pub fn read_asked<S: Source>(
         Command::Print => Ok(Asked::Print(read_tokens(alloc, source)?)),
         Command::Run(options) => Ok(Asked::Run(options, read_tokens(alloc, source)?)),
         Command::Replay => Ok(Asked::Replay(read_bytes(alloc, source)?)),
+        Command::Verify => Ok(Asked::Verify(read_bytes(alloc, source)?)),
     }
 }

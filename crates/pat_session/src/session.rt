@@ -4,7 +4,7 @@ ghost use Rattle.pat_ports.specs.Causes.{Raised};
 ghost use Rattle.pat_ports.specs.Ends.{EndsOnce, EndsThere};
 ghost use Rattle.pat_front.specs.declared.verdict.Verdict.{Verdict};
 ghost use Rattle.pat_session.specs.Allowed.{IsCommand, HasCommand, HasBounds};
-ghost use Rattle.pat_session.specs.Answers.{Answers, Begins, IsAccepted, AcceptsSafe, ShowsRun, ShowsTree, ShowsReplay, ShowsVerdict};
+ghost use Rattle.pat_session.specs.Answers.{Answers, Begins, IsAccepted, AcceptsSafe, ShowsRun, ShowsTree, ShowsReplay, ShowsVerified, ShowsVerdict};
 ghost use Rattle.pat_options.specs.declared.options.RunOptions.{RunOptions};
 ghost use Rattle.pat_session.specs.Ports.{source_state, sink_state};
 ghost use Rattle.pat_session.specs.Calls.{Call, ReadsAll};
@@ -52,6 +52,9 @@ pub fn pat<S: Source, K: Sink, G: Gate>(
     ensures accepted_is_safe { (options : RunOptions) → IsCommand (Command.Run options) (map string_bytes words.now) → IsAccepted result → AcceptsSafe (S.rest source.old) (S.rest source.new) }
     ensures run { (options : RunOptions) → IsCommand (Command.Run options) (map string_bytes words.now) → IsAccepted result → ShowsRun options (S.rest source.old) (S.rest source.new) (K.taken sink.old) (K.taken sink.new) result }
     ensures printed { IsCommand Command.Print (map string_bytes words.now) → result ≡ Status.Ok → ShowsTree (S.rest source.old) (S.rest source.new) (K.taken sink.old) (K.taken sink.new) }
+
+    // What was accepted is a program with a valid derivation behind it, so it is safe.
+    ensures verified { IsCommand Command.Verify (map string_bytes words.now) → result ≡ Status.Ok → ShowsVerified (S.rest source.old) (S.rest source.new) (K.taken sink.old) (K.taken sink.new) }
 
     // What a replay wrote: the output and the standing of just the history that was read, after the program that was read.
     ensures replayed { IsCommand Command.Replay (map string_bytes words.now) → result ≡ Status.Ok → ShowsReplay (S.rest source.old) (S.rest source.new) (K.taken sink.old) (K.taken sink.new) }

@@ -13,6 +13,8 @@ pub enum Command {
     Run(RunOptions),
     /// Replay a history of a program.
     Replay,
+    /// Judge a derivation of a program.
+    Verify,
 }
 
 /// The command that the words ask for, if they are one.
@@ -69,6 +71,9 @@ fn command_alone(word: &[u8]) -> Option<Command>
     }
     if word == b"replay".as_slice() {
         return Some(Command::Replay);
+    }
+    if word == b"verify".as_slice() {
+        return Some(Command::Verify);
     }
     None
 }

@@ -1,5 +1,5 @@
 use Rattle.std.proofs.Common.{map, string_bytes}
-use Rattle.pat_session.proofs.Allows.{usage_only, accepts_safe, shows_run, shows_tree, shows_replay, shows_verdict}
+use Rattle.pat_session.proofs.Allows.{usage_only, accepts_safe, shows_run, shows_tree, shows_replay, shows_verified, shows_verdict}
 use Rattle.pat_session.proofs.session.pat.Goals as goal
 
 pub returns-clause-read_fault : goal.returns-clause-read_fault
@@ -25,6 +25,9 @@ returns-clause-printed g c = shows_tree (map string_bytes c.args.words.now) (g.S
 
 pub returns-clause-refused : goal.returns-clause-refused
 returns-clause-refused g c = shows_verdict (map string_bytes c.args.words.now) (g.S.Source.rest c.args.source.now) (g.S.Source.rest c.respond.new.source) (g.K.Sink.taken c.args.sink.now) (g.K.Sink.taken c.respond.new.sink) c.respond.result c.respond.ensures.call.output
+
+pub returns-clause-verified : goal.returns-clause-verified
+returns-clause-verified g c = shows_verified (map string_bytes c.args.words.now) (g.S.Source.rest c.args.source.now) (g.S.Source.rest c.respond.new.source) (g.K.Sink.taken c.args.sink.now) (g.K.Sink.taken c.respond.new.sink) c.respond.result c.respond.ensures.call.output
 
 pub returns-clause-replayed : goal.returns-clause-replayed
 returns-clause-replayed g c = shows_replay (map string_bytes c.args.words.now) (g.S.Source.rest c.args.source.now) (g.S.Source.rest c.respond.new.source) (g.K.Sink.taken c.args.sink.now) (g.K.Sink.taken c.respond.new.sink) c.respond.result c.respond.ensures.call.output

@@ -1,0 +1,5 @@
+mod Answering
+mod Once
+mod ReadingOnce
+-- for the crates above
+pub mod Statuses

@@ -1,0 +1,6 @@
+use Rattle.pat_derivation_text.specs.DerivationText.{marker}
+use Rattle.pat_command_verify.proofs.Once.{one_answer}
+use Rattle.pat_command_verify.proofs.laws.verify_law.Goals as goal
+
+pub returns : goal.returns
+returns c = λ bytes. one_answer c.first_bad_laws.ensures.none c.reading_is_one_law.ensures bytes (c.split_law.ensures marker bytes) c.verdict_law.ensures

@@ -1,0 +1,18 @@
+// What holds of all bytes.
+ghost use Rattle.std.specs.Prelude.{ℕ, List};
+ghost use Rattle.pat_command_verify.specs.Answers.{OneAnswer};
+
+use pat_derivation_text_laws::reading_is_one_law;
+use pat_front::verdict_law;
+use pat_marked::split_law;
+use pat_validity_laws::first_bad_laws;
+
+/// Bytes are accepted or refused, not both, and refused in one way: so each answer comes exactly where it is said to come.
+pub fn verify_law()
+    ensures { (bytes : List ℕ) → OneAnswer bytes }
+{
+    first_bad_laws();
+    reading_is_one_law();
+    split_law();
+    verdict_law();
+}
