@@ -102,4 +102,3 @@ sends_twice = record {
   main = 1;
   nodes = unit_node 0 (Let None 1 2) ∷ unit_node 0 (Send 0 0 []) ∷ unit_node 0 (Send 0 0 []) ∷ unit_node 1 nothing ∷ [];
 }
-
