@@ -36,7 +36,7 @@ DerivableMeetsLaw =
     × ((e : Pat) (w : Word) → InUnder (derivable lower) e w ↔ Derivable lower e w)
     × ((k : ℕ) (w : Word) → Derivable lower (lower k) w ↔ derivable lower k w)
 
--- an assignment meets the lower bounds just where all constraints with a variable on the right hold
+-- an assignment meets the lower bounds just where each constraint holds that bounds a variable from below
 abbrev pub BelowLaw : (ℕ → Language) → Type 0
 BelowLaw values = (cs : List Constraint) → Meets (lower_of cs) values ↔ MeetsBelow values cs
 

@@ -17,7 +17,7 @@ use Rattle.pat_answers.specs.declared.status.Status.TheVariants.{Ok, Refused}
 
 -- ---- a history
 
--- everything from the first line `%%output` on is no part of the history
+-- the history stops before the first line `%%output`, if there is one
 abbrev pub IsHistoryPart : (text part : List ℕ) → Type 0
 IsHistoryPart text part = ((rest : List ℕ) × IsMarked (codes "%%output") text part rest) ⊎ (IsUnmarked (codes "%%output") text × (part ≡ text))
 
@@ -49,7 +49,7 @@ pub record HasBadLine (from : ℕ) (text : List ℕ) (at : ℕ) : Type 0 where
   pub is : at ≡ from + offset
   pub unread : Unread part offset
 
--- the text spells a history, and an entry of it, the first, has no step or one that isn't enabled after those before it
+-- the text spells a history whose entries before this one replay, and this one doesn't: it has no step, or a step that isn't enabled then
 pub record HasBadEntry (p : Program) (text : List ℕ) (i : ℕ) : Type 0 where
   pub part : List ℕ
   pub own : IsHistoryPart text part

@@ -1,8 +1,6 @@
 // Values that are grids.
-ghost use Rattle.std.specs.Prelude.{◌≡◌, ◌<◌, nat_lt};
-ghost use Rattle.std.specs.List.{list_all, list_any};
+ghost use Rattle.std.specs.Prelude.{◌≡◌, ◌<◌};
 ghost use Rattle.std.specs.Prelude.{map};
-ghost use Rattle.pat_inclusions.specs.Points as grid;
 ghost use Rattle.pat_derivations.specs.Views.{counts_of, value_view};
 ghost use Rattle.pat_derivation_text.specs.LineReading as reading;
 ghost use Rattle.pat_derivation_text.specs.Joined.{pieces, read_each};
@@ -13,21 +11,9 @@ use pat_bags::{Bag, TAGS};
 use pat_deriv_lines::{first_piece, number_of, read_numbers};
 use pat_deriv_patterns::Unread;
 use pat_derivations::VarValue;
+use pat_points::points_fit;
 use pat_sequences::Sequence;
 use std::alloc::Global;
-
-/// Whether grids of so many tags with this bound are worked with.
-fn grid_fits(k: u32, tags: u32) -> bool
-    ensures { result ≡ grid.grid_fits k tags }
-{
-    if k == 0 {
-        return false;
-    }
-    match (k as u64 + 1).checked_pow(tags) {
-        Some(count) => count <= 65536,
-        None => false,
-    }
-}
 
 /// The point with these counts of the first `tags` tags.
 fn point_of(counts: &[u32], tags: usize) -> Result<Bag, Unread>
@@ -65,81 +51,12 @@ fn read_points(alloc: Global, tags: usize, text: &[u8]) -> Result<Sequence<Bag>,
     Ok(points)
 }
 
-/// Whether the first counts are at most `k`, and the others 0.
-fn point_fits(k: u32, tags: usize, counts: &[u32]) -> bool
-    ensures { result ≡ grid.point_fits k tags counts.now }
-{
-    match counts {
-        [] => true,
-        [count, more @ ..] => {
-            if tags == 0 {
-                *count == 0 && point_fits(k, 0, more)
-            } else {
-                *count <= k && point_fits(k, tags - 1, more)
-            }
-        }
-    }
-}
-
-fn points_fit_in(k: u32, tags: usize, points: &[Bag]) -> bool
-    ensures { result ≡ list_all (grid.point_fits k tags) (map counts_of points.now) }
-{
-    for point in points {
-        if !point_fits(k, tags, point.counts.as_slice()) {
-            return false;
-        }
-    }
-    true
-}
-
-fn has_count(counts: &[u32]) -> bool
-    ensures { result ≡ list_any (nat_lt 0) counts.now }
-{
-    match counts {
-        [] => false,
-        [count, more @ ..] => 0 < *count || has_count(more),
-    }
-}
-
-/// Whether the first point comes before the second.
-fn comes_before(first: &[u32], second: &[u32]) -> bool
-    ensures { result ≡ grid.comes_before first.now second.now }
-{
-    match first {
-        [] => has_count(second),
-        [count, more @ ..] => match second {
-            [] => false,
-            [other, others @ ..] => {
-                *count < *other || *count == *other && comes_before(more, others)
-            }
-        },
-    }
-}
-
-fn points_ascend(points: &[Bag]) -> bool
-    ensures { result ≡ grid.points_ascend (map counts_of points.now) }
-{
-    let mut rest = points;
-    while let [first, more @ ..] = rest {
-        if let [second, ..] = more {
-            if !comes_before(first.counts.as_slice(), second.counts.as_slice()) {
-                return false;
-            }
-        }
-        rest = more;
-    }
-    true
-}
-
 /// The points of a grid of so many tags with this bound, if they are ones.
 fn grid_with(tags: usize, k: u32, points: Sequence<Bag>) -> Result<VarValue, Unread>
     requires { tags < 33 }
     ensures { Gives value_view (reading.grid_with tags k (map counts_of points)) result }
 {
-    if grid_fits(k, tags as u32)
-        && points_fit_in(k, tags, points.as_slice())
-        && points_ascend(points.as_slice())
-    {
+    if points_fit(k, tags as u32, points.as_slice()) {
         Ok(VarValue::Grid { k, points })
     } else {
         Err(Unread::NotSpelled)

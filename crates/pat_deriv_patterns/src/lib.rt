@@ -9,4 +9,4 @@ mod words;
 
 pub use reading::read_pattern;
 pub use unread::Unread;
-pub use words::read_number;
+pub use words::{read_digits, read_number};

@@ -10,7 +10,7 @@ use pat_core::TagDecl;
 use pat_patterns::Pattern;
 
 /// The number that the digits spell, if it is one of 32 bits.
-fn read_digits(text: &[u8]) -> Option<u32>
+pub fn read_digits(text: &[u8]) -> Option<u32>
     ensures { result ≡ numbers.read_digits 0 text.now }
 {
     let mut number: u32 = 0;

@@ -16,8 +16,8 @@ pub record Begins (lim : Limits) (ts : List Item) : Type 0 where
   pub tree : Tree
   pub spelled : Spells lim (ts ++ map free_item rest) tree
 
--- At the offset a token is unexpected: the tokens before it begin a program and none of them is too deep, and with it
--- they begin none, however deep. Or the tokens end too early: they begin a program and are none.
+-- At the offset a token is unexpected: what stands before it could go on to a program within the limits, and with the
+-- token itself it could not, whatever the limits. Or the tokens end too early: they could go on to a program, and are none.
 pub data IsUnexpected (lim : Limits) (end : ℕ) : List Spanned → ℕ → Type 0 where
   at_token : (before behind : List Spanned) (t : Spanned) → Begins lim (map bound_item before) → (Begins lim (map free_item (before ++ t ∷ [])) → ⊥) → IsUnexpected lim end (before ++ t ∷ behind) t.from
   at_end : (ts : List Spanned) → Begins lim (map bound_item ts) → ((m : Tree) → Spells lim (map free_item ts) m → ⊥) → IsUnexpected lim end ts end

@@ -11,3 +11,4 @@ pub mod LawParts
 pub mod Taking
 pub mod UnderLaws
 pub mod FormCounts
+pub mod FormTags

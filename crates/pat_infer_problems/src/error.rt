@@ -5,10 +5,10 @@ ghost use Rattle.pat_infer_problems.specs.declared.error.InferError.TheVariants.
 use pat_syntax::Span;
 use std::alloc::{AllocError, AllocFailed};
 
-/// A rule of backward typing, in the order in which they are looked at for one term.
+/// A rule of backward typing; where a term breaks several, the first of this list is named.
 #[derive(Clone, Copy, Debug, PartialEq, Eq)]
 pub enum Rule {
-    /// A mailbox variable stands twice in a call or send.
+    /// A call or a send is given a mailbox more than once.
     Alias,
     /// What the bound part of a `let` needs as returnable, the body needs too; or a clause needs the variable of its guard.
     Order,

@@ -9,9 +9,9 @@ pub data Place : Type 0 where
   AtNode : (node : ℕ) → Place
   AtName : (function variable : ℕ) → Place
 
--- the rules, in the order in which they are examined at one term
+-- the rules; where a term breaks several, the first of this list is named
 pub data Rule : Type 0 where
-  -- no mailbox variable stands twice in a call or send
+  -- a call or a send is given no mailbox more than once
   AliasRule : Rule
   -- what the bound part of a let needs as returnable, its body doesn't need; and no clause of a guard needs the guarded variable
   OrderRule : Rule

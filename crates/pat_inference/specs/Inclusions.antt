@@ -53,7 +53,7 @@ JoinShown R Sending Sending e1 e2 e = R (Prod e1 e2) e
 JoinShown R Sending Receiving e1 e2 e = R (Prod e1 e) e2
 JoinShown R Receiving _ e1 e2 e = R (Prod e2 e) e1
 
--- what is there is divided among the bound part and the body of a let
+-- a let shares out its types: these to what is bound, those to its body
 abbrev pub SplitShown : Shows → Option MailboxType → Option MailboxType → Option MailboxType → Type 0
 SplitShown R (Some a) (Some b) (Some c) = JoinShown (R a.interface) b.polarity c.polarity b.pattern c.pattern a.pattern
 SplitShown R (Some a) (Some b) None = PatternShown (R a.interface) b.polarity a.pattern b.pattern

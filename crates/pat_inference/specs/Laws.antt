@@ -44,7 +44,7 @@ is_variable _ = false
 abbrev pub is_lower : Constraint → Bool
 is_lower c = is_variable c.right
 
--- an assignment below a solution that meets the constraints with a variable on the right meets all
+-- below a solution, an assignment need only meet what bounds variables from below
 abbrev pub LeastSolves : Type 0
 LeastSolves =
     (p : Program) (values : ℕ → Pat) (least : ℕ → Pat) → WellFormed p → (inferred p).findings ≡ [] → IsPatternSolution p values → ((k : ℕ) → Included (least k) (values k)) → AllByRecursion (λ c. IsTrue (is_lower c) → MeetsUnder (λ k. In (least k)) c) (inferred p).constraints → IsPatternSolution p least

@@ -22,11 +22,11 @@ use Rattle.pat_machine.specs.declared.job.TakeRefused.{TakeRefused}
 use Rattle.pat_machine.specs.declared.job.TakeRefused.TheVariants as refusal
 use Rattle.pat_machine.specs.Shown.{Shown, program_of, entries_of, steps_in, noted_in, place_of}
 
--- the job's thread is out with the job's allowance
+-- the job is one that was handed out: its thread's allowance is noted, and is the job's
 abbrev pub IsLent : Shown → Job → Type 0
 IsLent m j = allowance_of m.out j.thread ≡ Some j.allowance
 
--- the thread isn't out, and a step of it is open
+-- a job for the thread could be taken: none is out, and a step is open to it
 abbrev pub MayTake : Shown → ℕ → Type 0
 MayTake m t = IsReady (program_of m) m.config m.named.limit m.out t
 
@@ -56,13 +56,13 @@ TakeThreadGives old t (Ok j) new = (j.thread ≡ t) × Lends old j new
 TakeThreadGives old t (Err refusal.NotReady) new = (MayTake old t → ⊥) × (new ≡ old)
 TakeThreadGives old t (Err refusal.Spent) new = MayTake old t × (old.left ≡ 0) × (new ≡ old)
 
--- the kept state of the job's thread; or the job isn't out; or memory ran out
+-- the thread's state as the machine keeps it; a job that wasn't handed out has none, and memory may run out
 abbrev pub StateGives : Shown → Job → Result ThreadState StateRefused → Type 0
 StateGives m j (Ok s) = IsLent m j × (thread_at m.config j.thread ≡ Some (thread_view s))
 StateGives m j (Err state.NotOut) = IsLent m j → ⊥
 StateGives m j (Err state.NoMemory) = IsLent m j
 
--- the entry is what the job makes of the kept state of its thread, and nothing else changes but the history, the steps left and what is out
+-- the entry is the commit of the job upon the state that the machine keeps; what it changes is the configuration, the history, the steps that are left and which jobs are out
 pub record Committed (old : Shown) (worker : ℕ) (j : Job) (r : Receipt) (new : Shown) : Type 0 where
   pub worker_is : r.entry.worker ≡ worker
   pub thread_is : r.entry.thread ≡ j.thread
@@ -82,7 +82,7 @@ CommitGives old worker j (Ok r) new = IsLent old j × Committed old worker j r n
 CommitGives old worker j (Err (commit.NotOut k)) new = (k ≡ j) × (IsLent old j → ⊥) × (new ≡ old)
 CommitGives old worker j (Err (commit.NoMemory k)) new = (k ≡ j) × IsLent old j × (new ≡ old)
 
--- the job's thread is no longer out and its steps go back, or nothing changes where it isn't out with the job's allowance
+-- the job isn't out any more and its allowance counts as left; nothing changes where it never was out
 pub record GivesBack (old : Shown) (j : Job) (new : Shown) : Type 0 where
   pub back : IsLent old j → new ≡ record old { left = old.left + j.allowance; out = slice_set old.out j.thread None }
   pub same : (IsLent old j → ⊥) → new ≡ old
@@ -97,7 +97,7 @@ outcome_view ending.Waiting = EndWaiting
 outcome_view ending.Full = EndFull
 outcome_view ending.Budget = EndBudget
 
--- a thread is out, or a thread is ready and a step is left; else the outcome of the configuration
+-- none while the run goes on, that is while a job is out or could be taken; else how the configuration ends it
 abbrev pub OutcomeGives : Shown → Option CodeOutcome → Type 0
 OutcomeGives m None = SomeOut m.out ⊎ ((0 < m.left) × ((t : ℕ) × MayTake m t))
 OutcomeGives m (Some o) =

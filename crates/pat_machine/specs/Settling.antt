@@ -14,7 +14,7 @@ pub record IsSettled (p : Program) (c : Config) (j : Job) (s : Settled) : Type 0
   pub there : thread_at c j.thread ≡ Some kept
   pub local : IsLocalRun p j.allowance kept s.steps (thread_view s.end)
 
--- after k local steps the shared step is taken where a step of the allowance is left
+-- the allowance less the k local steps: a shared step follows if anything is left of it, and else nothing
 pub record Finishes (p : Program) (allowance limit : ℕ) (half : Config) (t k : ℕ) (a : Option Act) (d : Config) : Type 0 where
   pub shared : k < allowance → Shares p limit half t a d
   pub spent : k ≡ allowance → (a ≡ None) × (d ≡ half)

@@ -137,7 +137,7 @@ fn settle_inside(
     Ok(Settled { end, steps })
 }
 
-// Puts the state after the local steps in its place, and takes the shared step that is open, where a step of the allowance is left.
+// Puts the state after the local steps in its place, and takes the open shared step, if the local ones didn't use up the allowance.
 fn share(
     alloc: Global,
     code: &Executable,

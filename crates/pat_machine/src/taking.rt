@@ -70,7 +70,7 @@ impl Parts {
         }
     }
 
-    /// Whether the job's thread is out with the job's allowance.
+    /// Whether the job is one that was handed out and is not back yet.
     pub fn is_lent(&self, job: Job) -> bool
         ensures { IsTrue result ↔ IsLent (shown self.now) job }
     {

@@ -55,7 +55,7 @@ impl State {
         is_above(last, thread) && self.is_ready(code, limit, out, thread)
     }
 
-    /// Whether the thread isn't out and a step of it is open. It takes no memory.
+    /// Whether a job for the thread could be handed out: it has an open step, and none is out yet. It takes no memory.
     pub fn is_ready(&self, code: &Executable, limit: u32, out: &[Option<u32>], thread: u32) -> bool
         ensures { result ≡ is_ready (program_view code.now.program) self.now limit out.now thread }
     {

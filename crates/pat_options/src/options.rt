@@ -1,7 +1,8 @@
 // Options, two words each.
 ghost use Rattle.std.specs.Prelude.{◌≡◌, map, string_bytes, IfSome};
-ghost use Rattle.pat_pattern_text.specs.Numbers as numbers;
 ghost use Rattle.pat_options.specs.Options as chosen;
+
+use pat_deriv_patterns::read_digits;
 
 /// How many steps a run may take, and how many messages may be pending in it.
 #[derive(Clone, Copy, Debug, PartialEq, Eq)]
@@ -115,23 +116,6 @@ fn number_of(word: &[u8]) -> Option<u32>
     } else {
         None
     }
-}
-
-fn read_digits(word: &[u8]) -> Option<u32>
-    ensures { result ≡ numbers.read_digits 0 word.now }
-{
-    let mut number: u32 = 0;
-    for byte in word {
-        if !byte.is_ascii_digit() {
-            return None;
-        }
-        let next = number as u64 * 10 + (*byte - b'0') as u64;
-        if next > 4294967295 {
-            return None;
-        }
-        number = next as u32;
-    }
-    Some(number)
 }
 
 fn with_defaults(choice: Choice) -> RunOptions

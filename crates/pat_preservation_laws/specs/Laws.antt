@@ -14,7 +14,7 @@ use Rattle.pat_typing.specs.Interfaces.{interfaces_after, interfaces_along}
 abbrev pub StartTyped : Type 0
 StartTyped = (p : Program) (y : Typing) (interfaces : ℕ → ℕ) → WellFormed p → IsTyping p y → IsTyped p y interfaces (start p)
 
--- a step of a typed configuration of a well-formed program gives one that is typed by the same typing, under the same
+-- in a well-formed program a step leads from a typed configuration to a typed one: the typing stays, and so do the
 -- interfaces, but for the mailbox that a `new` makes, which has that node's interface
 abbrev pub StepKeeps : Type 0
 StepKeeps =

@@ -2,7 +2,7 @@
 use Rattle.std.specs.Prelude.{ℕ, List, option_map, map}
 use Rattle.pat_model.specs.Configs.{Control, Thread, Config}
 use Rattle.pat_model.specs.Steps.{Act, ActLocal, ActNew, ActSend, ActSpawn, ActPrint, ActEnd, ActFree, ActReceive, Step}
-use Rattle.pat_model.specs.Runs.{Entry, Outcome, EndDone, EndWaiting, EndBudget}
+use Rattle.pat_model.specs.Runs.{Entry}
 use Rattle.pat_reduce_threads.specs.declared.state.Control.{Control as CodeControl}
 use Rattle.pat_reduce_threads.specs.declared.state.ThreadState.{ThreadState}
 use Rattle.pat_reduce_threads.specs.ThreadViews.{control_view, thread_view, message_view}
@@ -11,8 +11,6 @@ use Rattle.pat_reduce.specs.declared.history.Act.{Act as CodeAct}
 use Rattle.pat_reduce.specs.declared.history.Act.TheVariants as act
 use Rattle.pat_reduce.specs.declared.history.Step.{Step as CodeStep}
 use Rattle.pat_reduce.specs.declared.history.Entry.{Entry as CodeEntry}
-use Rattle.pat_reduce.specs.declared.history.Outcome.{Outcome as CodeOutcome}
-use Rattle.pat_reduce.specs.declared.history.Outcome.TheVariants.{Done as CodeDone, Waiting as CodeWaiting, Budget as CodeBudget}
 
 -- a mailbox and a control
 abbrev pub freed_view : ℕ × CodeControl → ℕ × Control
@@ -47,8 +45,3 @@ step_view k = record { thread = k.thread; act = act_view k.act }
 
 abbrev pub entry_view : CodeEntry → Entry
 entry_view e = record { worker = e.worker; thread = e.thread; local_steps = e.local; shared = option_map act_view e.shared }
-
-abbrev pub outcome_view : CodeOutcome → Outcome
-outcome_view CodeDone = EndDone
-outcome_view CodeWaiting = EndWaiting
-outcome_view CodeBudget = EndBudget

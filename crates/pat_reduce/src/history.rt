@@ -29,11 +29,3 @@ pub struct Entry {
     pub local: u32,
     pub shared: Option<Act>,
 }
-
-/// How a run ends: each thread ended, no step is enabled, or the steps are spent.
-#[derive(Clone, Copy, Debug, PartialEq, Eq)]
-pub enum Outcome {
-    Done,
-    Waiting,
-    Budget,
-}

@@ -8,6 +8,6 @@ mod references;
 mod steps;
 
 pub use config::Config;
-pub use history::{Act, Entry, Outcome, Step};
+pub use history::{Act, Entry, Step};
 pub use pat_reduce_threads::{Control, Frame, Message, ThreadState};
 pub use pat_reduce_values::{StepError, Value};

@@ -1,4 +1,4 @@
--- The interfaces of a typed configuration account for it: each live mailbox is one that a thread refers to or that a pending message hands over.
+-- The interfaces of a typed configuration account for it: no live mailbox of it is out of reach.
 use Rattle.std.proofs.Common.{◌≡◌, ℕ, suc, ◌+◌, Bool, true, false, ◌||◌, ◌&&◌, if◌then◌else◌, List, [], ◌∷◌, ◌++◌, map, Option, Some, None, refl, sym, ap, ◌∙◌, subst, arith, ⊎_elim}
 use Rattle.std.specs.Prelude.{slice_get, option_and_then}
 use Rattle.std.specs.List.{AllByRecursion, list_any}

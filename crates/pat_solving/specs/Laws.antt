@@ -130,7 +130,7 @@ abbrev pub is_solved : Answer → Bool
 is_solved (Solved forms points) = true
 is_solved _ = false
 
--- where each interface is in bounds and each sending variable of a signature has a derivable word, just typable programs are solved
+-- if no interface is out of bounds, and no sending variable of a signature lacks a derivable word, solved means typable
 abbrev pub SolvedExactly : Type 0
 SolvedExactly =
     (p : Program) (a : Answer)

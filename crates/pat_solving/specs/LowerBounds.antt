@@ -16,7 +16,7 @@ right_side f = PatternRight f
 abbrev pub sides_of : Constraint → bounds.Constraint
 sides_of c = record { left = c.left; right = right_side c.right }
 
--- the lower bound of each variable by the constraints: the sum, in order, of the left sides whose right side it is
+-- the lower bound of each variable by the constraints: all left sides with that variable on the right, added up as they come
 abbrev pub lowers : List Constraint → ℕ → Pat
 lowers cs = lower_of (map sides_of cs)
 
