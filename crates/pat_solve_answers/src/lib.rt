@@ -1,0 +1,8 @@
+//! What solving answers: a solution of a program's problem, or the first reason why there is none.
+#![tactic(auto)]
+
+mod error;
+mod solution;
+
+pub use error::SolveError;
+pub use solution::{Form, Solution};
