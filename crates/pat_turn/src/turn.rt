@@ -1,0 +1,251 @@
+// The turn and its passes.
+ghost use Rattle.std.specs.Prelude.{◌≡◌, ℕ, ◌+◌, ◌%◌, ◌^◌, ◌<◌, ◌≤◌, [], ◌∷◌, ◌++◌, map, length, slice_index, ◌-◌, IfOk, OnOk, None, Some, true, false};
+ghost use Rattle.std.specs.List.{All};
+ghost use mathlib.Core.List.{IsPrefix};
+ghost use Rattle.pat_turn.specs.Rule.{Comes, MayPut, entries_naming, opened};
+ghost use Rattle.pat_turn.specs.Shown.{AreNew, AreAll, GoesOn, IsOfAll, newcomers, turn_of, as_part};
+ghost use Rattle.pat_turn.specs.declared.view.Stage.TheVariants.{Idle};
+ghost use Rattle.pat_turn.specs.Passes.{IsIdle, IsHolding, IsTable, known, with_seen};
+
+use crate::law::{About, Law};
+use crate::plays::{Another, Draw, Fold, Look, PassOn};
+use crate::view::View;
+use atomic_table::{Refused, Seat, Shared, Table};
+use pat_kept::Kept;
+use std::alloc::{AllocError, Global};
+use std::hint;
+use std::marker::Model;
+use std::snapshot::Snapshot;
+use std::sync::Wait;
+
+type Place<V> = Seat<Option<V>, View<<V as Kept>::Name, <V as Kept>::Entry>>;
+
+type Top<V> = Shared<Option<V>, View<<V as Kept>::Name, <V as Kept>::Entry>, About<V>, Law<V>>;
+
+/// A lock that hands a value from pass to pass. Contracts see which one it is, the value's name, and the number of passes.
+#[derive(Drop)]
+pub struct Turn<V: Kept> {
+    table: Table<Option<V>, View<V::Name, V::Entry>, About<V>, Law<V>, Global>,
+}
+
+impl<V: Kept> Model for Turn<V> {
+    ghost use Rattle.std.specs.Prelude.{◌<◌};
+    ghost use Rattle.pat_turn.specs.Shown.{ShownTurn};
+    ghost use Rattle.pat_turn.specs.Shown.{AreNew, AreAll, GoesOn, IsOfAll, newcomers, turn_of, as_part};
+    ghost use Rattle.pat_turn.specs.declared.view.Stage.TheVariants.{Idle};
+    ghost use Rattle.pat_turn.specs.Passes.{IsTable};
+
+    ghost Value = { ShownTurn V.Name };
+
+    ghost view = { λ t. record { id = t.table.shared.table_id; name = V.name t.table.shared.key.first.value; passes = t.table.shared.key.passes } };
+
+    ghost invariant = { λ t. IsTable t.table.shared.table_id × (0 < t.table.shared.key.passes) };
+}
+
+/// The right to draw tickets. Contracts see its turn, its number, the value's name, the log that it has seen, and whether it holds the value.
+#[derive(Drop)]
+pub struct Pass<V: Kept> {
+    seat: Seat<Option<V>, View<V::Name, V::Entry>>,
+    number: u32,
+    served: u64,
+}
+
+impl<V: Kept> Model for Pass<V> {
+    ghost use Rattle.pat_turn.specs.Shown.{ShownPass, shown, IsSettled};
+
+    ghost Value = { ShownPass V.Name V.Entry };
+
+    ghost view = { λ p. shown p.seat.table_id p.seat.me };
+
+    ghost invariant = { λ p. IsSettled p.number p.seat.me };
+}
+
+// Draws a ticket, and waits until it is served.
+fn take<V: Kept, R: Wait>(rt: &R, top: &Top<V>, seat: &mut Place<V>) -> V
+    requires table { IsTable top.now.table_id × (seat.old.table_id ≡ top.now.table_id) }
+    requires idle { IsIdle seat.old }
+    ensures seat { (seat.new.table_id ≡ seat.old.table_id) × IsHolding seat.new × (known seat.new ≡ with_seen (known seat.old) (V.log result)) }
+    ensures value { Comes V.name V.log V.by (known seat.old) result }
+{
+    let ticket = top.fetch_add::<Draw>(seat, 0, 1);
+    for _ in rt.forever() {
+        let served = top.load::<Look>(seat, 1);
+        if served == ticket {
+            return top.exchange(seat, 0, None).unwrap();
+        }
+        wait_for_another(rt, top, served);
+    }
+    unreachable!()
+}
+
+// How often the word is looked at before the thread sleeps.
+const LOOKS: u32 = 200;
+
+// Waits while so many tickets are served and no more: looks a few times, since most holds are short, and then sleeps. It may end for no
+// reason.
+fn wait_for_another<V: Kept, R: Wait>(rt: &R, top: &Top<V>, served: u64)
+    requires { IsTable top.now.table_id }
+{
+    for _ in 0..LOOKS {
+        if top.peek(1) != served {
+            return;
+        }
+        hint::spin_loop();
+    }
+    top.park(rt, 1, (served % (1 << 32)) as u32);
+}
+
+// Puts the value back, and tells those that wait. Returns the number of tickets that were served.
+fn give<V: Kept>(top: &Top<V>, seat: &mut Place<V>, value: V) -> u64
+    requires table { IsTable top.now.table_id × (seat.old.table_id ≡ top.now.table_id) }
+    requires holds { IsHolding seat.old }
+    requires value { MayPut V.name V.log V.by (known seat.old) value }
+    ensures { (seat.new.table_id ≡ seat.old.table_id) × IsIdle seat.new × (known seat.new ≡ with_seen (known seat.old) (V.log value)) }
+{
+    drop(top.exchange(seat, 0, Some(value)));
+    let served = top.fetch_add::<PassOn>(seat, 1, 1);
+    top.wake_all(1);
+    served.wrapping_add(1)
+}
+
+// Adds the passes with the numbers from 1 on.
+fn add_passes<V: Kept>(
+    top: &Top<V>,
+    first: &mut Place<V>,
+    others: &mut Vec<Pass<V>>,
+    passes: u32,
+) -> Result<(), AllocError>
+    requires table { IsTable top.now.table_id × (first.old.table_id ≡ top.now.table_id) × (passes ≡ top.now.key.passes) }
+    requires first { (first.old.me ≡ (opened (V.name top.now.key.first.value), [])) × (0 < passes) }
+    requires none { others.old.items ≡ [] }
+    ensures first { OnOk result ((first.new.table_id ≡ first.old.table_id) × (first.new.me ≡ (record (opened (V.name top.now.key.first.value)) { made = passes }, []))) }
+    ensures others { OnOk result (others.new.items ≡ newcomers (turn_of top.now.table_id (V.name top.now.key.first.value) passes) 1 (passes - 1)) }
+{
+    for number in 1..passes {
+        let seat = top.split_seat::<Another>(first);
+        others.push(Pass {
+            seat,
+            number,
+            served: 0,
+        })?;
+    }
+    Ok(())
+}
+
+// Joins the other passes to the first.
+fn join_all<V: Kept>(top: &Top<V>, first: &mut Place<V>, others: Vec<Pass<V>>)
+    requires table { IsTable top.now.table_id × (first.old.table_id ≡ top.now.table_id) }
+    requires idle { first.old.me.0.stage ≡ Idle }
+    requires others { All (λ p. (p.turn ≡ top.now.table_id) × (p.holds ≡ false)) others.items }
+    ensures seat { (first.new.table_id ≡ first.old.table_id) × (first.new.id ≡ first.old.id) }
+    ensures joined { first.new.me.0 ≡ record first.old.me.0 { joined = first.old.me.0.joined ++ map as_part others.items } }
+{
+    for pass in others {
+        let Pass {
+            seat,
+            number: _,
+            served: _,
+        } = pass;
+        top.join_seat::<Fold>(first, seat);
+    }
+}
+
+impl<V: Kept> Pass<V> {
+    /// The passes of a turn have the numbers from 0 on.
+    pub fn number(&self) -> u32
+        ensures { result ≡ self.now.number }
+    {
+        self.number
+    }
+}
+
+impl<V: Kept> Turn<V> {
+    /// Waits until the value may be taken, and takes it. Its log begins with all that the pass has seen, and has no further entry of the pass.
+    pub fn hold<R: Wait>(&self, rt: &R, pass: &mut Pass<V>) -> V
+        requires turn { pass.old.turn ≡ self.now.id }
+        requires free { pass.old.holds ≡ false }
+        ensures pass { pass.new ≡ record pass.old { seen = V.log result; holds = true } }
+        ensures name { pass.old.name ≡ Some (V.name result) }
+        ensures seen { IsPrefix pass.old.seen (V.log result) }
+        ensures own { entries_naming V.by pass.old.number (V.log result) ≡ entries_naming V.by pass.old.number pass.old.seen }
+    {
+        take(rt, &self.table.shared, &mut pass.seat)
+    }
+
+    /// Puts the value back, with entries of the pass alone behind those that it has seen.
+    pub fn put(&self, pass: &mut Pass<V>, value: V)
+        requires turn { pass.old.turn ≡ self.now.id }
+        requires holds { pass.old.holds ≡ true }
+        requires name { pass.old.name ≡ Some (V.name value) }
+        requires log { GoesOn V.by pass.old.number pass.old.seen (V.log value) }
+        ensures { pass.new ≡ record pass.old { seen = V.log value; holds = false } }
+    {
+        pass.served = give(&self.table.shared, &mut pass.seat, value);
+    }
+
+    /// May wait until another pass has put the value back since this one last did.
+    pub fn rest<R: Wait>(&self, rt: &R, pass: &mut Pass<V>)
+        requires turn { pass.old.turn ≡ self.now.id }
+        requires free { pass.old.holds ≡ false }
+        ensures { pass.new ≡ pass.old }
+    {
+        let served = self.table.shared.peek(1);
+        if served == pass.served {
+            wait_for_another(rt, &self.table.shared, served);
+        }
+        pass.served = self.table.shared.peek(1);
+    }
+}
+
+impl<V: Kept> Turn<V> {
+    /// A turn with this value, and its passes, which have seen nothing.
+    pub fn new(alloc: Global, value: V, passes: u32) -> Result<(Turn<V>, Vec<Pass<V>>), AllocError>
+        requires passes { (0 < passes) × (passes ≤ 64) }
+        requires empty { V.log value ≡ [] }
+        ensures turn { IfOk result (λ r. (r.0.name ≡ V.name value) × (r.0.passes ≡ passes)) }
+        ensures passes { IfOk result (λ r. AreNew r.0 r.1.items) }
+    {
+        let mut slots = Vec::with_capacity(alloc, 1)?;
+        let mut others = Vec::with_capacity(alloc, passes as usize)?;
+        let about = About {
+            first: Snapshot::of(&value),
+            passes,
+        };
+        slots.push_reserved(Some(value));
+        let (table, mut first) = match Table::new(alloc, &[0, 0], slots, &about) {
+            Ok(made) => made,
+            Err(Refused { slots: _ }) => return Err(AllocError),
+        };
+        add_passes(&table.shared, &mut first, &mut others, passes)?;
+        others.insert(
+            0,
+            Pass {
+                seat: first,
+                number: 0,
+                served: 0,
+            },
+        )?;
+        Ok((Turn { table }, others))
+    }
+}
+
+impl<V: Kept> Turn<V> {
+    /// Gives the value back, once no pass holds it.
+    pub fn close(self, mut passes: Vec<Pass<V>>) -> V
+        requires { AreAll self passes.items }
+        ensures name { V.name result ≡ self.name }
+        ensures log { IsOfAll V.by passes.items (V.log result) }
+    {
+        let Turn { table } = self;
+        let Pass {
+            seat: mut first,
+            number: _,
+            served: _,
+        } = passes.remove(0);
+        join_all(&table.shared, &mut first, passes);
+        let mut closed = table.close_with(first);
+        let value = closed.take(0);
+        closed.free();
+        value.unwrap()
+    }
+}
