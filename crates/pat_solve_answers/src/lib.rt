@@ -5,4 +5,4 @@ mod error;
 mod solution;
 
 pub use error::SolveError;
-pub use solution::{Form, Solution};
+pub use solution::Solution;

@@ -2,19 +2,10 @@
 use pat_derivations::VarValue;
 use pat_sequences::Sequence;
 
-/// The form of the values of an interface's variables.
-#[derive(Clone, Copy, Debug, PartialEq, Eq)]
-pub enum Form {
-    /// Patterns without variables.
-    Patterns,
-    /// Grids with this bound.
-    Grids(u32),
-}
-
-/// Values of all variables of a problem, which show its constraints: the form of each interface's values, in order of interface; and
-/// the interface and the value of each variable, in order.
+/// Values of all variables of a problem, which show its constraints: for each interface the bound of the grids that are its values,
+/// or none where these are patterns; and the interface and the value of each variable, in order.
 #[derive(Drop)]
 pub struct Solution {
-    pub forms: Sequence<Form>,
+    pub bounds: Sequence<Option<u32>>,
     pub values: Sequence<(u32, VarValue)>,
 }
