@@ -91,6 +91,7 @@ served old new (r ∷ rs) none (m, round, rounds) =
     let done = round.committed in
     let named = same_named old round.lent m round.job r none lends done in
     let more = served m new rs (none_out old round.lent m round.job r none lends done) rounds in (
+      lends.some,
       turn_is old round.lent m round.job r none lends done round.taken.0,
       (
         m.config,

@@ -1,5 +1,5 @@
 -- What a run by one worker comes to.
-use Rattle.std.specs.Prelude.{◌≡◌, ℕ, ◌-◌, min, List, [], ◌∷◌, length, Option, Some, None}
+use Rattle.std.specs.Prelude.{◌≡◌, ℕ, ◌-◌, ◌<◌, min, List, [], ◌∷◌, length, Option, Some, None}
 use Rattle.std.specs.List.{AllByRecursion}
 use Rattle.pat_model.specs.Programs.{Program}
 use Rattle.pat_model.specs.Configs.{Config, start}
@@ -13,12 +13,13 @@ use Rattle.pat_machine.specs.Shown.{Shown, entries_of}
 use Rattle.pat_machine.specs.Gives.{Rests, outcome_view}
 use Rattle.pat_run.specs.declared.running.Finished.{Finished}
 
--- nobody else is out: the entries are jobs one after another, from c to d, with so many steps left before them; each is of the thread
--- whose turn it is, and may take 256 steps, or what is left
+-- nobody else is out: the entries are jobs one after another, from c to d, with so many steps left before them; each is taken while
+-- steps are left, is of the thread whose turn it is, and may take 256 steps, or what is left
 abbrev pub Served : Program → (limit left : ℕ) → (last : Option ℕ) → Config → List Entry → Config → Type 0
 Served p limit left last c [] d = c ≡ d
 Served p limit left last c (e ∷ es) d =
-    IsTurn p c limit [] last e.thread
+    (0 < left)
+    × IsTurn p c limit [] last e.thread
     × ((m : Config) × IsCommit p (min left 256) limit c e m × Served p limit (left - length (entry_steps e)) (Some e.thread) m es d)
 
 -- a history of jobs of worker 0, from the start of the program to a configuration with this outcome
