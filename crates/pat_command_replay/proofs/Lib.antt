@@ -1,4 +1,3 @@
 mod Answering
 -- for the crates above
 pub mod Statuses
-mod Once

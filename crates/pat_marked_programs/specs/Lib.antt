@@ -1,2 +1,1 @@
 pub mod MarkedPrograms
-pub mod OneProgram
