@@ -1,1 +1,1 @@
-pub mod Coverings
+pub mod Fits

@@ -1,12 +1,12 @@
-//! Whether the sides of a constraint, with their variables replaced, are directly covered.
+//! Closed forms of the sides of constraints, with their variables replaced, and whether one is directly covered by another.
 #![tactic(auto)]
 
-ghost use Rattle.pat_solve_covers.specs.Coverings.{FitsLaw};
+ghost use Rattle.pat_solve_covers.specs.Fits.{FitsLaw};
 
 mod covering;
 mod sides;
 
-pub use covering::{Covering, covering_of, is_covered};
+pub use covering::is_covered;
 pub use sides::side_form;
 
 /// When a closed-form assignment isn't too large: by both rounds, and by closed forms of replaced sides.

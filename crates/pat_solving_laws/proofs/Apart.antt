@@ -106,7 +106,7 @@ module _ (p : Program) (fits : AllByRecursion (ConstraintFits p (all_vars p)) (i
       lefts_fit p (all_vars p) i k Zero (constraints_in i (inferred p).constraints) tt
       (all_left_in p (all_vars p) i k (inferred p).constraints fits)
 
-  lower_same : (i k : ℕ) (v : Variable) → IsNumber (all_vars p) k v → v.interface ≡ i → lowers_of p k ≡ lowers_in p i k
+  pub lower_same : (i k : ℕ) (v : Variable) → IsNumber (all_vars p) k v → v.interface ≡ i → lowers_of p k ≡ lowers_in p i k
   lower_same i k v num same = lefts_same p (all_vars p) i k v num same Zero (inferred p).constraints fits
 
   lower_fits : (i k : ℕ) (v : Variable) → IsNumber (all_vars p) k v → v.interface ≡ i → PatternFits p (all_vars p) i (lowers_of p k)

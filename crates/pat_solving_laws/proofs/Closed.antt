@@ -83,7 +83,7 @@ module _ (n : ℕ) where
   within_more P Q f (Star e) h = within_more P Q f e h
   within_more P Q f (Var j) h = f j h
 
-  within_subst : (P Q : ℕ → Type 0) (v : ℕ → Pat) → ((j : ℕ) → P j → Within n Q (v j)) → (e : Pat) → Within n P e → Within n Q (subst_of v e)
+  pub within_subst : (P Q : ℕ → Type 0) (v : ℕ → Pat) → ((j : ℕ) → P j → Within n Q (v j)) → (e : Pat) → Within n P e → Within n Q (subst_of v e)
   within_subst P Q v f Zero h = tt
   within_subst P Q v f One h = tt
   within_subst P Q v f (Tag m) h = h

@@ -10,9 +10,9 @@ mod Scoped
 mod Entries
 mod Valid
 mod Alike
-mod Apart
+pub mod Apart
 mod Untypable
-mod Closed
+pub mod Closed
 mod KindsThere
 mod InterfacesThere
 mod Grids

@@ -1,0 +1,4 @@
+pub mod Numbering
+mod Indexed
+mod Adding
+pub mod Ties

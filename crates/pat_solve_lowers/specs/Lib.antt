@@ -1,0 +1,5 @@
+pub mod Rows
+pub mod Sides
+pub mod Sums
+pub mod Indexes
+pub mod Laws
