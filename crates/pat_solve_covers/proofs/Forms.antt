@@ -1,5 +1,5 @@
 -- Closed forms of replaced sides; they are short.
-use Rattle.std.proofs.Common.{◌≡◌, ℕ, ◌≤◌, ◌⊎◌, ⊎_elim, true, false, ◌&&◌, List, [], ◌∷◌, length, Some, None, refl, sym, ◌∙◌, subst}
+use Rattle.std.proofs.Common.{◌≡◌, ℕ, ◌≤◌, ⊎_elim, true, false, ◌&&◌, List, [], ◌∷◌, length, Some, None, refl, sym, ◌∙◌, subst}
 use Rattle.std.proofs.lemmas.Bool.{cases_Bool, and_parts, leb-true}
 use Rattle.pat_words.specs.Patterns.{Pat, Zero, One, Tag, Sum, Prod, Star, Var}
 use Rattle.pat_inclusions.specs.LinearSets.{LinearSet}

@@ -1,0 +1,4 @@
+mod Rounding
+mod Steps
+mod Tagged
+mod Meaning

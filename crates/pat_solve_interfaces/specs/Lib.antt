@@ -1,0 +1,5 @@
+pub mod Sides
+pub mod Rounds
+pub mod Forms
+pub mod Findings
+pub mod Values

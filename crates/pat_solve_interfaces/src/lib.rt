@@ -1,0 +1,10 @@
+//! The closed-form values of one interface: they are patterns that cover its constraints, or something is too large, or a constraint
+//! isn't covered.
+#![tactic(auto)]
+
+mod checking;
+mod forms;
+mod lowers;
+mod values;
+
+pub use values::{ClosedValues, interface_values};
