@@ -1,0 +1,3 @@
+pub mod PlaceLaws
+mod Renames
+pub mod Systematic

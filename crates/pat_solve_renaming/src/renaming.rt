@@ -1,0 +1,89 @@
+// Copies of patterns in which variables are numbered anew.
+//
+// These calls go as deep as the pattern, the left side of a constraint. Inference makes none deeper than statements, brackets and
+// operators nest in a text, which is some 17,000 levels.
+ghost use Rattle.std.specs.Prelude.{◌≡◌, ◌∷◌, ◌≤◌, length, IfOk, OnOk};
+ghost use Rattle.pat_words.specs.Patterns.{Sum, Prod, Star};
+ghost use Rattle.pat_patterns.specs.Views.{pattern_view, patterns_view, joined, joined_one};
+ghost use Rattle.pat_solve_replacing.specs.Ascending.{IsAscending};
+ghost use Rattle.pat_solve_renaming.specs.Renaming.{place_in, renamed as renamed_by};
+
+use crate::places::place_of;
+use pat_patterns::{Pattern, take_one, take_two};
+use pat_sequences::Stack;
+use std::alloc::{AllocError, Global};
+
+/// The pattern with the place of each variable among ascending ones in place of its number.
+pub fn renamed(alloc: Global, p: &Pattern, variables: &[u32]) -> Result<Pattern, AllocError>
+    requires { IsAscending variables.now }
+    ensures { IfOk result (λ q. pattern_view q ≡ renamed_by (place_in variables.now) (pattern_view p.now)) }
+{
+    let mut done = Stack::new(alloc);
+    rename_onto(alloc, p, variables, &mut done)?;
+    Ok(take_one(&mut done))
+}
+
+/// Puts the renamed pattern on the stack.
+fn rename_onto(
+    alloc: Global,
+    p: &Pattern,
+    variables: &[u32],
+    done: &mut Stack<Pattern>,
+) -> Result<(), AllocError>
+    requires { IsAscending variables.now }
+    ensures { OnOk result (patterns_view done.new ≡ renamed_by (place_in variables.now) (pattern_view p.now) ∷ patterns_view done.old) }
+{
+    match p {
+        Pattern::Zero => done.push(Pattern::Zero),
+        Pattern::One => done.push(Pattern::One),
+        Pattern::Tag(tag) => done.push(Pattern::Tag(*tag)),
+        Pattern::Var(number) => {
+            let place = place_of(variables, *number)?;
+            done.push(Pattern::Var(place))
+        }
+        Pattern::Sum(left, right) => {
+            rename_onto(alloc, left, variables, done)?;
+            rename_onto(alloc, right, variables, done)?;
+            join_sum(alloc, done)
+        }
+        Pattern::Prod(left, right) => {
+            rename_onto(alloc, left, variables, done)?;
+            rename_onto(alloc, right, variables, done)?;
+            join_product(alloc, done)
+        }
+        Pattern::Star(part) => {
+            rename_onto(alloc, part, variables, done)?;
+            join_star(alloc, done)
+        }
+    }
+}
+
+#[inline(never)]
+fn join_sum(alloc: Global, done: &mut Stack<Pattern>) -> Result<(), AllocError>
+    requires { 2 ≤ length (patterns_view done.old) }
+    ensures { OnOk result (patterns_view done.new ≡ joined Sum (patterns_view done.old)) }
+{
+    let (left, right) = take_two(done);
+    let node = Pattern::Sum(Box::new(alloc, left)?, Box::new(alloc, right)?);
+    done.push(node)
+}
+
+#[inline(never)]
+fn join_product(alloc: Global, done: &mut Stack<Pattern>) -> Result<(), AllocError>
+    requires { 2 ≤ length (patterns_view done.old) }
+    ensures { OnOk result (patterns_view done.new ≡ joined Prod (patterns_view done.old)) }
+{
+    let (left, right) = take_two(done);
+    let node = Pattern::Prod(Box::new(alloc, left)?, Box::new(alloc, right)?);
+    done.push(node)
+}
+
+#[inline(never)]
+fn join_star(alloc: Global, done: &mut Stack<Pattern>) -> Result<(), AllocError>
+    requires { 1 ≤ length (patterns_view done.old) }
+    ensures { OnOk result (patterns_view done.new ≡ joined_one Star (patterns_view done.old)) }
+{
+    let part = take_one(done);
+    let node = Pattern::Star(Box::new(alloc, part)?);
+    done.push(node)
+}

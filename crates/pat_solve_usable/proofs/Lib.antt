@@ -1,0 +1,5 @@
+mod TestLaws
+mod Noting
+mod Turns
+mod Counted
+mod Answered

@@ -1,0 +1,10 @@
+//! Which variables have a derivable word: the first sending one of a signature that has none.
+#![tactic(auto)]
+
+mod counting;
+mod entry;
+mod spreading;
+mod testing;
+mod users;
+
+pub use entry::first_unusable;
