@@ -1,0 +1,6 @@
+mod NodeLaws
+mod ChainLaws
+mod Linking
+mod Holding
+mod Marking
+mod Searching

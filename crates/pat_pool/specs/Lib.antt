@@ -1,0 +1,4 @@
+pub mod Nodes
+pub mod Chained
+pub mod Queues
+pub mod Pooled
