@@ -1,5 +1,5 @@
 mod Taken
-mod CoverTags
-mod Plainly
+pub mod CoverTags
+pub mod Plainly
 mod CutsShown
 mod Numbered

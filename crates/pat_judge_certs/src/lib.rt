@@ -8,5 +8,6 @@ mod numbering;
 mod showing;
 mod trivial;
 
+pub use inclusions::{Inclusion, inclusion_of};
 pub use showing::are_shown;
-pub use trivial::plain_values;
+pub use trivial::{is_trivial, plain_values};

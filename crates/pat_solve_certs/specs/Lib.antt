@@ -1,0 +1,2 @@
+pub mod ClosedValues
+pub mod Making
