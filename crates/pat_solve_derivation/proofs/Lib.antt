@@ -1,0 +1,4 @@
+mod Bare
+mod Filling
+mod Needing
+mod Showing
