@@ -1,3 +1,3 @@
 pub mod PlaceLaws
-mod Renames
+pub mod Renames
 pub mod Systematic

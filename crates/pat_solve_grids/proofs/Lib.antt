@@ -1,0 +1,7 @@
+mod Turning
+mod Degrees
+mod Own
+mod Trees
+mod PointLists
+mod Meaning
+mod Whole

@@ -1,0 +1,34 @@
+-- The grids of an interface of a program, and what is found of its constraints.
+use Rattle.std.specs.Prelude.{◌≡◌, ℕ, ◌<◌, length, Some, None, IsTrue, IsFalse}
+use Rattle.pat_words.specs.Words.{Word}
+use Rattle.pat_words.specs.Patterns.{is_closed}
+use Rattle.pat_model.specs.Programs.{Program}
+use Rattle.pat_bags.specs.Views.{word_of}
+use Rattle.pat_bounds.specs.Trees.{Bound}
+use Rattle.pat_bounds.specs.Searches.{IsInside, IsFound, IsLarge}
+use Rattle.pat_bounds.specs.LeastGrids.{AreLeastPoints}
+use Rattle.pat_inference.specs.Constraints.{Constraint}
+use Rattle.pat_inference.specs.Walk.{all_vars}
+use Rattle.pat_certs_trees.specs.declared.search.Refutation.{Refutation}
+use Rattle.pat_certs_trees.specs.Views.{bound_view}
+use Rattle.pat_solving.specs.LowerBounds.{lowers_of, lowers_in}
+use Rattle.pat_solving.specs.Assignments.{vars_in}
+use Rattle.pat_solving.specs.Answers.{most_nodes, tags_of, grid_bound, IsConstraint}
+use Rattle.pat_solve_grids.specs.declared.entry.InterfaceGrids.{InterfaceGrids}
+use Rattle.pat_solve_grids.specs.Points.{points_by}
+
+-- constraint n is one of the interface, without variables on its right
+pub record IsClosedOf (p : Program) (i n : ℕ) (c : Constraint) : Type 0 where
+  pub at : IsConstraint p n c
+  pub own : c.interface ≡ i
+  pub closed : IsTrue (is_closed c.right)
+
+pub record AreGridsOf (p : Program) (i : ℕ) (g : InterfaceGrids) : Type 0 where
+  pub count : length g.points ≡ length (vars_in i 1 (all_vars p))
+  pub least : AreLeastPoints (grid_bound p i) (tags_of p i) (lowers_in p i) (points_by (vars_in i 1 (all_vars p)) g.points)
+  pub found : (n : ℕ) (r : Refutation) → g.refuted ≡ Some (n, r) → (c : Constraint) × IsClosedOf p i n c × IsFound most_nodes (lowers_of p) c.left c.right (word_of r.word) (bound_view r.tree)
+  pub first : (n m : ℕ) (r : Refutation) (c : Constraint) (w : Word) (b : Bound) → g.refuted ≡ Some (n, r) → m < n → IsClosedOf p i m c → IsFound most_nodes (lowers_of p) c.left c.right w b → ⊥
+  pub none : (m : ℕ) (c : Constraint) (w : Word) (b : Bound) → g.refuted ≡ None → IsClosedOf p i m c → IsFound most_nodes (lowers_of p) c.left c.right w b → ⊥
+  pub large : IsTrue g.is_oversized → (n : ℕ) × (c : Constraint) × IsClosedOf p i n c × IsLarge most_nodes (lowers_of p) c.left c.right
+  pub small : (n : ℕ) (c : Constraint) → IsFalse g.is_oversized → IsClosedOf p i n c → IsLarge most_nodes (lowers_of p) c.left c.right → ⊥
+  pub inside : (n : ℕ) (c : Constraint) → g.refuted ≡ None → IsFalse g.is_oversized → IsClosedOf p i n c → IsInside (lowers_of p) c.left c.right

@@ -1,0 +1,5 @@
+pub mod Rights
+pub mod Findings
+pub mod Views
+pub mod Points
+pub mod Grids
