@@ -1,0 +1,102 @@
+// The solution of a problem.
+ghost use Rattle.std.specs.Prelude.{◌≡◌, ◌<◌, ◌+◌, length, IfOk, IfErr};
+ghost use Rattle.pat_model.specs.WellFormed.{WellFormed};
+ghost use Rattle.pat_core.specs.Views.{program_view};
+ghost use Rattle.pat_infer.specs.Problems.{IsProblemOf, IsEnough};
+ghost use Rattle.pat_solving.specs.Answers.{AllUsable};
+ghost use Rattle.pat_solve_answers.specs.Views.{IsAnswer, IsRefusal, IsUntypable, IsComplete};
+ghost use Rattle.pat_solve_lowers.specs.Indexes.{IsIndexOf};
+ghost use Rattle.pat_solve.specs.States.{Stands};
+
+use crate::states::{State, begun, finished, took};
+use pat_core::Program;
+use pat_infer_problems::Problem;
+use pat_solve_answers::{Solution, SolveError};
+use pat_solve_forms::interface_form;
+use pat_solve_lowers::{Index, index_law};
+use pat_solve_usable::first_unusable;
+use pat_solving_laws::{answer_laws, refusal_laws};
+use std::alloc::{AllocError, Global};
+
+/// The solution of the problem of a well-formed program in which no rule of inference is broken; otherwise the first reason why there
+/// is none: a variable that is unusable, an interface that is too large, or a constraint that is refuted or of which nothing is
+/// known, in this order.
+///
+/// Where a constraint is refuted, or an interface in bounds is too large, the program can't be typed (`untypable`). Where each
+/// interface is in bounds and each sending variable of a signature has a derivable word, only want of memory keeps a program that can
+/// be typed from having a solution (`complete`).
+pub fn solve(alloc: Global, program: &Program, problem: &Problem) -> Result<Solution, SolveError>
+    requires well { WellFormed (program_view program.now) }
+    requires problem { IsProblemOf program.now problem.now }
+    requires enough { IsEnough (program_view program.now) }
+    ensures exact { IsAnswer (program_view program.now) result }
+    ensures untypable { IfErr result (IsUntypable (program_view program.now)) }
+    ensures complete { IfErr result (IsComplete (program_view program.now)) }
+{
+    answer_laws();
+    refusal_laws();
+    answer(alloc, program, problem)
+}
+
+/// The right answer.
+fn answer(alloc: Global, program: &Program, problem: &Problem) -> Result<Solution, SolveError>
+    requires well { WellFormed (program_view program.now) }
+    requires problem { IsProblemOf program.now problem.now }
+    requires enough { IsEnough (program_view program.now) }
+    ensures { IsAnswer (program_view program.now) result }
+{
+    match first_unusable(alloc, program, problem)? {
+        Some(variable) => Err(SolveError::Unusable { variable }),
+        None => answer_usable(alloc, program, problem),
+    }
+}
+
+/// The right answer where each sending variable of a signature has a derivable word.
+fn answer_usable(
+    alloc: Global,
+    program: &Program,
+    problem: &Problem,
+) -> Result<Solution, SolveError>
+    requires well { WellFormed (program_view program.now) }
+    requires problem { IsProblemOf program.now problem.now }
+    requires enough { IsEnough (program_view program.now) }
+    requires usable { AllUsable (program_view program.now) }
+    ensures { IsAnswer (program_view program.now) result }
+{
+    refusal_laws();
+    let interfaces = program.interfaces.len();
+    if interfaces > u32::MAX as usize {
+        return Err(SolveError::NoMemory);
+    }
+    let index = Index::of(alloc, interfaces, problem)?;
+    let mut state = begun(alloc, problem)?;
+    for interface in 0..interfaces as u32 {
+        state = step(alloc, program, problem, &index, state, interface)?;
+    }
+    finished(state)
+}
+
+/// What is known with one more interface.
+fn step(
+    alloc: Global,
+    program: &Program,
+    problem: &Problem,
+    index: &Index,
+    state: State,
+    interface: u32,
+) -> Result<State, SolveError>
+    requires well { WellFormed (program_view program.now) }
+    requires problem { IsProblemOf program.now problem.now }
+    requires enough { IsEnough (program_view program.now) }
+    requires index { IsIndexOf problem.now index.now }
+    requires as_many { length index.now.constraints ≡ length program.now.interfaces }
+    requires there { interface < length program.now.interfaces }
+    requires state { Stands (program_view program.now) interface state }
+    ensures stands { IfOk result (Stands (program_view program.now) (interface + 1)) }
+    ensures refusal { IfErr result (IsRefusal (program_view program.now)) }
+{
+    index_law();
+    let form = interface_form(alloc, program, problem, index, interface)?;
+    let variables = index.variables_of(interface as usize);
+    took(state, interface, variables, form)
+}

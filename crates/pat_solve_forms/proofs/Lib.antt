@@ -1,0 +1,3 @@
+mod Valued
+mod Turning
+mod Giving
