@@ -1,4 +1,4 @@
-mod NodeLaws
+pub mod NodeLaws
 mod ChainLaws
 mod Linking
 mod Holding
