@@ -1,3 +1,3 @@
 mod Steps
 mod Trees
-mod Search
+pub mod Search

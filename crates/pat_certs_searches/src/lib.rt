@@ -8,4 +8,5 @@ mod reading;
 mod rebuilding;
 mod searching;
 
+pub use reading::read_answer;
 pub use searching::refute;

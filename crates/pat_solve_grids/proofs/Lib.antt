@@ -5,3 +5,4 @@ mod Trees
 mod PointLists
 mod Meaning
 mod Whole
+mod Sharing

@@ -10,7 +10,6 @@ use Rattle.pat_bounds.specs.Trees.{Bound, EmptyTree, Shows}
 use Rattle.pat_bounds.specs.Assignments.{Right, PatternRight, VarRight, Constraint}
 use Rattle.pat_bounds.specs.Searches.{IsInside, IsFound, IsLarge, Search, InsideAnswer, FoundAnswer, LargeAnswer, IsAnswer}
 use Rattle.pat_solving.specs.Answers.{most_nodes}
-use Rattle.pat_solve_renaming.specs.Renaming.{renamed}
 use Rattle.pat_solve_renaming.specs.Systems.{side_at, picked}
 use Rattle.pat_solve_grids.specs.Findings.{Findings, first_or, noted, SidesSearched, IsSearched, FoundIn, LargeIn, InsideIn, FoundAt, LargeAt, InsideAt, IsFirst, AreFound}
 
@@ -19,9 +18,6 @@ use Rattle.pat_solve_grids.specs.Findings.{Findings, first_or, noted, SidesSearc
 pub none_of_zero : (lower : ℕ → Pat) (w : Word) (b : Bound) → Shows lower b Zero w → ⊥
 none_of_zero lower w EmptyTree h = absurd h
 none_of_zero lower w b h = absurd h
-
-pub zero_inside : (lower : ℕ → Pat) (f : Pat) → IsInside lower Zero f
-zero_inside lower f w d = absurd (none_of_zero lower w d.0 d.1)
 
 -- ---- one more
 
@@ -130,8 +126,3 @@ turn lower rename zs ns m old new l was h =
     subst (λ i. AreFound lower rename (picked zs ns) ns i new) one
     (searched_more lower rename (picked zs ns) ns m (get_or ns m 0) old new refl was
     (subst (λ c. IsSearched lower rename c (get_or ns m 0) old new) (sym (picked_at zs ns m l)) h))
-
--- a constraint that isn't there is one between patterns 0
-pub none_searched : (lower : ℕ → Pat) (place : ℕ → ℕ) (side : Constraint) (n : ℕ) (old : Findings) → side ≡ record { left = Zero; right = PatternRight Zero } → IsSearched lower (renamed place) side n old old
-none_searched lower place side n old e =
-    subst (λ c. IsSearched lower (renamed place) c n old old) (sym e) (InsideAnswer, zero_inside lower Zero, refl)

@@ -3,3 +3,4 @@ pub mod Findings
 pub mod Views
 pub mod Points
 pub mod Grids
+pub mod Laying

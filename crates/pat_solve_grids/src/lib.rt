@@ -2,9 +2,11 @@
 //! without variables on the right find.
 #![tactic(auto)]
 
+mod batches;
 mod bounds;
 mod entry;
 mod findings;
+mod laying;
 mod points;
 mod searches;
 

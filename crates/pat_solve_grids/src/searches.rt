@@ -5,20 +5,17 @@ ghost use Rattle.pat_words.specs.Tags.{tags_below};
 ghost use Rattle.pat_inclusions.specs.Points.{grid_fits};
 ghost use Rattle.pat_bounds.specs.Trees.{bounds_of};
 ghost use Rattle.pat_patterns.specs.Views.{patterns_view};
-ghost use Rattle.pat_solve_lowers.specs.Sides.{sides_view, sides_list};
+ghost use Rattle.pat_solve_lowers.specs.Sides.{sides_list};
 ghost use Rattle.pat_solve_replacing.specs.Ascending.{IsAscending};
 ghost use Rattle.pat_solve_renaming.specs.Renaming.{place_in, renamed as renamed_by};
-ghost use Rattle.pat_solve_renaming.specs.Systems.{side_at, picked};
-ghost use Rattle.pat_solve_grids.specs.Findings.{IsSearchable, IsSearched, AreFound};
+ghost use Rattle.pat_solve_renaming.specs.Systems.{picked};
+ghost use Rattle.pat_solve_grids.specs.Findings.{IsSearchable, AreFound};
 ghost use Rattle.pat_solve_grids.specs.Views.{findings_view};
 
-use crate::findings::{Findings, note};
-use pat_certs_searches::refute;
+use crate::batches::{batch_end, search_batch, system_size};
+use crate::findings::Findings;
 use pat_infer_problems::Constraint;
 use pat_patterns::Pattern;
-use pat_sequences::Sequence;
-use pat_solve_renaming::renamed;
-use pat_types::Right;
 use std::alloc::{AllocError, Global};
 
 /// Searches the constraints with these numbers, in order, for derivable words of the left that the right lacks. The system has the
@@ -42,68 +39,23 @@ pub fn search_each(
         refuted: None,
         is_oversized: false,
     };
-    for number in numbers {
-        findings = search_at(
+    let room = system_size(constraints, numbers).saturating_add(variables.len());
+    let mut place = 0;
+    while place < numbers.len() {
+        let end = batch_end(constraints, numbers, place, room);
+        findings = search_batch(
             alloc,
             system,
             constraints,
-            *number,
+            numbers,
+            place,
+            end,
             variables,
             k,
             tags,
             findings,
         )?;
+        place = end;
     }
     Ok(findings)
-}
-
-/// Searches the constraint with the number, if there is one.
-fn search_at(
-    alloc: Global,
-    system: &[Pattern],
-    constraints: &[Constraint],
-    number: usize,
-    variables: &[u32],
-    k: u32,
-    tags: u8,
-    findings: Findings,
-) -> Result<Findings, AllocError>
-    requires ascending { IsAscending variables.now }
-    requires fits { IsTrue (grid_fits k tags) }
-    requires system { AllByRecursion (λ e. IsTrue (tags_below tags e)) (patterns_view system.now) }
-    requires side { IsSearchable k tags (side_at (sides_list constraints.now) number) }
-    ensures { IfOk result (λ f. IsSearched (bounds_of (patterns_view system.now)) (renamed_by (place_in variables.now)) (side_at (sides_list constraints.now) number) number (findings_view findings) (findings_view f)) }
-{
-    match constraints.get(number) {
-        None => Ok(findings),
-        Some(constraint) => search(
-            alloc, system, constraint, number, variables, k, tags, findings,
-        ),
-    }
-}
-
-fn search(
-    alloc: Global,
-    system: &[Pattern],
-    constraint: &Constraint,
-    number: usize,
-    variables: &[u32],
-    k: u32,
-    tags: u8,
-    findings: Findings,
-) -> Result<Findings, AllocError>
-    requires ascending { IsAscending variables.now }
-    requires fits { IsTrue (grid_fits k tags) }
-    requires system { AllByRecursion (λ e. IsTrue (tags_below tags e)) (patterns_view system.now) }
-    requires side { IsSearchable k tags (sides_view constraint.now) }
-    ensures { IfOk result (λ f. IsSearched (bounds_of (patterns_view system.now)) (renamed_by (place_in variables.now)) (sides_view constraint.now) number (findings_view findings) (findings_view f)) }
-{
-    match &constraint.right {
-        Right::Var(_) => Ok(findings),
-        Right::Pattern(right) => {
-            let left = renamed(alloc, &constraint.left, variables)?;
-            let answer = refute(alloc, system, &left, right, k, tags)?;
-            Ok(note(answer, number, findings))
-        }
-    }
 }

@@ -1,0 +1,182 @@
+// Searches that share a table.
+//
+// A table is made for the system and the sides of several constraints, which are about as large as the system is. So all tables
+// together take time in proportion to the system and the sides, and each of them memory in proportion to the system.
+ghost use Rattle.std.specs.Prelude.{◌≡◌, ◌<◌, ◌≤◌, ◌+◌, ℕ, List, length, IfOk, IsTrue};
+ghost use Rattle.std.specs.List.{AllByRecursion};
+ghost use Rattle.pat_words.specs.Tags.{tags_below};
+ghost use Rattle.pat_inclusions.specs.Points.{grid_fits};
+ghost use Rattle.pat_words.specs.Patterns.{Pat};
+ghost use Rattle.pat_bounds.specs.Trees.{bounds_of};
+ghost use Rattle.pat_bounds.specs.Assignments.{Constraint as GhostConstraint};
+ghost use Rattle.pat_patterns.specs.Views.{patterns_view};
+ghost use Rattle.pat_certs_searches.specs.Choices.{IsReady};
+ghost use Rattle.pat_solve_lowers.specs.Sides.{sides_list};
+ghost use Rattle.pat_solve_replacing.specs.Ascending.{IsAscending};
+ghost use Rattle.pat_solve_renaming.specs.Renaming.{place_in, renamed as renamed_by};
+ghost use Rattle.pat_solve_renaming.specs.Systems.{side_at, picked};
+ghost use Rattle.pat_solve_grids.specs.Findings.{IsSearchable, AreFound};
+ghost use Rattle.pat_solve_grids.specs.Laying.{AreReady, IsNoted};
+ghost use Rattle.pat_solve_grids.specs.Views.{findings_view};
+
+use crate::findings::{Findings, note};
+use crate::laying::lay_each;
+use pat_bounds_laws::closed_laws;
+use pat_certs_searches::read_answer;
+use pat_grid_points::count_points;
+use pat_grid_symbols::lay_out_all;
+use pat_grid_tables::{Board, least_sizes};
+use pat_infer_problems::Constraint;
+use pat_patterns::{Pattern, size};
+use pat_sequences::Sequence;
+use pat_types::Right;
+use std::alloc::{AllocError, Global};
+
+/// The number of nodes that a refutation's tree has at most.
+const MOST_NODES: u16 = 4096;
+
+/// Where a batch ends that begins at a place: before the sides of its constraints but the first have more symbols than there is room
+/// for.
+pub fn batch_end(constraints: &[Constraint], numbers: &[usize], from: usize, room: usize) -> usize
+    requires { from < length numbers.now }
+    ensures more { from < result }
+    ensures within { result ≤ length numbers.now }
+{
+    let mut taken: usize = 0;
+    for place in from + 1..numbers.len() {
+        taken = taken.saturating_add(sides_size(constraints, numbers[place]));
+        if taken > room {
+            return place;
+        }
+    }
+    numbers.len()
+}
+
+/// About how many symbols the lower bounds by these constraints have.
+pub fn system_size(constraints: &[Constraint], numbers: &[usize]) -> usize {
+    let mut total: usize = 64;
+    for number in numbers {
+        total = total.saturating_add(lower_size(constraints, *number));
+    }
+    total
+}
+
+fn lower_size(constraints: &[Constraint], number: usize) -> usize {
+    match constraints.get(number) {
+        None => 0,
+        Some(constraint) => match &constraint.right {
+            Right::Var(_) => size(&constraint.left) as usize,
+            Right::Pattern(_) => 0,
+        },
+    }
+}
+
+/// About how many symbols the sides of a constraint have.
+fn sides_size(constraints: &[Constraint], number: usize) -> usize {
+    match constraints.get(number) {
+        None => 0,
+        Some(constraint) => match &constraint.right {
+            Right::Var(_) => 0,
+            Right::Pattern(right) => {
+                (size(&constraint.left) as usize).saturating_add(size(right) as usize)
+            }
+        },
+    }
+}
+
+/// Searches the constraints whose numbers stand at places from `from` to `to`, by one table.
+pub fn search_batch(
+    alloc: Global,
+    system: &[Pattern],
+    constraints: &[Constraint],
+    numbers: &[usize],
+    from: usize,
+    to: usize,
+    variables: &[u32],
+    k: u32,
+    tags: u8,
+    findings: Findings,
+) -> Result<Findings, AllocError>
+    requires ascending { IsAscending variables.now }
+    requires fits { IsTrue (grid_fits k tags) }
+    requires system { AllByRecursion (λ e. IsTrue (tags_below tags e)) (patterns_view system.now) }
+    requires sides { AllByRecursion (IsSearchable k tags) (picked (sides_list constraints.now) numbers.now) }
+    requires from { from ≤ to }
+    requires to { to ≤ length numbers.now }
+    requires found { AreFound (bounds_of (patterns_view system.now)) (renamed_by (place_in variables.now)) (picked (sides_list constraints.now) numbers.now) numbers.now from (findings_view findings) }
+    ensures { IfOk result (λ f. AreFound (bounds_of (patterns_view system.now)) (renamed_by (place_in variables.now)) (picked (sides_list constraints.now) numbers.now) numbers.now to (findings_view f)) }
+{
+    closed_laws();
+    let mut symbols = Sequence::new(alloc);
+    let mut roots = Sequence::new(alloc);
+    lay_out_all(alloc, system, &mut symbols, &mut roots)?;
+    let sides = lay_each(
+        alloc,
+        constraints,
+        &numbers[from..to],
+        variables,
+        &mut symbols,
+    )?;
+    let board = Board {
+        k,
+        tags,
+        points: count_points(k, tags),
+        limit: MOST_NODES,
+        symbols: symbols.as_slice(),
+        roots: roots.as_slice(),
+        given: &[],
+    };
+    let entries = least_sizes(alloc, &board)?;
+    read_each(
+        alloc,
+        &board,
+        entries.as_slice(),
+        sides.as_slice(),
+        numbers,
+        from,
+        findings,
+    )
+}
+
+/// Notes the answers for the sides one after another; `from` is the place of the first one's number.
+fn read_each(
+    alloc: Global,
+    board: &Board,
+    entries: &[u16],
+    sides: &[Option<(usize, usize)>],
+    numbers: &[usize],
+    from: usize,
+    findings: Findings,
+) -> Result<Findings, AllocError>
+    requires ready { IsReady board.now entries.now }
+    requires within { from + length sides.now ≤ length numbers.now }
+    ensures { (lower : ℕ → Pat) (rename : Pat → Pat) (zs : List GhostConstraint) → AreReady board.now entries.now lower rename zs numbers.now from sides.now → AreFound lower rename (picked zs numbers.now) numbers.now from (findings_view findings) → IfOk result (λ f. AreFound lower rename (picked zs numbers.now) numbers.now (from + length sides.now) (findings_view f)) }
+{
+    let mut found = findings;
+    for place in 0..sides.len() {
+        let number = numbers[from + place];
+        found = read_one(alloc, board, entries, sides[place], number, found)?;
+    }
+    Ok(found)
+}
+
+/// Notes the answer for both sides of one constraint.
+fn read_one(
+    alloc: Global,
+    board: &Board,
+    entries: &[u16],
+    side: Option<(usize, usize)>,
+    number: usize,
+    findings: Findings,
+) -> Result<Findings, AllocError>
+    requires { IsReady board.now entries.now }
+    ensures { IfOk result (λ f. IsNoted board.now entries.now side number (findings_view findings) (findings_view f)) }
+{
+    match side {
+        None => Ok(findings),
+        Some((left, right)) => {
+            let answer = read_answer(alloc, board, entries, left, right)?;
+            Ok(note(answer, number, findings))
+        }
+    }
+}
