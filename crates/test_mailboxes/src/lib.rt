@@ -1,0 +1,7 @@
+//! Pools and mailboxes called in a row, with answers by hand.
+#![tactic(auto)]
+
+#[cfg(test)]
+mod mailboxes;
+#[cfg(test)]
+mod pools;
