@@ -1,0 +1,96 @@
+"""How the scripts of this folder call the program, and which answers docs/ and README name for each command."""
+import re
+import subprocess
+
+PROGRAM = "crates/pat_cli/out/pat_cli"
+USAGE = 2
+NO_MEMORY = 5
+
+TEXT = [
+    r"too long", r"syntax error at (\d+)", r"number too wide at (\d+)", r"too deep at (\d+)",
+    r"(?:unknown name|twice|wrong arity|wrong kind|foreign tag|empty sending type|too many tags) at (\d+)-(\d+)",
+]
+TYPES = [
+    r"untypable at (\d+)-(\d+): (?:Alias|Order|Double|Branch|Payload|Covers|Unused|Polarity|Second)",
+    r"unusable at (\d+)-(\d+)", r"too large: \S+", r"refuted at (\d+)-(\d+): word .+ not in .+", r"undecided at (\d+)-(\d+)",
+]
+BAD_TEXT = r"bad text at (\d+)"
+RULES = "Shape|Empty|Alias|Use|Drop|Payload|Covers|Cert"
+# The lines that refuse, by command.
+REFUSALS = {
+    "print": TEXT,
+    "check": TEXT + TYPES,
+    "derive": TEXT + TYPES,
+    "run": TEXT + TYPES + ["not yet"],
+    "verify": TEXT + [BAD_TEXT, rf"rejected at node \d+: (?:{RULES})"],
+    "replay": TEXT + [BAD_TEXT, r"refused at entry \d+"],
+}
+# The statuses of a command that isn't refused, with good ports and enough memory.
+STATUSES = {"run": {0, 6, 7, 8}, "load": {0, 6, 7, 8}}
+ENDS = {0: r"done \d+(?: left \d+)?", 6: r"budget \d+", 7: r"waiting \d+(?: \d+)+", 8: r"full \d+"}
+
+
+class Answer:
+    """What a call of the program came to; `status` is None where it took too long, and negative where a signal ended it."""
+
+    def __init__(self, words, given, status, text):
+        self.words, self.given, self.status, self.text = words, given, status, text
+
+    def lines(self):
+        return self.text.decode("utf-8", "replace").split("\n")[:-1]
+
+    def output(self):
+        """The lines behind %%output."""
+        lines = self.lines()
+        return lines[lines.index("%%output") + 1:]
+
+
+def call(program, words, given, seconds=20, environment=None):
+    try:
+        done = subprocess.run([program, *words], input=given, stdout=subprocess.PIPE, stderr=subprocess.DEVNULL,
+                              timeout=seconds, env=environment)
+    except subprocess.TimeoutExpired:
+        return Answer(words, given, None, b"")
+    return Answer(words, given, done.returncode, done.stdout)
+
+
+def has(program, command):
+    """Whether the program has this command."""
+    return call(program, [command], b"def main(): Unit { () }\n").status != USAGE
+
+
+def wrong(answer):
+    """Why the docs name no such answer, or None."""
+    command = answer.words[0]
+    if answer.status is None:
+        return "no answer in time"
+    if answer.status < 0:
+        return f"ended by signal {-answer.status}"
+    if answer.status == 1:
+        return wrong_refusal(answer)
+    if answer.status not in STATUSES.get(command, {0}):
+        return f"status {answer.status}"
+    lines = answer.lines()
+    if command in ("check", "verify") and lines != ["accepted"]:
+        return "another text than accepted"
+    if command == "run" and not (lines[0] == "%%history" and "%%output" in lines and re.fullmatch(ENDS[answer.status], lines[-1])):
+        return "a text that isn't a run's"
+    return None
+
+
+def wrong_refusal(answer):
+    lines = answer.lines()
+    if len(lines) != 1:
+        return "a refusal of another number of lines than one"
+    for pattern in REFUSALS[answer.words[0]]:
+        found = re.fullmatch(pattern, lines[0])
+        if found:
+            places = [int(it) for it in found.groups()]
+            # (the places of an empty span at the end are the input's length)
+            return None if places == sorted(places) and all(it <= len(answer.given) for it in places) else "a place outside of the input"
+    return f"a refusal that docs don't name: {lines[0][:80]}"
+
+
+def verdict(answer):
+    """The refusal without its places."""
+    return re.sub(r"\d+(-\d+)?", "_", answer.lines()[0]) if answer.status == 1 else str(answer.status)
