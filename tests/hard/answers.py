@@ -1,5 +1,7 @@
 """How the scripts of this folder call the program, and which answers docs/ and README name for each command."""
 import re
+import resource
+import signal
 import subprocess
 
 PROGRAM = "crates/pat_cli/out/pat_cli"
@@ -46,12 +48,17 @@ class Answer:
 
 
 def call(program, words, given, seconds=20, environment=None):
+    """Calls the program, which may take so many seconds of a processor (and, on a machine that does other work, longer by the clock)."""
+
+    def limit():
+        resource.setrlimit(resource.RLIMIT_CPU, (seconds, seconds))
+
     try:
         done = subprocess.run([program, *words], input=given, stdout=subprocess.PIPE, stderr=subprocess.DEVNULL,
-                              timeout=seconds, env=environment)
+                              timeout=30 * seconds, env=environment, preexec_fn=limit)
     except subprocess.TimeoutExpired:
         return Answer(words, given, None, b"")
-    return Answer(words, given, done.returncode, done.stdout)
+    return Answer(words, given, None if done.returncode in (-signal.SIGXCPU, -signal.SIGKILL) else done.returncode, done.stdout)
 
 
 def has(program, command):
