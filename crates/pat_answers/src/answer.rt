@@ -1,10 +1,10 @@
 // What a command answers, and the answer that each of them may give: the line of a verdict.
 ghost use Rattle.std.specs.Prelude.{ℕ, List, IfOk};
 ghost use Rattle.pat_front.specs.Texts.{Explains};
-ghost use Rattle.pat_answers.specs.Answers.{SaysVerdict, Refuses};
+ghost use Rattle.pat_answers.specs.Answers.{SaysAccepted, SaysVerdict, SaysVerdictWith, Refuses};
 
 use crate::Status;
-use pat_front::{FrontError, Verdict, verdict_line};
+use pat_front::{FrontError, Verdict, verdict_line, verdict_line_with};
 use std::alloc::{AllocError, Global};
 
 /// A text, and the status with which the call ends where all of it could be written.
@@ -31,5 +31,29 @@ pub fn verdict_answer(alloc: Global, verdict: Verdict) -> Result<Answer, AllocEr
     Ok(Answer {
         text: verdict_line(alloc, verdict)?,
         status: Status::Refused(verdict),
+    })
+}
+
+/// The line that says a verdict, with more words behind it.
+pub fn verdict_answer_with(
+    alloc: Global,
+    verdict: Verdict,
+    more: &[u8],
+) -> Result<Answer, AllocError>
+    ensures { IfOk result (λ a. SaysVerdictWith verdict more.now a.text.items a.status) }
+{
+    Ok(Answer {
+        text: verdict_line_with(alloc, verdict, more)?,
+        status: Status::Refused(verdict),
+    })
+}
+
+/// The line that accepts.
+pub fn accepted_answer(alloc: Global) -> Result<Answer, AllocError>
+    ensures { IfOk result (λ a. SaysAccepted a.text.items a.status) }
+{
+    Ok(Answer {
+        text: b"accepted\n".to_vec(alloc)?,
+        status: Status::Ok,
     })
 }

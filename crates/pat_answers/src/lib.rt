@@ -4,5 +4,5 @@
 mod answer;
 mod status;
 
-pub use answer::{Answer, refused, verdict_answer};
+pub use answer::{Answer, accepted_answer, refused, verdict_answer, verdict_answer_with};
 pub use status::Status;

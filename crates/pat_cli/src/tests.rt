@@ -17,8 +17,6 @@ const FIRST_TEXT: &[u8] = b"%%history\n0 0 2 print\n0 0 0 end\n%%output\nout 42\
 
 const USAGE: &[u8] = b"usage: pat check|derive|verify|print|run|replay|load|help\n";
 
-const NOT_YET: &[u8] = b"not yet\n";
-
 // What a call on these words and this input answers, with ports of these pieces that fail at these calls.
 fn answer(
     alloc: Global,
@@ -54,8 +52,7 @@ fn broken(kind: ResolveKind, from: u32, to: u32) -> Status {
 
 #[test]
 fn run_rows(rt: HostRuntime) -> Result<(), Fail> {
-    let not_yet = Status::Refused(Verdict::NotYet);
-    let rows: [(&[u8], Status, &[u8]); 18] = [
+    let rows: [(&[u8], Status, &[u8]); 17] = [
         (FIRST, Status::Ok, FIRST_TEXT),
         (
             b"def main(): Unit { () }\n",
@@ -112,21 +109,31 @@ fn run_rows(rt: HostRuntime) -> Result<(), Fail> {
             Status::Refused(Verdict::Syntax(19)),
             b"syntax error at 19\n",
         ),
-        // An interface, a second function, another term, a string, a truth value and a comparison aren't run yet.
         (
             b"interface I { m() } def main(): Unit { () }",
-            not_yet,
-            NOT_YET,
+            Status::Ok,
+            b"%%history\n0 0 0 end\n%%output\ndone 1\n",
         ),
         (
             b"def f(): Int { 1 } def main(): Unit { () }",
-            not_yet,
-            NOT_YET,
+            Status::Ok,
+            b"%%history\n0 0 0 end\n%%output\ndone 1\n",
         ),
-        (b"def main(): Unit { spawn { () } }", not_yet, NOT_YET),
-        (b"def main(): Unit { print(\"a\") }", not_yet, NOT_YET),
-        (b"def main(): Unit { print(true) }", not_yet, NOT_YET),
-        (b"def main(): Unit { print(1 < 2) }", not_yet, NOT_YET),
+        (
+            b"def main(): Unit { spawn { () } }",
+            Status::Ok,
+            b"%%history\n0 0 0 spawn\n0 1 0 end\n0 0 0 end\n%%output\ndone 3\n",
+        ),
+        (
+            b"def main(): Unit { print(\"a\") }",
+            Status::Ok,
+            b"%%history\n0 0 0 print\n0 0 0 end\n%%output\nout a\ndone 2\n",
+        ),
+        (
+            b"def main(): Unit { print(1 < 2) }",
+            Status::Ok,
+            b"%%history\n0 0 0 print\n0 0 0 end\n%%output\nout true\ndone 2\n",
+        ),
     ];
     try_rows(&rt, rt.alloc(), "run", &rows)
 }
@@ -233,7 +240,7 @@ fn words_that_are_no_command(rt: HostRuntime) -> Result<(), Fail> {
         &[],
         &["run", "run"],
         &["runs"],
-        &["check"],
+        &["check", "run"],
         &["print", "run"],
         &["replay", "--steps", "1"],
         &["run", "--steps"],

@@ -65,7 +65,7 @@ module _ (p : Program) (from : ℕ) (text part : List ℕ) (own : IsHistoryPart 
   of_verdict es read out (verdict.Resolve k s) a = absurd a
   of_verdict es read out (verdict.BadText o) a = absurd a
   of_verdict es read out (verdict.Rejected n rule) a = absurd a
-  of_verdict es read out verdict.NotYet a = absurd a
+  of_verdict es read out (verdict.Unaccepted reason) a = absurd a
 
   of_entries : (es : List Entry) → ReadsAs part es → (out : List ℕ) (s : Status) → AnswersEntries p es out s → AnswersText p from text out s
   of_entries es read out Ok a = record { part = part; own = own; entries = es; read = read; replay = a }

@@ -21,7 +21,7 @@ bytes_small mark bytes (verdict.TooDeep o) r other = absurd r
 bytes_small mark bytes (verdict.Resolve k s) r other = absurd r
 bytes_small mark bytes (verdict.Rejected n rule) r other = absurd r
 bytes_small mark bytes (verdict.RefusedAt i) r other = absurd r
-bytes_small mark bytes verdict.NotYet r other = absurd r
+bytes_small mark bytes (verdict.Unaccepted reason) r other = absurd r
 
 refused_small : (bytes : List ℕ) (v : Verdict) → IsReplayRefusal bytes v → v ≢ verdict.TooLong → length bytes ≤ whole_limit
 refused_small bytes v r other =

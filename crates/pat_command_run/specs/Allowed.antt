@@ -1,19 +1,13 @@
 -- What `run` may answer.
-use Rattle.std.specs.Prelude.{◌≡◌, ◌⊎◌, ℕ, true, false, List, Some}
+use Rattle.std.specs.Prelude.{◌≡◌, ℕ, List, Some}
 use Rattle.pat_model.specs.Programs.{Program}
 use Rattle.pat_model.specs.Configs.{Config}
 use Rattle.pat_model.specs.Runs.{Entry, Outcome, EndDone, EndWaiting, EndFull, EndBudget, replay}
-use Rattle.pat_model.specs.Faults.{IsSafe}
-use Rattle.pat_grammar.specs.Trees.{Tree}
-use Rattle.pat_plain_laws.specs.Straight.{is_straight}
 use Rattle.pat_commits.specs.Machines.{StaysWithin}
 use Rattle.pat_options.specs.declared.options.RunOptions.{RunOptions}
 use Rattle.pat_run.specs.Runs.{IsRun}
 use Rattle.pat_lines.specs.RunText.{run_text}
-use Rattle.pat_front.specs.Lines.{line_of_verdict}
-use Rattle.pat_front.specs.Texts.{IsProgramText, IsRefusal}
-use Rattle.pat_front.specs.declared.verdict.Verdict.{Verdict}
-use Rattle.pat_front.specs.declared.verdict.Verdict.TheVariants.{NotYet}
+use Rattle.pat_checked.specs.Inputs.{IsAcceptedText, IsCheckRefusal}
 use Rattle.pat_answers.specs.declared.status.Status.{Status}
 use Rattle.pat_answers.specs.declared.status.Status.TheVariants.{Ok, Refused, Usage, ReadFault, WriteFault, NoMemory, Budget, Waiting, Full}
 
@@ -38,25 +32,9 @@ EndsWith EndFull status = status ≡ Full
 abbrev pub RunShows : Program → RunOptions → List ℕ → Status → Type 0
 RunShows p options text status = (o : Outcome) × EndsWith o status × RunsTo p options.steps options.messages o text
 
--- the bytes are the text of a straight-line program, which is safe
-pub record IsRunnable (bytes : List ℕ) : Type 0 where
-  pub tree : Tree
-  pub program : Program
-  pub spelled : IsProgramText bytes tree program
-  pub straight : is_straight program ≡ true
-  pub safe : IsSafe program
-
--- the bytes are the text of a program that isn't straight-line
-abbrev pub IsNotYet : List ℕ → Type 0
-IsNotYet bytes = (t : Tree) × (p : Program) × IsProgramText bytes t p × (is_straight p ≡ false)
-
--- why the bytes are not run
-abbrev pub IsRunRefusal : List ℕ → Verdict → Type 0
-IsRunRefusal bytes v = IsRefusal bytes v ⊎ ((v ≡ NotYet) × IsNotYet bytes)
-
--- the bytes are the text of a program, and these are the text and the status of a run of it
+-- the bytes are the text of a program that is accepted, and these are the text and the status of a run of it
 abbrev pub ShowsOne : RunOptions → List ℕ → List ℕ → Status → Type 0
-ShowsOne options bytes text status = (r : IsRunnable bytes) × RunShows r.program options text status
+ShowsOne options bytes text status = (a : IsAcceptedText bytes) × RunShows a.program options text status
 
 -- the text and the status of `run` with these options on these bytes
 abbrev pub AllowedRun : RunOptions → List ℕ → List ℕ → Status → Type 0
@@ -64,7 +42,7 @@ AllowedRun options bytes text Ok = ShowsOne options bytes text Ok
 AllowedRun options bytes text Budget = ShowsOne options bytes text Budget
 AllowedRun options bytes text Waiting = ShowsOne options bytes text Waiting
 AllowedRun options bytes text Full = ShowsOne options bytes text Full
-AllowedRun options bytes text (Refused v) = IsRunRefusal bytes v × (text ≡ line_of_verdict v)
+AllowedRun options bytes text (Refused v) = IsCheckRefusal bytes v text
 AllowedRun options bytes text Usage = ⊥
 AllowedRun options bytes text ReadFault = ⊥
 AllowedRun options bytes text WriteFault = ⊥

@@ -2,6 +2,5 @@
 #![tactic(auto)]
 
 mod command;
-mod straight;
 
 pub use command::answer_run;

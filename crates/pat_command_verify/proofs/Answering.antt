@@ -5,6 +5,8 @@ use Rattle.std.proofs.lemmas.List.{length-map}
 use Rattle.pat_core.specs.declared.program.Program.{Program as CodeProgram}
 use Rattle.pat_core.specs.Views.{interface_view, program_view}
 use Rattle.pat_model.specs.Programs.{Program}
+use Rattle.pat_model.specs.Faults.{IsSafe}
+use Rattle.pat_validity.specs.Validity.{IsValid}
 use Rattle.pat_grammar.specs.Trees.{Tree}
 use Rattle.pat_grammar.specs.Trees as tree
 use Rattle.pat_grammar_laws.specs.Counts.{tree_size}
@@ -17,7 +19,7 @@ use Rattle.pat_input.specs.Inputs.{whole_limit}
 use Rattle.pat_front.specs.Texts.{IsProgramText}
 use Rattle.pat_front.specs.declared.verdict.Verdict.{Verdict}
 use Rattle.pat_front.specs.declared.verdict.Verdict.TheVariants as verdict
-use Rattle.pat_answers.specs.Answers.{SaysVerdict, Refuses}
+use Rattle.pat_answers.specs.Answers.{SaysAccepted, SaysVerdict, Refuses}
 use Rattle.pat_answers.specs.declared.answer.Answer.{Answer}
 use Rattle.pat_answers.specs.declared.status.Status.{Status}
 use Rattle.pat_answers.specs.declared.status.Status.TheVariants.{Ok, Refused, Usage, ReadFault, WriteFault, NoMemory, Budget, Waiting, Full}
@@ -70,7 +72,7 @@ judged_answered p from text d (Done a) read h = go a.status h
     by_verdict (verdict.Resolve w s) k = absurd k
     by_verdict (verdict.BadText o) k = absurd k
     by_verdict (verdict.RefusedAt i) k = absurd k
-    by_verdict verdict.NotYet k = absurd k
+    by_verdict (verdict.Unaccepted reason) k = absurd k
 
     go : (s : Status) → AnswersJudged p d a.text.items s → AnswersText p from text a.text.items s
     go Ok k = (record { derivation = d; read = read; valid = k.0; safe = k.1 }, k.2)
@@ -82,6 +84,11 @@ judged_answered p from text d (Done a) read h = go a.status h
     go Budget k = absurd k
     go Waiting k = absurd k
     go Full k = absurd k
+
+-- a valid derivation is accepted
+pub accepted_judged : {E : Type 0} (p : Program) (d : Derivation) (r : Result Answer E) → IsValid p d → IsSafe p → IfOk r (λ a. SaysAccepted a.text.items a.status) → IfOk r (λ a. AnswersJudged p d a.text.items a.status)
+accepted_judged p d (Done a) valid safe says = subst (λ k. AnswersJudged p d a.text.items k) (sym says.0) (valid, safe, says.1)
+accepted_judged p d (Failed e) valid safe says = tt
 
 -- a line that isn't read
 pub unread_answered : {E : Type 0} (p : Program) (from : ℕ) (text : List ℕ) (o : ℕ) (r : Result Answer E) → ((offset : ℕ) × (o ≡ from + offset) × Unread p text offset) → IfOk r (λ a. SaysVerdict (verdict.BadText o) a.text.items a.status) → IfOk r (λ a. AnswersText p from text a.text.items a.status)

@@ -44,7 +44,7 @@ back rule.Covers = refl
 back rule.Cert = refl
 
 rejected_as : Option (ℕ × validity.Rule) → Verdict
-rejected_as None = verdict.NotYet
+rejected_as None = verdict.TooLong
 rejected_as (Some x) = verdict.Rejected x.0 (rule_back x.1)
 
 same_rejection : (m n : ℕ) (r s : Rule) → ◌≡◌ {A = Option (ℕ × validity.Rule)} (Some (m, rule_view r)) (Some (n, rule_view s)) → verdict.Rejected m r ≡ verdict.Rejected n s
@@ -86,7 +86,7 @@ module _ (none_bad : ValidIsNoneBad) (one_reading : ReadingIsOne) (bytes : List 
   not_accepted p from text (verdict.TooDeep o) a u = absurd u
   not_accepted p from text (verdict.Resolve k s) a u = absurd u
   not_accepted p from text (verdict.RefusedAt i) a u = absurd u
-  not_accepted p from text verdict.NotYet a u = absurd u
+  not_accepted p from text (verdict.Unaccepted reason) a u = absurd u
 
   -- what isn't accepted is a line that isn't read, or a derivation that is bad
   data Why (p : Program) (from : ℕ) (text : List ℕ) : Verdict → Type 0 where
@@ -102,7 +102,7 @@ module _ (none_bad : ValidIsNoneBad) (one_reading : ReadingIsOne) (bytes : List 
   why p from text (verdict.TooDeep o) u = absurd u
   why p from text (verdict.Resolve k s) u = absurd u
   why p from text (verdict.RefusedAt i) u = absurd u
-  why p from text verdict.NotYet u = absurd u
+  why p from text (verdict.Unaccepted reason) u = absurd u
 
   one_why : (p : Program) (from : ℕ) (text : List ℕ) (v w : Verdict) → Why p from text v → Why p from text w → v ≡ w
   one_why p from text v w (unread {offset = m} a) (unread {offset = n} b) = ap (λ k. verdict.BadText (from + k)) (one_unread p text m n a b)
@@ -140,7 +140,7 @@ module _ (none_bad : ValidIsNoneBad) (one_reading : ReadingIsOne) (bytes : List 
   bytes_alone A f t (verdict.Resolve k s) r small m = absurd r
   bytes_alone A f t (verdict.Rejected n q) r small m = absurd r
   bytes_alone A f t (verdict.RefusedAt i) r small m = absurd r
-  bytes_alone A f t verdict.NotYet r small m = absurd r
+  bytes_alone A f t (verdict.Unaccepted reason) r small m = absurd r
 
   -- they are too many for what they are, or a program alone
   data Bare : Verdict → Type 0 where
@@ -157,7 +157,7 @@ module _ (none_bad : ValidIsNoneBad) (one_reading : ReadingIsOne) (bytes : List 
   bare (verdict.Resolve k s) r = absurd r
   bare (verdict.Rejected n q) r = absurd r
   bare (verdict.RefusedAt i) r = absurd r
-  bare verdict.NotYet r = absurd r
+  bare (verdict.Unaccepted reason) r = absurd r
 
   one_bare : (v w : Verdict) → Bare v → Bare w → v ≡ w
   one_bare v w (many a) (many b) = refl

@@ -18,7 +18,7 @@ bytes_small bytes (verdict.TooDeep o) r other = absurd r
 bytes_small bytes (verdict.Resolve k s) r other = absurd r
 bytes_small bytes (verdict.Rejected n rule) r other = absurd r
 bytes_small bytes (verdict.RefusedAt i) r other = absurd r
-bytes_small bytes verdict.NotYet r other = absurd r
+bytes_small bytes (verdict.Unaccepted reason) r other = absurd r
 
 refused_small : (bytes : List ℕ) (v : Verdict) → IsVerifyRefusal bytes v → v ≢ verdict.TooLong → length bytes ≤ whole_limit
 refused_small bytes v r other =

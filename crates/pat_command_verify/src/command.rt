@@ -11,7 +11,7 @@ ghost use Rattle.pat_input.specs.Inputs.{whole_limit};
 ghost use Rattle.pat_front.specs.Texts.{IsTreeText};
 ghost use Rattle.pat_command_verify.specs.Allowed.{AllowedVerify, AnswersText, AnswersJudged};
 
-use pat_answers::{Answer, Status, refused, verdict_answer};
+use pat_answers::{Answer, accepted_answer, refused, verdict_answer};
 use pat_core::Program;
 use pat_deriv::{TextError, read};
 use pat_derivations::Derivation;
@@ -103,10 +103,7 @@ fn judged(alloc: Global, program: &Program, derivation: &Derivation) -> Result<A
     ensures { IfOk result (λ a. AnswersJudged (program_view program.now) (derivation_view derivation.now) a.text.items a.status) }
 {
     match judge(alloc, program, derivation)? {
-        None => Ok(Answer {
-            text: b"accepted\n".to_vec(alloc)?,
-            status: Status::Ok,
-        }),
+        None => accepted_answer(alloc),
         Some(found) => verdict_answer(alloc, Verdict::Rejected(found.node, found.rule)),
     }
 }

@@ -1,9 +1,9 @@
 // Verdicts on a text, and the lines that say them.
 ghost use Rattle.std.specs.Prelude.{◌≡◌, ◌++◌, ◌∷◌, [], IfOk, OnOk};
-ghost use Rattle.std.specs.Fmt.{decimal};
-ghost use Rattle.pat_front.specs.Lines.{rule_words, place_words, rejected_words, verdict_text, line_of_verdict};
+ghost use Rattle.pat_front.specs.Lines.{rule_words, place_words, rejected_words, verdict_text, line_of_verdict, line_with};
 
-use pat_decimal::push_number;
+use crate::pieces::{push_at, push_span, push_words};
+use crate::reason::{Reason, push_reason};
 use pat_resolver_answers::ResolveKind;
 use pat_rules::Rule;
 use pat_syntax::Span;
@@ -28,16 +28,28 @@ pub enum Verdict {
     Rejected(u32, Rule),
     /// The first entry of a history that doesn't fit.
     RefusedAt(u32),
-    /// It is a program of a form that isn't run so far.
-    NotYet,
+    /// It is the text of a program that isn't accepted.
+    Unaccepted(Reason),
 }
 
 /// The line that says a verdict.
 pub fn verdict_line(alloc: Global, verdict: Verdict) -> Result<Vec<u8>, AllocError>
     ensures { IfOk result (λ text. text.items ≡ line_of_verdict verdict) }
 {
+    verdict_line_with(alloc, verdict, &[])
+}
+
+/// The line that says a verdict, and more words behind it.
+pub fn verdict_line_with(
+    alloc: Global,
+    verdict: Verdict,
+    more: &[u8],
+) -> Result<Vec<u8>, AllocError>
+    ensures { IfOk result (λ text. text.items ≡ line_with verdict more.now) }
+{
     let mut text = Vec::new(alloc);
     push_verdict(alloc, &mut text, verdict)?;
+    push_words(&mut text, more)?;
     text.push(b'\n')?;
     Ok(text)
 }
@@ -54,23 +66,8 @@ fn push_verdict(alloc: Global, text: &mut Vec<u8>, verdict: Verdict) -> Result<(
         Verdict::BadText(offset) => push_at(alloc, text, b"bad text at ", offset),
         Verdict::Rejected(node, rule) => push_rejected(alloc, text, node, rule),
         Verdict::RefusedAt(entry) => push_at(alloc, text, b"refused at entry ", entry),
-        Verdict::NotYet => push_words(text, b"not yet"),
+        Verdict::Unaccepted(reason) => push_reason(alloc, text, reason),
     }
-}
-
-fn push_words(text: &mut Vec<u8>, words: &[u8]) -> Result<(), AllocError>
-    ensures { OnOk result (text.new.items ≡ text.old.items ++ words.now) }
-{
-    text.extend_from_slice(words)?;
-    Ok(())
-}
-
-// Words, and an offset.
-fn push_at(alloc: Global, text: &mut Vec<u8>, words: &[u8], offset: u32) -> Result<(), AllocError>
-    ensures { OnOk result (text.new.items ≡ text.old.items ++ (words.now ++ decimal offset)) }
-{
-    push_words(text, words)?;
-    push_number(alloc, text, offset as u64)
 }
 
 // A broken rule, and a place.
@@ -83,8 +80,7 @@ fn push_broken(
     ensures { OnOk result (text.new.items ≡ text.old.items ++ (rule_words kind ++ place_words span)) }
 {
     push_words(text, words_of(kind))?;
-    push_at(alloc, text, b" at ", span.from)?;
-    push_at(alloc, text, b"-", span.to)
+    push_span(alloc, text, span)
 }
 
 // A node, and a broken rule of derivations.

@@ -3,27 +3,31 @@ use Rattle.std.proofs.Common.{◌≡◌, ◌≤◌, ℕ, List, [], ◌∷◌, le
 use Rattle.std.specs.Io.KnownBytes.{Appends}
 use Rattle.pat_ports.specs.Bytes.{AppendsFront}
 use Rattle.pat_input.specs.Inputs.{IsInput, IsInputWithin}
-use Rattle.pat_front.specs.Lines.{line_of_verdict}
 use Rattle.pat_front.specs.declared.verdict.Verdict.{Verdict}
 use Rattle.pat_answers.specs.declared.status.Status.{Status}
 use Rattle.pat_answers.specs.declared.status.Status.TheVariants.{Ok, Refused, Usage, ReadFault, WriteFault, NoMemory, Budget, Waiting, Full}
 use Rattle.pat_session.specs.declared.words.Command.{Command}
-use Rattle.pat_session.specs.declared.words.Command.TheVariants.{Print, Run, Replay, Verify}
+use Rattle.pat_session.specs.declared.words.Command.TheVariants.{Check, Derive, Print, Run, Replay, Verify}
 use Rattle.pat_session.specs.Ports.{IsCutShort, Written}
 use Rattle.pat_answers.specs.Answers.{IsStatusWithin}
 use Rattle.pat_command_print.specs.Allowed.{AllowedPrint}
 use Rattle.pat_command_print.proofs.Statuses.{print_status}
 use Rattle.pat_options.specs.declared.options.RunOptions.{RunOptions}
 use Rattle.pat_options.specs.Options.{options_of}
-use Rattle.pat_command_run.specs.Allowed.{RunShows, IsRunnable, ShowsOne, AllowedRun}
+use Rattle.pat_checked.specs.Inputs.{IsAcceptedText}
+use Rattle.pat_command_check.specs.Allowed.{AllowedCheck}
+use Rattle.pat_command_check.proofs.Statuses.{check_status}
+use Rattle.pat_command_derive.specs.Allowed.{AllowedDerive}
+use Rattle.pat_command_derive.proofs.Statuses.{derive_status}
+use Rattle.pat_command_run.specs.Allowed.{RunShows, ShowsOne, AllowedRun}
 use Rattle.pat_command_run.proofs.Statuses.{run_status}
 use Rattle.pat_command_replay.specs.Allowed.{AllowedReplay}
 use Rattle.pat_command_replay.proofs.Statuses.{replay_status}
-use Rattle.pat_command_verify.specs.Allowed.{AllowedVerify, accepted_line}
+use Rattle.pat_command_verify.specs.Allowed.{AllowedVerify}
 use Rattle.pat_command_verify.proofs.Statuses.{verify_status}
 use Rattle.pat_session.specs.Allowed.{IsCommand, HasCommand, AllowedTo, limit_of, Allowed, usage_line}
 use Rattle.pat_session.specs.Calls.{ReadsAll}
-use Rattle.pat_session.specs.Answers.{Completes, BreaksOff, Begins, Answers, IsAccepted, AcceptsSafe, ShowsRun, ShowsTree, ShowsReplay, ShowsVerified, ShowsVerdict}
+use Rattle.pat_session.specs.Answers.{Completes, BreaksOff, Begins, Answers, IsAccepted, AcceptsSafe, ShowsChecked, ShowsDerived, ShowsRun, ShowsTree, ShowsReplay, ShowsVerified, ShowsVerdict}
 
 -- ---- words
 
@@ -66,11 +70,33 @@ one_command words Verify Print p q = let clash : 6 ≡ 5 = ap first_length (sym 
 one_command words Verify (Run o) p q = let clash : 6 ≡ 3 = ap first_length (sym p ∙ q.1) in absurd (omega (arith, clash))
 one_command words Replay Verify p q = let clash : 114 ≡ 118 = ap first_byte (sym p ∙ q) in absurd (omega (arith, clash))
 one_command words Verify Replay p q = let clash : 118 ≡ 114 = ap first_byte (sym p ∙ q) in absurd (omega (arith, clash))
+one_command words Check Check p q = refl
+one_command words Derive Derive p q = refl
+one_command words Check Derive p q = let clash : 5 ≡ 6 = ap first_length (sym p ∙ q) in absurd (omega (arith, clash))
+one_command words Check Print p q = let clash : 99 ≡ 112 = ap first_byte (sym p ∙ q) in absurd (omega (arith, clash))
+one_command words Print Check p q = let clash : 112 ≡ 99 = ap first_byte (sym p ∙ q) in absurd (omega (arith, clash))
+one_command words Check (Run o) p q = let clash : 5 ≡ 3 = ap first_length (sym p ∙ q.1) in absurd (omega (arith, clash))
+one_command words (Run o) Check p q = let clash : 3 ≡ 5 = ap first_length (sym p.1 ∙ q) in absurd (omega (arith, clash))
+one_command words Check Replay p q = let clash : 5 ≡ 6 = ap first_length (sym p ∙ q) in absurd (omega (arith, clash))
+one_command words Replay Check p q = let clash : 6 ≡ 5 = ap first_length (sym p ∙ q) in absurd (omega (arith, clash))
+one_command words Check Verify p q = let clash : 5 ≡ 6 = ap first_length (sym p ∙ q) in absurd (omega (arith, clash))
+one_command words Verify Check p q = let clash : 6 ≡ 5 = ap first_length (sym p ∙ q) in absurd (omega (arith, clash))
+one_command words Derive Check p q = let clash : 6 ≡ 5 = ap first_length (sym p ∙ q) in absurd (omega (arith, clash))
+one_command words Derive Print p q = let clash : 6 ≡ 5 = ap first_length (sym p ∙ q) in absurd (omega (arith, clash))
+one_command words Print Derive p q = let clash : 5 ≡ 6 = ap first_length (sym p ∙ q) in absurd (omega (arith, clash))
+one_command words Derive (Run o) p q = let clash : 6 ≡ 3 = ap first_length (sym p ∙ q.1) in absurd (omega (arith, clash))
+one_command words (Run o) Derive p q = let clash : 3 ≡ 6 = ap first_length (sym p.1 ∙ q) in absurd (omega (arith, clash))
+one_command words Derive Replay p q = let clash : 100 ≡ 114 = ap first_byte (sym p ∙ q) in absurd (omega (arith, clash))
+one_command words Replay Derive p q = let clash : 114 ≡ 100 = ap first_byte (sym p ∙ q) in absurd (omega (arith, clash))
+one_command words Derive Verify p q = let clash : 100 ≡ 118 = ap first_byte (sym p ∙ q) in absurd (omega (arith, clash))
+one_command words Verify Derive p q = let clash : 118 ≡ 100 = ap first_byte (sym p ∙ q) in absurd (omega (arith, clash))
 
 -- ---- statuses
 
 -- what is allowed of a command has a command's status
 pub command_status : (c : Command) (bytes text : List ℕ) (s : Status) → AllowedTo c bytes text s → IsStatusWithin (limit_of c) bytes s
+command_status Check bytes text s a = check_status bytes text s a
+command_status Derive bytes text s a = derive_status bytes text s a
 command_status Print bytes text s a = print_status bytes text s a
 command_status (Run o) bytes text s a = run_status o bytes text s a
 command_status Replay bytes text s a = replay_status bytes text s a
@@ -153,13 +179,49 @@ module _ (words : List (List ℕ)) (had left old new : Option (List ℕ)) where
   pub usage_only : (s : Status) → Answers words had left old new s → s ≡ Usage → HasCommand words → ⊥
   usage_only s a e = let c : Completes words had left old new Usage = at_status s Usage e a in c.allowed.0
 
+  -- ---- check and derive
+
+  is_check : (c : Command) (bytes text : List ℕ) (s : Status) → IsCommand Check words → IsCommand c words → AllowedTo c bytes text s → AllowedCheck bytes text s
+  is_check c bytes text s check command a = subst (λ d. AllowedTo d bytes text s) (one_command words c Check command check) a
+
+  -- what is checked has a valid derivation
+  pub shows_checked : (s : Status) → Answers words had left old new s → IsCommand Check words → s ≡ Ok → ShowsChecked had left old new
+  shows_checked s a check e =
+      let c : Completes words had left old new Ok = at_status s Ok e a in
+      let k = c.allowed in
+      let shown = is_check k.0 c.bytes c.text Ok check k.1 k.2 in
+      record {
+        bytes = c.bytes;
+        accepted = shown.0;
+        input = c.input Check check;
+        whole = (c.input Check check).all shown.0.spelled.tree.small;
+        written = subst (λ l. Appends old new l) shown.1 c.written;
+      }
+
+  is_derive : (c : Command) (bytes text : List ℕ) (s : Status) → IsCommand Derive words → IsCommand c words → AllowedTo c bytes text s → AllowedDerive bytes text s
+  is_derive c bytes text s derive command a = subst (λ d. AllowedTo d bytes text s) (one_command words c Derive command derive) a
+
+  -- what is derived is the text of a valid derivation
+  pub shows_derived : (s : Status) → Answers words had left old new s → IsCommand Derive words → s ≡ Ok → ShowsDerived had left old new
+  shows_derived s a derive e =
+      let c : Completes words had left old new Ok = at_status s Ok e a in
+      let k = c.allowed in
+      let shown = is_derive k.0 c.bytes c.text Ok derive k.1 k.2 in
+      record {
+        bytes = c.bytes;
+        accepted = shown.0;
+        input = c.input Derive derive;
+        whole = (c.input Derive derive).all shown.0.spelled.tree.small;
+        written = subst (λ l. Appends old new l) shown.1 c.written;
+      }
+
   -- ---- run
 
   -- what is allowed of a run command is allowed of `run`
   is_run : (o : RunOptions) (c : Command) (bytes text : List ℕ) (s : Status) → IsCommand (Run o) words → IsCommand c words → AllowedTo c bytes text s → AllowedRun o bytes text s
   is_run o c bytes text s run command a = subst (λ d. AllowedTo d bytes text s) (one_command words c (Run o) command run) a
 
-  safe_input : (bytes : List ℕ) → IsInput had left bytes → (r : IsRunnable bytes) → AcceptsSafe had left
+  safe_input : (bytes : List ℕ) → IsInput had left bytes → (r : IsAcceptedText bytes) → AcceptsSafe had left
   safe_input bytes input r = record {
     bytes = bytes;
     tree = r.tree;
@@ -170,7 +232,7 @@ module _ (words : List (List ℕ)) (had left old new : Option (List ℕ)) where
     safe = r.safe;
   }
 
-  shown_run : (o : RunOptions) (s : Status) (bytes text : List ℕ) → IsInput had left bytes → (r : IsRunnable bytes) → RunShows r.program o text s → Appends old new text → ShowsRun o had left old new s
+  shown_run : (o : RunOptions) (s : Status) (bytes text : List ℕ) → IsInput had left bytes → (r : IsAcceptedText bytes) → RunShows r.program o text s → Appends old new text → ShowsRun o had left old new s
   shown_run o s bytes text input r shows written = record {
     bytes = bytes;
     tree = r.tree;
@@ -274,16 +336,9 @@ module _ (words : List (List ℕ)) (had left old new : Option (List ℕ)) where
 
   -- ---- refusals
 
-  verdict_text : (c : Command) (bytes text : List ℕ) (v : Verdict) → AllowedTo c bytes text (Refused v) → (text ≡ line_of_verdict v) × AllowedTo c bytes (line_of_verdict v) (Refused v)
-  verdict_text Print bytes text v a = (a.1, (a.0, refl))
-  verdict_text (Run o) bytes text v a = (a.1, (a.0, refl))
-  verdict_text Replay bytes text v a = (a.1, (a.0, refl))
-  verdict_text Verify bytes text v a = (a.1, (a.0, refl))
-
   -- a refusal is a verdict of the command
   pub shows_verdict : (s : Status) → Answers words had left old new s → (v : Verdict) → s ≡ Refused v → ShowsVerdict words had left old new v
   shows_verdict s a v e =
       let c : Completes words had left old new (Refused v) = at_status s (Refused v) e a in
       let k = c.allowed in
-      let shown = verdict_text k.0 c.bytes c.text v k.2 in
-      record { bytes = c.bytes; command = k.0; asked = k.1; input = c.input k.0 k.1; refused = shown.1; written = subst (λ l. Appends old new l) shown.0 c.written }
+      record { bytes = c.bytes; line = c.text; command = k.0; asked = k.1; input = c.input k.0 k.1; refused = k.2; written = c.written }

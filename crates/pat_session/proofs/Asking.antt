@@ -8,6 +8,8 @@ use Rattle.pat_input.specs.declared.reading.Input.{Input}
 use Rattle.pat_input.specs.declared.reading.Input.TheVariants.{TooLong}
 use Rattle.pat_input.specs.Inputs.{IsInput, IsInputWithin, IsRead, limit}
 use Rattle.pat_answers.specs.declared.answer.Answer.{Answer}
+use Rattle.pat_command_check.specs.Allowed.{AllowedCheck}
+use Rattle.pat_command_derive.specs.Allowed.{AllowedDerive}
 use Rattle.pat_command_print.specs.Allowed.{AllowedPrint}
 use Rattle.pat_options.specs.declared.options.RunOptions.{RunOptions}
 use Rattle.pat_options.specs.Options.{IsWithin}
@@ -17,17 +19,41 @@ use Rattle.pat_command_verify.specs.Allowed.{AllowedVerify}
 use Rattle.pat_session.specs.declared.commands.Asked.{Asked}
 use Rattle.pat_session.specs.declared.commands.Asked.TheVariants as asked
 use Rattle.pat_session.specs.declared.words.Command.{Command}
-use Rattle.pat_session.specs.declared.words.Command.TheVariants.{Print, Run, Replay, Verify}
+use Rattle.pat_session.specs.declared.words.Command.TheVariants.{Check, Derive, Print, Run, Replay, Verify}
 use Rattle.pat_session.specs.Allowed.{AllowedTo, limit_of}
 use Rattle.pat_session.specs.Asking.{Asks, IsAsked}
 
 -- ---- what is answered
 
 module _ {E : Type 0} (c : Command) (bytes : List ℕ) (r : Result Answer E) where
+  pub of_check : (input : Input) → Asks c bytes (asked.Check input) → (IsRead bytes input → IfOk r (λ a. AllowedCheck bytes a.text.items a.status)) → IfOk r (λ a. AllowedTo c bytes a.text.items a.status)
+  of_check input asks answer = go c asks
+    where
+      go : (d : Command) → Asks d bytes (asked.Check input) → IfOk r (λ a. AllowedTo d bytes a.text.items a.status)
+      go Check h = answer h
+      go Derive h = absurd h
+      go Print h = absurd h
+      go (Run o) h = absurd h
+      go Replay h = absurd h
+      go Verify h = absurd h
+
+  pub of_derive : (input : Input) → Asks c bytes (asked.Derive input) → (IsRead bytes input → IfOk r (λ a. AllowedDerive bytes a.text.items a.status)) → IfOk r (λ a. AllowedTo c bytes a.text.items a.status)
+  of_derive input asks answer = go c asks
+    where
+      go : (d : Command) → Asks d bytes (asked.Derive input) → IfOk r (λ a. AllowedTo d bytes a.text.items a.status)
+      go Check h = absurd h
+      go Derive h = answer h
+      go Print h = absurd h
+      go (Run o) h = absurd h
+      go Replay h = absurd h
+      go Verify h = absurd h
+
   pub of_print : (input : Input) → Asks c bytes (asked.Print input) → (IsRead bytes input → IfOk r (λ a. AllowedPrint bytes a.text.items a.status)) → IfOk r (λ a. AllowedTo c bytes a.text.items a.status)
   of_print input asks answer = go c asks
     where
       go : (d : Command) → Asks d bytes (asked.Print input) → IfOk r (λ a. AllowedTo d bytes a.text.items a.status)
+      go Check h = absurd h
+      go Derive h = absurd h
       go Print h = answer h
       go (Run o) h = absurd h
       go Replay h = absurd h
@@ -37,6 +63,8 @@ module _ {E : Type 0} (c : Command) (bytes : List ℕ) (r : Result Answer E) whe
   of_run options input asks answer = go c asks
     where
       go : (d : Command) → Asks d bytes (asked.Run options input) → IfOk r (λ a. AllowedTo d bytes a.text.items a.status)
+      go Check h = absurd h
+      go Derive h = absurd h
       go Print h = absurd h
       go (Run o) h = subst (λ k. IfOk r (λ a. AllowedRun k bytes a.text.items a.status)) (sym h.0) (answer h.2)
       go Replay h = absurd h
@@ -46,6 +74,8 @@ module _ {E : Type 0} (c : Command) (bytes : List ℕ) (r : Result Answer E) whe
   of_replay read asks answer = go c asks
     where
       go : (d : Command) → Asks d bytes (asked.Replay read) → IfOk r (λ a. AllowedTo d bytes a.text.items a.status)
+      go Check h = absurd h
+      go Derive h = absurd h
       go Print h = absurd h
       go (Run o) h = absurd h
       go Replay h = subst (λ l. IfOk r (λ a. AllowedReplay l a.text.items a.status)) h answer
@@ -55,19 +85,41 @@ module _ {E : Type 0} (c : Command) (bytes : List ℕ) (r : Result Answer E) whe
   of_verify read asks answer = go c asks
     where
       go : (d : Command) → Asks d bytes (asked.Verify read) → IfOk r (λ a. AllowedTo d bytes a.text.items a.status)
+      go Check h = absurd h
+      go Derive h = absurd h
       go Print h = absurd h
       go (Run o) h = absurd h
       go Replay h = absurd h
       go Verify h = subst (λ l. IfOk r (λ a. AllowedVerify l a.text.items a.status)) h answer
 
--- what print asks was read as its input; so of run
+-- what a command asks was read as its input
+pub check_read : (input : Input) → IsAsked (asked.Check input) → (bytes : List ℕ) × IsRead bytes input
+check_read input (Check, bytes, h) = (bytes, h)
+check_read input (Derive, bytes, h) = absurd h
+check_read input (Print, bytes, h) = absurd h
+check_read input (Run o, bytes, h) = absurd h
+check_read input (Replay, bytes, h) = absurd h
+check_read input (Verify, bytes, h) = absurd h
+
+pub derive_read : (input : Input) → IsAsked (asked.Derive input) → (bytes : List ℕ) × IsRead bytes input
+derive_read input (Check, bytes, h) = absurd h
+derive_read input (Derive, bytes, h) = (bytes, h)
+derive_read input (Print, bytes, h) = absurd h
+derive_read input (Run o, bytes, h) = absurd h
+derive_read input (Replay, bytes, h) = absurd h
+derive_read input (Verify, bytes, h) = absurd h
+
 pub print_read : (input : Input) → IsAsked (asked.Print input) → (bytes : List ℕ) × IsRead bytes input
+print_read input (Check, bytes, h) = absurd h
+print_read input (Derive, bytes, h) = absurd h
 print_read input (Print, bytes, h) = (bytes, h)
 print_read input (Run o, bytes, h) = absurd h
 print_read input (Replay, bytes, h) = absurd h
 print_read input (Verify, bytes, h) = absurd h
 
 pub run_read : (options : RunOptions) (input : Input) → IsAsked (asked.Run options input) → (bytes : List ℕ) × IsRead bytes input
+run_read options input (Check, bytes, h) = absurd h
+run_read options input (Derive, bytes, h) = absurd h
 run_read options input (Print, bytes, h) = absurd h
 run_read options input (Run o, bytes, h) = (bytes, h.2)
 run_read options input (Replay, bytes, h) = absurd h
@@ -75,6 +127,8 @@ run_read options input (Verify, bytes, h) = absurd h
 
 -- and its options have their bounds
 pub run_within : (options : RunOptions) (input : Input) → IsAsked (asked.Run options input) → IsWithin options
+run_within options input (Check, bytes, h) = absurd h
+run_within options input (Derive, bytes, h) = absurd h
 run_within options input (Print, bytes, h) = absurd h
 run_within options input (Run o, bytes, h) = h.1
 run_within options input (Replay, bytes, h) = absurd h
@@ -91,6 +145,12 @@ abbrev pub ReadAs : Command → Option (List ℕ) → Option (List ℕ) → Opti
 ReadAs c had left before now a = (bytes : List ℕ) × IsInputWithin (limit_of c) had left bytes × Asks c bytes a × (length bytes ≤ limit_of c → EndsThere before now)
 
 module _ (had left : Option (List ℕ)) (before now : Option Reach) where
+  pub reads_check : (input : Input) → ((bytes : List ℕ) × IsInput had left bytes × IsRead bytes input) → (input ≢ TooLong → EndsThere before now) → ReadAs Check had left before now (asked.Check input)
+  reads_check input (bytes, own, read) there = (bytes, own, read, λ small. there (small_input bytes input read small))
+
+  pub reads_derive : (input : Input) → ((bytes : List ℕ) × IsInput had left bytes × IsRead bytes input) → (input ≢ TooLong → EndsThere before now) → ReadAs Derive had left before now (asked.Derive input)
+  reads_derive input (bytes, own, read) there = (bytes, own, read, λ small. there (small_input bytes input read small))
+
   pub reads_print : (input : Input) → ((bytes : List ℕ) × IsInput had left bytes × IsRead bytes input) → (input ≢ TooLong → EndsThere before now) → ReadAs Print had left before now (asked.Print input)
   reads_print input (bytes, own, read) there = (bytes, own, read, λ small. there (small_input bytes input read small))
 

@@ -2,6 +2,8 @@
 use Rattle.std.specs.Prelude.{◌≡◌, ℕ, List, [], ◌∷◌, ◌++◌, Some, codes}
 use Rattle.pat_answers.specs.declared.status.Status.{Status}
 use Rattle.pat_answers.specs.declared.status.Status.TheVariants.{Usage}
+use Rattle.pat_command_check.specs.Allowed.{AllowedCheck}
+use Rattle.pat_command_derive.specs.Allowed.{AllowedDerive}
 use Rattle.pat_command_print.specs.Allowed.{AllowedPrint}
 use Rattle.pat_command_run.specs.Allowed.{AllowedRun}
 use Rattle.pat_command_replay.specs.Allowed.{AllowedReplay}
@@ -9,7 +11,7 @@ use Rattle.pat_command_verify.specs.Allowed.{AllowedVerify}
 use Rattle.pat_options.specs.Options.{IsWithin, options_of}
 use Rattle.pat_input.specs.Inputs.{limit, whole_limit}
 use Rattle.pat_session.specs.declared.words.Command.{Command}
-use Rattle.pat_session.specs.declared.words.Command.TheVariants.{Print, Run, Replay, Verify}
+use Rattle.pat_session.specs.declared.words.Command.TheVariants.{Check, Derive, Print, Run, Replay, Verify}
 
 abbrev pub usage_line : List ℕ
 usage_line = codes "usage: pat check|derive|verify|print|run|replay|load|help" ++ 10 ∷ []
@@ -18,6 +20,8 @@ usage_line = codes "usage: pat check|derive|verify|print|run|replay|load|help" +
 
 -- the words ask for the command
 abbrev pub IsCommand : Command → List (List ℕ) → Type 0
+IsCommand Check words = words ≡ codes "check" ∷ []
+IsCommand Derive words = words ≡ codes "derive" ∷ []
 IsCommand Print words = words ≡ codes "print" ∷ []
 IsCommand (Run o) words = (rest : List (List ℕ)) × (words ≡ codes "run" ∷ rest) × (options_of rest ≡ Some o)
 IsCommand Replay words = words ≡ codes "replay" ∷ []
@@ -36,6 +40,8 @@ HasBounds _ = Unit {0}
 
 -- the most bytes of the command's input
 abbrev pub limit_of : Command → ℕ
+limit_of Check = limit
+limit_of Derive = limit
 limit_of Print = limit
 limit_of (Run o) = limit
 limit_of Replay = whole_limit
@@ -43,6 +49,8 @@ limit_of Verify = whole_limit
 
 -- the text and the status of the command on these bytes
 abbrev pub AllowedTo : Command → List ℕ → List ℕ → Status → Type 0
+AllowedTo Check bytes text status = AllowedCheck bytes text status
+AllowedTo Derive bytes text status = AllowedDerive bytes text status
 AllowedTo Print bytes text status = AllowedPrint bytes text status
 AllowedTo (Run o) bytes text status = AllowedRun o bytes text status
 AllowedTo Replay bytes text status = AllowedReplay bytes text status

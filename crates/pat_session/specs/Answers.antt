@@ -8,7 +8,6 @@ use Rattle.pat_grammar.specs.Trees.{Tree}
 use Rattle.pat_canonical.specs.Text.{canonical_text}
 use Rattle.pat_ports.specs.Bytes.{AppendsFront}
 use Rattle.pat_input.specs.Inputs.{IsInput, IsInputWithin, whole_limit}
-use Rattle.pat_front.specs.Lines.{line_of_verdict}
 use Rattle.pat_front.specs.Texts.{IsProgramText}
 use Rattle.pat_front.specs.declared.verdict.Verdict.{Verdict}
 use Rattle.pat_answers.specs.declared.status.Status.{Status}
@@ -16,7 +15,10 @@ use Rattle.pat_answers.specs.declared.status.Status.TheVariants.{Ok, Refused, Us
 use Rattle.pat_options.specs.declared.options.RunOptions.{RunOptions}
 use Rattle.pat_command_run.specs.Allowed.{RunShows}
 use Rattle.pat_command_replay.specs.Allowed.{IsReplayed}
-use Rattle.pat_command_verify.specs.Allowed.{IsVerified, accepted_line}
+use Rattle.pat_command_verify.specs.Allowed.{IsVerified}
+use Rattle.pat_derivation_text.specs.DerivationText.{derivation_text}
+use Rattle.pat_checked.specs.Inputs.{IsAcceptedText}
+use Rattle.pat_answers.specs.Answers.{accepted_line}
 use Rattle.pat_session.specs.declared.words.Command.{Command}
 use Rattle.pat_session.specs.Ports.{IsCutShort}
 use Rattle.pat_session.specs.Allowed.{IsCommand, AllowedTo, limit_of, Allowed}
@@ -66,6 +68,23 @@ IsAccepted Budget = Unit {0}
 IsAccepted Waiting = Unit {0}
 IsAccepted Full = Unit {0}
 IsAccepted _ = ⊥
+
+-- all that the source had was read, and is the text of a program with a valid derivation, so it is safe; and the sink took the line
+-- that says so
+pub record ShowsChecked (had left old new : Option (List ℕ)) : Type 0 where
+  pub bytes : List ℕ
+  pub accepted : IsAcceptedText bytes
+  pub input : IsInput had left bytes
+  pub whole : IsAtEnd left
+  pub written : Appends old new accepted_line
+
+-- so, and the sink took the text of the derivation
+pub record ShowsDerived (had left old new : Option (List ℕ)) : Type 0 where
+  pub bytes : List ℕ
+  pub accepted : IsAcceptedText bytes
+  pub input : IsInput had left bytes
+  pub whole : IsAtEnd left
+  pub written : Appends old new (derivation_text accepted.program accepted.derivation)
 
 -- all that the source had was read, and is the text of a program that is safe
 pub record AcceptsSafe (had left : Option (List ℕ)) : Type 0 where
@@ -122,8 +141,9 @@ pub record ShowsVerified (had left old new : Option (List ℕ)) : Type 0 where
 -- the verdict is one that the command gives on what was read, and the sink took the line that says it
 pub record ShowsVerdict (words : List (List ℕ)) (had left old new : Option (List ℕ)) (v : Verdict) : Type 0 where
   pub bytes : List ℕ
+  pub line : List ℕ
   pub command : Command
   pub asked : IsCommand command words
   pub input : IsInputWithin (limit_of command) had left bytes
-  pub refused : AllowedTo command bytes (line_of_verdict v) (Refused v)
-  pub written : Appends old new (line_of_verdict v)
+  pub refused : AllowedTo command bytes line (Refused v)
+  pub written : Appends old new line

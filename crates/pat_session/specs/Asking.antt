@@ -5,10 +5,12 @@ use Rattle.pat_input.specs.Inputs.{IsRead}
 use Rattle.pat_session.specs.declared.commands.Asked.{Asked}
 use Rattle.pat_session.specs.declared.commands.Asked.TheVariants as asked
 use Rattle.pat_session.specs.declared.words.Command.{Command}
-use Rattle.pat_session.specs.declared.words.Command.TheVariants.{Print, Run, Replay, Verify}
+use Rattle.pat_session.specs.declared.words.Command.TheVariants.{Check, Derive, Print, Run, Replay, Verify}
 
 -- it is what the command asks of these bytes
 abbrev pub Asks : Command → List ℕ → Asked → Type 0
+Asks Check bytes (asked.Check input) = IsRead bytes input
+Asks Derive bytes (asked.Derive input) = IsRead bytes input
 Asks Print bytes (asked.Print input) = IsRead bytes input
 Asks (Run o) bytes (asked.Run options input) = (o ≡ options) × IsWithin options × IsRead bytes input
 Asks Replay bytes (asked.Replay read) = read.items ≡ bytes

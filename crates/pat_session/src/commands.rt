@@ -7,6 +7,8 @@ ghost use Rattle.pat_session.specs.Asking.{Asks, IsAsked};
 
 use crate::Command;
 use pat_answers::Answer;
+use pat_command_check::answer_check;
+use pat_command_derive::answer_derive;
 use pat_command_print::answer_print;
 use pat_command_replay::answer_replay;
 use pat_command_run::answer_run;
@@ -19,6 +21,8 @@ use std::alloc::{AllocError, Global};
 /// What there is to answer.
 #[derive(Drop)]
 pub enum Asked {
+    Check(Input),
+    Derive(Input),
     Print(Input),
     Run(RunOptions, Input),
     Replay(Vec<u8>),
@@ -31,6 +35,8 @@ pub fn answer_to(alloc: Global, asked: Asked) -> Result<Answer, AllocError>
     ensures { (command : Command) (bytes : List ℕ) → Asks command bytes asked → IfOk result (λ a. AllowedTo command bytes a.text.items a.status) }
 {
     match asked {
+        Asked::Check(input) => answer_check(alloc, input),
+        Asked::Derive(input) => answer_derive(alloc, input),
         Asked::Print(input) => answer_print(alloc, input),
         Asked::Run(options, input) => answer_run(alloc, options, input),
         Asked::Replay(bytes) => answer_replay(alloc, bytes.as_slice()),
@@ -50,6 +56,8 @@ pub fn read_asked<S: Source>(
     ensures one_end { EndsOnce (S.reach source.old) (S.reach source.new) }
 {
     match command {
+        Command::Check => Ok(Asked::Check(read_tokens(alloc, source)?)),
+        Command::Derive => Ok(Asked::Derive(read_tokens(alloc, source)?)),
         Command::Print => Ok(Asked::Print(read_tokens(alloc, source)?)),
         Command::Run(options) => Ok(Asked::Run(options, read_tokens(alloc, source)?)),
         Command::Replay => Ok(Asked::Replay(read_bytes(alloc, source)?)),

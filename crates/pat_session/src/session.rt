@@ -4,7 +4,7 @@ ghost use Rattle.pat_ports.specs.Causes.{Raised};
 ghost use Rattle.pat_ports.specs.Ends.{EndsOnce, EndsThere};
 ghost use Rattle.pat_front.specs.declared.verdict.Verdict.{Verdict};
 ghost use Rattle.pat_session.specs.Allowed.{IsCommand, HasCommand, HasBounds};
-ghost use Rattle.pat_session.specs.Answers.{Answers, Begins, IsAccepted, AcceptsSafe, ShowsRun, ShowsTree, ShowsReplay, ShowsVerified, ShowsVerdict};
+ghost use Rattle.pat_session.specs.Answers.{Answers, Begins, IsAccepted, AcceptsSafe, ShowsChecked, ShowsDerived, ShowsRun, ShowsTree, ShowsReplay, ShowsVerified, ShowsVerdict};
 ghost use Rattle.pat_options.specs.declared.options.RunOptions.{RunOptions};
 ghost use Rattle.pat_session.specs.Ports.{source_state, sink_state};
 ghost use Rattle.pat_session.specs.Calls.{Call, ReadsAll};
@@ -48,7 +48,11 @@ pub fn pat<S: Source, K: Sink, G: Gate>(
     ensures handed { result ≢ Status.WriteFault → Answers (map string_bytes words.now) (S.rest source.old) (S.rest source.new) (K.handed sink.old) (K.handed sink.new) result }
     ensures begun { result ≡ Status.WriteFault → Begins (map string_bytes words.now) (S.rest source.old) (S.rest source.new) (K.handed sink.old) (K.handed sink.new) }
 
-    // What that says of the program that was read, of its run, and of its canonical text.
+    // What was checked, and what was derived, is a program with a valid derivation, so it is safe.
+    ensures checked { IsCommand Command.Check (map string_bytes words.now) → result ≡ Status.Ok → ShowsChecked (S.rest source.old) (S.rest source.new) (K.taken sink.old) (K.taken sink.new) }
+    ensures derived { IsCommand Command.Derive (map string_bytes words.now) → result ≡ Status.Ok → ShowsDerived (S.rest source.old) (S.rest source.new) (K.taken sink.old) (K.taken sink.new) }
+
+    // What an answer says of the program that was read, of its run, and of its canonical text.
     ensures accepted_is_safe { (options : RunOptions) → IsCommand (Command.Run options) (map string_bytes words.now) → IsAccepted result → AcceptsSafe (S.rest source.old) (S.rest source.new) }
     ensures run { (options : RunOptions) → IsCommand (Command.Run options) (map string_bytes words.now) → IsAccepted result → ShowsRun options (S.rest source.old) (S.rest source.new) (K.taken sink.old) (K.taken sink.new) result }
     ensures printed { IsCommand Command.Print (map string_bytes words.now) → result ≡ Status.Ok → ShowsTree (S.rest source.old) (S.rest source.new) (K.taken sink.old) (K.taken sink.new) }

@@ -7,6 +7,10 @@ use pat_options::{RunOptions, options_of};
 /// What a call is asked to do.
 #[derive(Clone, Copy, Debug, PartialEq, Eq)]
 pub enum Command {
+    /// Check a program.
+    Check,
+    /// Write a derivation of a program.
+    Derive,
     /// Print the canonical text of a program.
     Print,
     /// Run a program.
@@ -66,6 +70,12 @@ fn command_alone(word: &[u8]) -> Option<Command>
     ensures bounds { IfSome result HasBounds }
     ensures none { IfNone result (HasCommand (word.now ∷ []) → ⊥) }
 {
+    if word == b"check".as_slice() {
+        return Some(Command::Check);
+    }
+    if word == b"derive".as_slice() {
+        return Some(Command::Derive);
+    }
     if word == b"print".as_slice() {
         return Some(Command::Print);
     }

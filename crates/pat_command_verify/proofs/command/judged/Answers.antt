@@ -1,18 +1,17 @@
-use Rattle.std.proofs.Common.{rules, ◌≡◌, subst}
+use Rattle.std.proofs.Common.{subst}
 use Rattle.std.specs.Prelude.{IfNone}
 use Rattle.pat_core.specs.Views.{program_view}
 use Rattle.pat_typing.specs.Typings.{IsTypable}
 use Rattle.pat_validity.specs.Validity.{IsValid}
 use Rattle.pat_derivations.specs.Views.{derivation_view}
 use Rattle.pat_safety_laws.proofs.Safe.{typable_safe}
-use Rattle.pat_command_verify.specs.Allowed.{accepted_line}
+use Rattle.pat_command_verify.proofs.Answering.{accepted_judged}
 use Rattle.pat_command_verify.proofs.command.judged.Goals as goal
 
-pub returns-in_ok-to_vec-in-None : goal.returns-in_ok-to_vec-in-None
-returns-in_ok-to_vec-in-None c =
+pub returns-in-None : goal.returns-in-None
+returns-in-None c =
     let p = program_view c.args.program.now in
     let d = derivation_view c.args.derivation.now in
     let valid : IsValid p d = subst (λ o. IfNone o (IsValid p d)) c.in-None.is c.in_ok-judge.ensures.valid in
     let typable : IsTypable p = subst (λ o. IfNone o (IsTypable p)) c.in-None.is c.in_ok-judge.ensures.typable in
-    let text : c.in_ok-to_vec-in-None.field-0.items ≡ accepted_line = search rules in
-    (valid, typable_safe p c.requires typable, text)
+    accepted_judged p d c.accepted_answer.result valid (typable_safe p c.requires typable) c.accepted_answer.ensures

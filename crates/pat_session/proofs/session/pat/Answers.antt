@@ -1,5 +1,5 @@
 use Rattle.std.proofs.Common.{map, string_bytes}
-use Rattle.pat_session.proofs.Allows.{usage_only, accepts_safe, shows_run, shows_tree, shows_replay, shows_verified, shows_verdict}
+use Rattle.pat_session.proofs.Allows.{usage_only, accepts_safe, shows_checked, shows_derived, shows_run, shows_tree, shows_replay, shows_verified, shows_verdict}
 use Rattle.pat_session.proofs.session.pat.Goals as goal
 
 pub returns-clause-read_fault : goal.returns-clause-read_fault
@@ -31,3 +31,9 @@ returns-clause-verified g c = shows_verified (map string_bytes c.args.words.now)
 
 pub returns-clause-replayed : goal.returns-clause-replayed
 returns-clause-replayed g c = shows_replay (map string_bytes c.args.words.now) (g.S.Source.rest c.args.source.now) (g.S.Source.rest c.respond.new.source) (g.K.Sink.taken c.args.sink.now) (g.K.Sink.taken c.respond.new.sink) c.respond.result c.respond.ensures.call.output
+
+pub returns-clause-checked : goal.returns-clause-checked
+returns-clause-checked g c = shows_checked (map string_bytes c.args.words.now) (g.S.Source.rest c.args.source.now) (g.S.Source.rest c.respond.new.source) (g.K.Sink.taken c.args.sink.now) (g.K.Sink.taken c.respond.new.sink) c.respond.result c.respond.ensures.call.output
+
+pub returns-clause-derived : goal.returns-clause-derived
+returns-clause-derived g c = shows_derived (map string_bytes c.args.words.now) (g.S.Source.rest c.args.source.now) (g.S.Source.rest c.respond.new.source) (g.K.Sink.taken c.args.sink.now) (g.K.Sink.taken c.respond.new.sink) c.respond.result c.respond.ensures.call.output

@@ -1,0 +1,7 @@
+mod Placed
+mod Told
+mod Worded
+mod Checking
+mod Complete
+-- for the crates above
+pub mod Statuses

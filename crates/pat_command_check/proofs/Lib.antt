@@ -1,0 +1,3 @@
+mod Answered
+-- for the crates above
+pub mod Statuses

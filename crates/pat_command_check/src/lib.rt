@@ -1,0 +1,6 @@
+//! The command `check`: whether the program of a text is accepted.
+#![tactic(auto)]
+
+mod command;
+
+pub use command::answer_check;

@@ -1,0 +1,36 @@
+// Words, offsets and places in a text that grows.
+ghost use Rattle.std.specs.Prelude.{◌≡◌, ◌++◌, OnOk};
+ghost use Rattle.std.specs.Fmt.{decimal};
+ghost use Rattle.pat_front.specs.Lines.{place_words};
+
+use pat_decimal::push_number;
+use pat_syntax::Span;
+use std::alloc::{AllocError, Global};
+
+pub fn push_words(text: &mut Vec<u8>, words: &[u8]) -> Result<(), AllocError>
+    ensures { OnOk result (text.new.items ≡ text.old.items ++ words.now) }
+{
+    text.extend_from_slice(words)?;
+    Ok(())
+}
+
+// Words, and an offset.
+pub fn push_at(
+    alloc: Global,
+    text: &mut Vec<u8>,
+    words: &[u8],
+    offset: u32,
+) -> Result<(), AllocError>
+    ensures { OnOk result (text.new.items ≡ text.old.items ++ (words.now ++ decimal offset)) }
+{
+    push_words(text, words)?;
+    push_number(alloc, text, offset as u64)
+}
+
+// Where something stands.
+pub fn push_span(alloc: Global, text: &mut Vec<u8>, span: Span) -> Result<(), AllocError>
+    ensures { OnOk result (text.new.items ≡ text.old.items ++ place_words span) }
+{
+    push_at(alloc, text, b" at ", span.from)?;
+    push_at(alloc, text, b"-", span.to)
+}

@@ -1,3 +1,0 @@
--- for others: programs without mailboxes
-pub mod Typable
-pub mod Straight
