@@ -2,6 +2,8 @@
 #![tactic(auto)]
 
 mod command;
+mod laws;
 mod standing;
 
 pub use command::answer_replay;
+pub use laws::replay_law;

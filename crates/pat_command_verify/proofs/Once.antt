@@ -1,5 +1,5 @@
 -- Bytes have one answer.
-use Rattle.std.proofs.Common.{◌≡◌, ◌⊎◌, ◌<◌, ◌≤◌, ◌+◌, ℕ, List, length, Option, Some, None, refl, sym, ap, ◌∙◌, subst, ⊎_elim, arith}
+use Rattle.std.proofs.Common.{◌≡◌, ◌⊎◌, ◌+◌, ℕ, List, length, Option, Some, None, refl, sym, ap, ◌∙◌, subst, ⊎_elim}
 use Rattle.pat_model.specs.Programs.{Program}
 use Rattle.pat_validity.specs.Derivations.{Derivation}
 use Rattle.pat_validity.specs.Validity.{first_bad, IsValid}
@@ -11,14 +11,11 @@ use Rattle.pat_derivation_text.specs.Reading.{ReadsAs, Unread}
 use Rattle.pat_rules.specs.declared.Rule.{Rule}
 use Rattle.pat_rules.specs.declared.Rule.TheVariants as rule
 use Rattle.pat_judge.specs.Views.{rule_view}
-use Rattle.pat_marked.specs.Marked.{IsMarked, IsUnmarked}
-use Rattle.pat_marked.specs.Splits.{OneSplit}
-use Rattle.pat_input.specs.Inputs.{limit, whole_limit}
-use Rattle.pat_front.specs.Texts.{IsProgramText, IsRefusal}
-use Rattle.pat_front.specs.Laws as front
+use Rattle.pat_marked_programs.specs.MarkedPrograms.{HasProgram, IsMarkedRefusal}
+use Rattle.pat_marked_programs.specs.OneProgram.{OneProgram}
 use Rattle.pat_front.specs.declared.verdict.Verdict.{Verdict}
 use Rattle.pat_front.specs.declared.verdict.Verdict.TheVariants as verdict
-use Rattle.pat_command_verify.specs.Allowed.{HasProgram, HasValid, RefusesBytes, RefusesFront, RefusesText, Unaccepted}
+use Rattle.pat_command_verify.specs.Allowed.{HasValid, RefusesText, Unaccepted}
 use Rattle.pat_command_verify.specs.Answers.{OneAnswer}
 use Rattle.pat_command_verify.proofs.ReadingOnce.{read_or_not, one_unread}
 
@@ -52,27 +49,7 @@ unfolding rejected_as
 same_rejection m n r s e =
     ap (verdict.Rejected m) (sym (back r)) ∙ ap rejected_as e ∙ ap (verdict.Rejected n) (back s)
 
-module _ (none_bad : ValidIsNoneBad) (one_reading : ReadingIsOne) (bytes : List ℕ) (split : OneSplit marker bytes) (one : (front_bytes : List ℕ) → front.OneAnswer front_bytes) where
-  marked_not_unmarked : (A : Type 0) (f t : List ℕ) → IsMarked marker bytes f t → IsUnmarked marker bytes → A
-  marked_not_unmarked A f t m u = absurd (split.not_both f t m u)
-
-  -- one program, and one text behind it
-  record SameParts (h k : HasProgram bytes) : Type 0 where
-    front : h.front ≡ k.front
-    text : h.text ≡ k.text
-    program : h.program ≡ k.program
-
-  same_parts : (h k : HasProgram bytes) → SameParts h k
-  same_parts h k =
-      let both = split.same h.front k.front h.text k.text h.marked k.marked in
-      let spelled : IsProgramText h.front k.tree k.program = subst (λ f. IsProgramText f k.tree k.program) (sym both.0) k.spelled in
-      record { front = both.0; text = both.1; program = (one h.front).one_program h.tree k.tree h.program k.program h.spelled spelled }
-
-  not_front : (h : HasProgram bytes) (v : Verdict) → RefusesFront bytes v → ⊥
-  not_front h v r =
-      let both = split.same r.front h.front r.text h.text r.marked h.marked in
-      (one h.front).not_both v h.tree h.program (subst (λ f. IsRefusal f v) both.0 r.refused) h.spelled
-
+module _ (none_bad : ValidIsNoneBad) (one_reading : ReadingIsOne) (bytes : List ℕ) (program : OneProgram marker bytes) where
   -- a text behind a program is accepted or not, in one way
   not_accepted : (p : Program) (from : ℕ) (text : List ℕ) (v : Verdict) → HasValid p text → Unaccepted p from text v → ⊥
   not_accepted p from text (verdict.BadText o) a (offset, at, unread) = read_or_not p text a.derivation offset a.read unread
@@ -112,100 +89,34 @@ module _ (none_bad : ValidIsNoneBad) (one_reading : ReadingIsOne) (bytes : List 
       let same : d ≡ e = one_reading p text d e read other in
       same_rejection m n r s (sym b ∙ ap (first_bad p) same ∙ c)
 
+  -- what is said of a text behind a program is said of the same text behind the same program
+  moved : (f g t u : List ℕ) (p q : Program) (v : Verdict) → (f ≡ g) × (t ≡ u) × (p ≡ q) → Unaccepted p (length f) t v → Unaccepted q (length g) u v
+  moved f g t u p q v same h =
+      subst (λ r. Unaccepted r (length g) u v) same.2
+      (subst (λ s. Unaccepted p (length g) s v) same.1
+      (subst (λ k. Unaccepted p (length k) t v) same.0 h))
+
   one_text : (v w : Verdict) → RefusesText bytes v → RefusesText bytes w → v ≡ w
   one_text v w a b =
-      let parts = same_parts b.program a.program in
-      let moved : Unaccepted a.program.program (length a.program.front) a.program.text w =
-      subst (λ p. Unaccepted p (length a.program.front) a.program.text w) parts.program
-      (subst (λ t. Unaccepted b.program.program (length a.program.front) t w) parts.text
-      (subst (λ f. Unaccepted b.program.program (length f) b.program.text w) parts.front b.unaccepted)) in
-      one_why a.program.program (length a.program.front) a.program.text v w (why a.program.program (length a.program.front) a.program.text v a.unaccepted) (why a.program.program (length a.program.front) a.program.text w moved)
-
-  one_front : (v w : Verdict) → RefusesFront bytes v → RefusesFront bytes w → v ≡ w
-  one_front v w a b =
-      let both = split.same b.front a.front b.text a.text b.marked a.marked in
-      (one a.front).one_refusal v w a.refused (subst (λ f. IsRefusal f w) both.0 b.refused)
-
-  -- the bytes are too many, or have no mark: then they are in no parts that are few enough
-  bytes_alone : (A : Type 0) (f t : List ℕ) (v : Verdict) → RefusesBytes bytes v → length bytes ≤ whole_limit → IsMarked marker bytes f t → A
-  bytes_alone A f t verdict.TooLong r small m =
-      ⊎_elim
-      (λ (long : whole_limit < length bytes). absurd (omega (arith, long, small)))
-      (λ (u : IsUnmarked marker bytes × (limit < length bytes)). marked_not_unmarked A f t m u.0)
-      r
-  bytes_alone A f t (verdict.BadText o) r small m = marked_not_unmarked A f t m r.0
-  bytes_alone A f t (verdict.Syntax o) r small m = absurd r
-  bytes_alone A f t (verdict.NumberTooWide o) r small m = absurd r
-  bytes_alone A f t (verdict.TooDeep o) r small m = absurd r
-  bytes_alone A f t (verdict.Resolve k s) r small m = absurd r
-  bytes_alone A f t (verdict.Rejected n q) r small m = absurd r
-  bytes_alone A f t (verdict.RefusedAt i) r small m = absurd r
-  bytes_alone A f t (verdict.Unaccepted reason) r small m = absurd r
-
-  -- they are too many for what they are, or a program alone
-  data Bare : Verdict → Type 0 where
-    many : limit < length bytes → Bare verdict.TooLong
-    few : length bytes ≤ limit → Bare (verdict.BadText (length bytes))
-
-  bare : (v : Verdict) → RefusesBytes bytes v → Bare v
-  bare verdict.TooLong r =
-      many (⊎_elim (λ (long : whole_limit < length bytes). let more : limit < length bytes = omega (arith, long) in more) (λ (u : IsUnmarked marker bytes × (limit < length bytes)). u.1) r)
-  bare (verdict.BadText o) r = subst (λ k. Bare (verdict.BadText k)) (sym r.2) (few r.1)
-  bare (verdict.Syntax o) r = absurd r
-  bare (verdict.NumberTooWide o) r = absurd r
-  bare (verdict.TooDeep o) r = absurd r
-  bare (verdict.Resolve k s) r = absurd r
-  bare (verdict.Rejected n q) r = absurd r
-  bare (verdict.RefusedAt i) r = absurd r
-  bare (verdict.Unaccepted reason) r = absurd r
-
-  one_bare : (v w : Verdict) → Bare v → Bare w → v ≡ w
-  one_bare v w (many a) (many b) = refl
-  one_bare v w (many a) (few b) = absurd (omega (arith, a, b))
-  one_bare v w (few a) (many b) = absurd (omega (arith, a, b))
-  one_bare v w (few a) (few b) = refl
-
-  abbrev InParts : Verdict → Type 0
-  InParts v = (length bytes ≤ whole_limit) × (RefusesFront bytes v ⊎ RefusesText bytes v)
-
-  -- bytes in parts are not refused as bytes
-  parts_alone : (A : Type 0) (v w : Verdict) → RefusesBytes bytes v → InParts w → A
-  parts_alone A v w r (small, parts) =
-      ⊎_elim
-      (λ (f : RefusesFront bytes w). bytes_alone A f.front f.text v r small f.marked)
-      (λ (t : RefusesText bytes w). bytes_alone A t.program.front t.program.text v r small t.program.marked)
-      parts
-
-  one_in_parts : (v w : Verdict) → InParts v → InParts w → v ≡ w
-  one_in_parts v w (small, a) (few_too, b) =
-      ⊎_elim
-      (λ (f : RefusesFront bytes v).
-      ⊎_elim (λ (g : RefusesFront bytes w). one_front v w f g) (λ (t : RefusesText bytes w). absurd (not_front t.program v f)) b)
-      (λ (t : RefusesText bytes v).
-      ⊎_elim (λ (g : RefusesFront bytes w). absurd (not_front t.program w g)) (λ (u : RefusesText bytes w). one_text v w t u) b)
-      a
+      let same = program.same b.front a.front b.text a.text b.program a.program b.has a.has in
+      one_why a.program (length a.front) a.text v w
+      (why a.program (length a.front) a.text v a.unaccepted)
+      (why a.program (length a.front) a.text w (moved b.front a.front b.text a.text b.program a.program w same b.unaccepted))
 
   pub one_answer : OneAnswer bytes
   one_answer = record {
     not_both = λ v a r.
         ⊎_elim
-        (λ (b : RefusesBytes bytes v). bytes_alone ⊥ a.program.front a.program.text v b a.small a.program.marked)
-        (λ (b : InParts v).
-        ⊎_elim
-        (λ (f : RefusesFront bytes v). not_front a.program v f)
+        (λ (m : IsMarkedRefusal marker bytes v). program.not_both a.front a.text a.program v a.has m)
         (λ (t : RefusesText bytes v).
-        let parts = same_parts t.program a.program in
-        let moved : Unaccepted a.program.program (length t.program.front) a.program.text v =
-        subst (λ p. Unaccepted p (length t.program.front) a.program.text v) parts.program
-        (subst (λ s. Unaccepted t.program.program (length t.program.front) s v) parts.text t.unaccepted) in
-        not_accepted a.program.program (length t.program.front) a.program.text v a.valid moved)
-        b.1)
+        let same = program.same t.front a.front t.text a.text t.program a.program t.has a.has in
+        not_accepted a.program (length a.front) a.text v a.valid (moved t.front a.front t.text a.text t.program a.program v same t.unaccepted))
         r;
     one_refusal = λ v w x y.
         ⊎_elim
-        (λ (a : RefusesBytes bytes v).
-        ⊎_elim (λ (b : RefusesBytes bytes w). one_bare v w (bare v a) (bare w b)) (λ (b : InParts w). parts_alone (v ≡ w) v w a b) y)
-        (λ (a : InParts v).
-        ⊎_elim (λ (b : RefusesBytes bytes w). parts_alone (v ≡ w) w v b a) (λ (b : InParts w). one_in_parts v w a b) y)
+        (λ (m : IsMarkedRefusal marker bytes v).
+        ⊎_elim (λ (n : IsMarkedRefusal marker bytes w). program.one_refusal v w m n) (λ (t : RefusesText bytes w). absurd (program.not_both t.front t.text t.program v t.has m)) y)
+        (λ (t : RefusesText bytes v).
+        ⊎_elim (λ (n : IsMarkedRefusal marker bytes w). absurd (program.not_both t.front t.text t.program w t.has n)) (λ (u : RefusesText bytes w). one_text v w t u) y)
         x;
   }

@@ -1,17 +1,14 @@
 -- What `verify` may answer.
-use Rattle.std.specs.Prelude.{◌≡◌, ◌⊎◌, ◌<◌, ◌≤◌, ◌+◌, ℕ, List, length, Some}
+use Rattle.std.specs.Prelude.{◌≡◌, ◌⊎◌, ◌+◌, ℕ, List, length, Some}
 use Rattle.pat_model.specs.Programs.{Program}
 use Rattle.pat_model.specs.Faults.{IsSafe}
-use Rattle.pat_grammar.specs.Trees.{Tree}
 use Rattle.pat_validity.specs.Derivations.{Derivation}
 use Rattle.pat_validity.specs.Validity.{first_bad, IsValid}
 use Rattle.pat_derivation_text.specs.DerivationText.{marker}
 use Rattle.pat_derivation_text.specs.Reading.{ReadsAs, Unread}
-use Rattle.pat_marked.specs.Marked.{IsMarked, IsUnmarked}
+use Rattle.pat_marked_programs.specs.MarkedPrograms.{HasProgram, IsMarkedRefusal}
 use Rattle.pat_judge.specs.Views.{rule_view}
-use Rattle.pat_input.specs.Inputs.{limit, whole_limit}
 use Rattle.pat_front.specs.Lines.{line_of_verdict}
-use Rattle.pat_front.specs.Texts.{IsProgramText, IsRefusal}
 use Rattle.pat_front.specs.declared.verdict.Verdict.{Verdict}
 use Rattle.pat_front.specs.declared.verdict.Verdict.TheVariants as verdict
 use Rattle.pat_answers.specs.Answers.{accepted_line}
@@ -35,42 +32,25 @@ Unaccepted p from text _ = ⊥
 
 -- ---- whole inputs
 
--- the bytes are the text of a program, and behind it a text that begins with the mark of derivations
-pub record HasProgram (bytes : List ℕ) : Type 0 where
-  pub front : List ℕ
-  pub text : List ℕ
-  pub marked : IsMarked marker bytes front text
-  pub tree : Tree
-  pub program : Program
-  pub spelled : IsProgramText front tree program
-
--- what is in front of the mark is refused
-pub record RefusesFront (bytes : List ℕ) (v : Verdict) : Type 0 where
-  pub front : List ℕ
-  pub text : List ℕ
-  pub marked : IsMarked marker bytes front text
-  pub refused : IsRefusal front v
-
--- there are too many bytes, or no line is the mark
-abbrev pub RefusesBytes : List ℕ → Verdict → Type 0
-RefusesBytes bytes verdict.TooLong = (whole_limit < length bytes) ⊎ (IsUnmarked marker bytes × (limit < length bytes))
-RefusesBytes bytes (verdict.BadText o) = IsUnmarked marker bytes × (length bytes ≤ limit) × (o ≡ length bytes)
-RefusesBytes bytes _ = ⊥
-
 -- the text behind the program isn't accepted
 pub record RefusesText (bytes : List ℕ) (v : Verdict) : Type 0 where
-  pub program : HasProgram bytes
-  pub unaccepted : Unaccepted program.program (length program.front) program.text v
+  pub front : List ℕ
+  pub text : List ℕ
+  pub program : Program
+  pub has : HasProgram marker bytes front text program
+  pub unaccepted : Unaccepted program (length front) text v
 
 -- why the bytes are refused
 abbrev pub IsVerifyRefusal : List ℕ → Verdict → Type 0
-IsVerifyRefusal bytes v = RefusesBytes bytes v ⊎ ((length bytes ≤ whole_limit) × (RefusesFront bytes v ⊎ RefusesText bytes v))
+IsVerifyRefusal bytes v = IsMarkedRefusal marker bytes v ⊎ RefusesText bytes v
 
--- the bytes are accepted
+-- the bytes are the text of a program, and behind it that of a derivation which is valid
 pub record IsVerified (bytes : List ℕ) : Type 0 where
-  pub small : length bytes ≤ whole_limit
-  pub program : HasProgram bytes
-  pub valid : HasValid program.program program.text
+  pub front : List ℕ
+  pub text : List ℕ
+  pub program : Program
+  pub has : HasProgram marker bytes front text program
+  pub valid : HasValid program text
 
 -- the text and the status of `verify` on these bytes
 abbrev pub AllowedVerify : List ℕ → List ℕ → Status → Type 0

@@ -3,8 +3,7 @@ ghost use Rattle.std.specs.Prelude.{ℕ, List};
 ghost use Rattle.pat_command_verify.specs.Answers.{OneAnswer};
 
 use pat_derivation_text_laws::reading_is_one_law;
-use pat_front::verdict_law;
-use pat_marked::split_law;
+use pat_marked_programs::program_law;
 use pat_validity_laws::first_bad_laws;
 
 /// Bytes are accepted or refused, not both, and refused in one way: so each answer comes exactly where it is said to come.
@@ -13,6 +12,5 @@ pub fn verify_law()
 {
     first_bad_laws();
     reading_is_one_law();
-    split_law();
-    verdict_law();
+    program_law();
 }

@@ -1,1 +1,2 @@
 pub mod MarkedPrograms
+pub mod OneProgram

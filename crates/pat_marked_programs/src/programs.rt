@@ -1,5 +1,5 @@
 // The program of what is in front of a mark.
-ghost use Rattle.std.specs.Prelude.{◌≤◌, ℕ, List, length, take, drop, IfOk, IfErr};
+ghost use Rattle.std.specs.Prelude.{◌≤◌, ◌<◌, ℕ, List, length, take, drop, IfOk, IfErr};
 ghost use Rattle.pat_core.specs.Views.{program_view};
 ghost use Rattle.pat_names.specs.Resolved.{IsResolved};
 ghost use Rattle.pat_resolver_answers.specs.Views.{places_view};
@@ -22,6 +22,7 @@ pub fn program_before(
 ) -> Result<(Program, usize), FrontError>
     ensures program { IfOk result (λ r. HasProgram mark.now bytes.now (take r.1 bytes.now) (drop r.1 bytes.now) (program_view r.0)) }
     ensures is_resolved { IfOk result (λ r. IsResolved (program_view r.0) (places_view r.0)) }
+    ensures interfaces { IfOk result (λ r. length r.0.interfaces < 4294967296) }
     ensures within { IfOk result (λ r. r.1 ≤ length bytes.now) }
     ensures small { IfOk result (λ r. length bytes.now ≤ 67108864) }
     ensures refused { IfErr result (Explains mark.now bytes.now) }
@@ -54,6 +55,7 @@ fn without_mark(bytes: &[u8]) -> Verdict
 fn program_in(alloc: Global, front: &[u8]) -> Result<Program, FrontError>
     ensures program { IfOk result (λ p. HasTree front.now (program_view p)) }
     ensures is_resolved { IfOk result (λ p. IsResolved (program_view p) (places_view p)) }
+    ensures interfaces { IfOk result (λ p. length p.interfaces < 4294967296) }
     ensures refused { IfErr result (ExplainsText front.now) }
 {
     match lex_bytes(alloc, front) {
@@ -66,6 +68,7 @@ fn program_of_input(alloc: Global, input: Input) -> Result<Program, FrontError>
     requires { (bytes : List ℕ) × IsRead bytes input }
     ensures program { (bytes : List ℕ) → IsRead bytes input → IfOk result (λ p. HasTree bytes (program_view p)) }
     ensures is_resolved { IfOk result (λ p. IsResolved (program_view p) (places_view p)) }
+    ensures interfaces { IfOk result (λ p. length p.interfaces < 4294967296) }
     ensures refused { (bytes : List ℕ) → IsRead bytes input → IfErr result (ExplainsText bytes) }
 {
     match tree_of(alloc, input) {

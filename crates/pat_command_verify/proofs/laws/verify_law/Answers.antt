@@ -3,4 +3,4 @@ use Rattle.pat_command_verify.proofs.Once.{one_answer}
 use Rattle.pat_command_verify.proofs.laws.verify_law.Goals as goal
 
 pub returns : goal.returns
-returns c = λ bytes. one_answer c.first_bad_laws.ensures.none c.reading_is_one_law.ensures bytes (c.split_law.ensures marker bytes) c.verdict_law.ensures
+returns c = λ bytes. one_answer c.first_bad_laws.ensures.none c.reading_is_one_law.ensures bytes (c.program_law.ensures marker bytes)

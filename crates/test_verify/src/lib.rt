@@ -1,0 +1,5 @@
+//! `verify` on whole inputs.
+#![tactic(auto)]
+
+#[cfg(test)]
+mod rows;
