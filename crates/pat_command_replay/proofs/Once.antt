@@ -67,7 +67,7 @@ module _ (refused_law : NoReplayIsRefused) (once_law : OneEntryIsRefused) (one_r
   not_replayed from out (verdict.BadText o) h u = clash u.part h.part u.own h.own u.offset h.entries u.unread h.read
   not_replayed from out (verdict.RefusedAt i) h u =
       let es = same_entries h.part u.part h.own u.own h.entries u.entries h.read u.read in
-      let led : Some h.replay.config ≡ None = sym h.replay.replayed ∙ ap (replay p) es ∙ (refused_law p (start p) u.entries).2 (i, u.refused) in
+      let led : Some h.replay.config ≡ None = sym h.replay.replayed ∙ ap (replay p) es ∙ (refused_law p (start p) u.entries).1 (i, u.refused) in
       cc
   not_replayed from out verdict.TooLong h u = absurd u
   not_replayed from out (verdict.Syntax o) h u = absurd u
