@@ -20,3 +20,18 @@ Asks c bytes a = ⊥
 -- it is what some command asks of some bytes
 abbrev pub IsAsked : Asked → Type 0
 IsAsked a = (c : Command) × (bytes : List ℕ) × Asks c bytes a
+
+-- whether the command reads a program alone
+abbrev pub IsOfProgram : Command → Type 0
+IsOfProgram Check = Unit {0}
+IsOfProgram Derive = Unit {0}
+IsOfProgram Print = Unit {0}
+IsOfProgram (Run o) = Unit {0}
+IsOfProgram Replay = ⊥
+IsOfProgram Verify = ⊥
+
+-- or a program, and a text behind it
+abbrev pub IsOfTwoParts : Command → Type 0
+IsOfTwoParts Replay = Unit {0}
+IsOfTwoParts Verify = Unit {0}
+IsOfTwoParts _ = ⊥

@@ -1,9 +1,9 @@
 // What each command answers.
 ghost use Rattle.std.specs.Prelude.{◌≤◌, ℕ, List, IfOk, length};
 ghost use Rattle.pat_ports.specs.Ends.{EndsOnce, EndsThere};
-ghost use Rattle.pat_input.specs.Inputs.{IsInputWithin, FaultsAfter};
+ghost use Rattle.pat_input.specs.Inputs.{IsRead, IsInputWithin, FaultsAfter};
 ghost use Rattle.pat_session.specs.Allowed.{AllowedTo, HasBounds, limit_of};
-ghost use Rattle.pat_session.specs.Asking.{Asks, IsAsked};
+ghost use Rattle.pat_session.specs.Asking.{Asks, IsAsked, IsOfProgram, IsOfTwoParts};
 
 use crate::Command;
 use pat_answers::Answer;
@@ -56,11 +56,65 @@ pub fn read_asked<S: Source>(
     ensures one_end { EndsOnce (S.reach source.old) (S.reach source.new) }
 {
     match command {
-        Command::Check => Ok(Asked::Check(read_tokens(alloc, source)?)),
-        Command::Derive => Ok(Asked::Derive(read_tokens(alloc, source)?)),
-        Command::Print => Ok(Asked::Print(read_tokens(alloc, source)?)),
-        Command::Run(options) => Ok(Asked::Run(options, read_tokens(alloc, source)?)),
-        Command::Replay => Ok(Asked::Replay(read_bytes(alloc, source)?)),
-        Command::Verify => Ok(Asked::Verify(read_bytes(alloc, source)?)),
+        Command::Replay => read_two_parts(alloc, command, source),
+        Command::Verify => read_two_parts(alloc, command, source),
+        _ => read_program(alloc, command, source),
+    }
+}
+
+// A program alone.
+fn read_program<S: Source>(
+    alloc: Global,
+    command: Command,
+    source: &mut S,
+) -> Result<Asked, InputError>
+    requires bounds { HasBounds command }
+    requires program { IsOfProgram command }
+    ensures ok { IfOk result (λ asked. (bytes : List ℕ) × IsInputWithin (limit_of command) (S.rest source.old) (S.rest source.new) bytes × Asks command bytes asked × (length bytes ≤ limit_of command → EndsThere (S.reach source.old) (S.reach source.new))) }
+    ensures faults { FaultsAfter (S.faults source.old) (S.faults source.new) result }
+    ensures one_end { EndsOnce (S.reach source.old) (S.reach source.new) }
+{
+    let input = read_tokens(alloc, source)?;
+    Ok(asked_of_program(command, input))
+}
+
+fn asked_of_program(command: Command, input: Input) -> Asked
+    requires bounds { HasBounds command }
+    requires program { IsOfProgram command }
+    ensures { (bytes : List ℕ) → IsRead bytes input → Asks command bytes result }
+{
+    match command {
+        Command::Check => Asked::Check(input),
+        Command::Derive => Asked::Derive(input),
+        Command::Print => Asked::Print(input),
+        Command::Run(options) => Asked::Run(options, input),
+        Command::Replay => unreachable!(),
+        Command::Verify => unreachable!(),
+    }
+}
+
+// A program, and a text behind it.
+fn read_two_parts<S: Source>(
+    alloc: Global,
+    command: Command,
+    source: &mut S,
+) -> Result<Asked, InputError>
+    requires parts { IsOfTwoParts command }
+    ensures ok { IfOk result (λ asked. (bytes : List ℕ) × IsInputWithin (limit_of command) (S.rest source.old) (S.rest source.new) bytes × Asks command bytes asked × (length bytes ≤ limit_of command → EndsThere (S.reach source.old) (S.reach source.new))) }
+    ensures faults { FaultsAfter (S.faults source.old) (S.faults source.new) result }
+    ensures one_end { EndsOnce (S.reach source.old) (S.reach source.new) }
+{
+    let bytes = read_bytes(alloc, source)?;
+    Ok(asked_of_two_parts(command, bytes))
+}
+
+fn asked_of_two_parts(command: Command, bytes: Vec<u8>) -> Asked
+    requires { IsOfTwoParts command }
+    ensures { Asks command bytes.items result }
+{
+    match command {
+        Command::Replay => Asked::Replay(bytes),
+        Command::Verify => Asked::Verify(bytes),
+        _ => unreachable!(),
     }
 }
