@@ -1,3 +1,4 @@
-pub mod Few
+mod Few
+mod Once
+-- for the crates above
 pub mod Small
-pub mod Once

@@ -17,6 +17,7 @@ use std::hint;
 use std::marker::Model;
 use std::snapshot::Snapshot;
 use std::sync::Wait;
+use std::sync::atomic::{AtomicU64, Ordering};
 
 type Place<V> = Seat<Option<V>, View<<V as Kept>::Name, <V as Kept>::Entry>>;
 
@@ -26,6 +27,8 @@ type Top<V> = Shared<Option<V>, View<<V as Kept>::Name, <V as Kept>::Entry>, Abo
 #[derive(Drop)]
 pub struct Turn<V: Kept> {
     table: Table<Option<V>, View<V::Name, V::Entry>, About<V>, Law<V>, Global>,
+    /// How often the value was put back with news. It is changed while the value is held, and no contract speaks of it.
+    news: AtomicU64,
 }
 
 impl<V: Kept> Model for Turn<V> {
@@ -47,7 +50,8 @@ impl<V: Kept> Model for Turn<V> {
 pub struct Pass<V: Kept> {
     seat: Seat<Option<V>, View<V::Name, V::Entry>>,
     number: u32,
-    served: u64,
+    /// The turn's count of news when this pass last held the value.
+    news: u64,
 }
 
 impl<V: Kept> Model for Pass<V> {
@@ -95,17 +99,16 @@ fn wait_for_another<V: Kept, R: Wait>(rt: &R, top: &Top<V>, served: u64)
     top.park(rt, 1, (served % (1 << 32)) as u32);
 }
 
-// Puts the value back, and tells those that wait. Returns the number of tickets that were served.
-fn give<V: Kept>(top: &Top<V>, seat: &mut Place<V>, value: V) -> u64
+// Puts the value back, and wakes those that wait for their tickets.
+fn give<V: Kept>(top: &Top<V>, seat: &mut Place<V>, value: V)
     requires table { IsTable top.now.table_id × (seat.old.table_id ≡ top.now.table_id) }
     requires holds { IsHolding seat.old }
     requires value { MayPut V.name V.log V.by (known seat.old) value }
     ensures { (seat.new.table_id ≡ seat.old.table_id) × IsIdle seat.new × (known seat.new ≡ with_seen (known seat.old) (V.log value)) }
 {
     drop(top.exchange(seat, 0, Some(value)));
-    let served = top.fetch_add::<PassOn>(seat, 1, 1);
+    top.fetch_add::<PassOn>(seat, 1, 1);
     top.wake_all(1);
-    served.wrapping_add(1)
 }
 
 // Adds the passes with the numbers from 1 on.
@@ -126,7 +129,7 @@ fn add_passes<V: Kept>(
         others.push(Pass {
             seat,
             number,
-            served: 0,
+            news: 0,
         })?;
     }
     Ok(())
@@ -144,7 +147,7 @@ fn join_all<V: Kept>(top: &Top<V>, first: &mut Place<V>, others: Vec<Pass<V>>)
         let Pass {
             seat,
             number: _,
-            served: _,
+            news: _,
         } = pass;
         top.join_seat::<Fold>(first, seat);
     }
@@ -169,10 +172,12 @@ impl<V: Kept> Turn<V> {
         ensures seen { IsPrefix pass.old.seen (V.log result) }
         ensures own { entries_naming V.by pass.old.number (V.log result) ≡ entries_naming V.by pass.old.number pass.old.seen }
     {
-        take(rt, &self.table.shared, &mut pass.seat)
+        let value = take(rt, &self.table.shared, &mut pass.seat);
+        pass.news = self.news.load(Ordering::SeqCst);
+        value
     }
 
-    /// Puts the value back, with entries of the pass alone behind those that it has seen.
+    /// Puts the value back, with entries of the pass alone behind those that it has seen, and wakes those that rest.
     pub fn put(&self, pass: &mut Pass<V>, value: V)
         requires turn { pass.old.turn ≡ self.now.id }
         requires holds { pass.old.holds ≡ true }
@@ -180,20 +185,37 @@ impl<V: Kept> Turn<V> {
         requires log { GoesOn V.by pass.old.number pass.old.seen (V.log value) }
         ensures { pass.new ≡ record pass.old { seen = V.log value; holds = false } }
     {
-        pass.served = give(&self.table.shared, &mut pass.seat, value);
+        self.put_back(pass, value, true);
     }
 
-    /// May wait until another pass has put the value back since this one last did.
+    /// As `put`, but those that rest are woken only if there is news for them. Where each of them found nothing to do, and looked again
+    /// whenever another had found nothing, they would keep one another awake.
+    pub fn put_back(&self, pass: &mut Pass<V>, value: V, has_news: bool)
+        requires turn { pass.old.turn ≡ self.now.id }
+        requires holds { pass.old.holds ≡ true }
+        requires name { pass.old.name ≡ Some (V.name value) }
+        requires log { GoesOn V.by pass.old.number pass.old.seen (V.log value) }
+        ensures { pass.new ≡ record pass.old { seen = V.log value; holds = false } }
+    {
+        // Before the value is back: who holds it later has seen this.
+        if has_news {
+            self.news.fetch_add(1, Ordering::SeqCst);
+        }
+        give(&self.table.shared, &mut pass.seat, value);
+        if has_news {
+            self.news.wake_all();
+        }
+    }
+
+    /// May wait until another pass has put the value back with news, since this one last held it.
     pub fn rest<R: Wait>(&self, rt: &R, pass: &mut Pass<V>)
         requires turn { pass.old.turn ≡ self.now.id }
         requires free { pass.old.holds ≡ false }
         ensures { pass.new ≡ pass.old }
     {
-        let served = self.table.shared.peek(1);
-        if served == pass.served {
-            wait_for_another(rt, &self.table.shared, served);
+        if self.news.load(Ordering::SeqCst) == pass.news {
+            self.news.park(rt, (pass.news % (1 << 32)) as u32);
         }
-        pass.served = self.table.shared.peek(1);
     }
 }
 
@@ -222,10 +244,16 @@ impl<V: Kept> Turn<V> {
             Pass {
                 seat: first,
                 number: 0,
-                served: 0,
+                news: 0,
             },
         )?;
-        Ok((Turn { table }, others))
+        Ok((
+            Turn {
+                table,
+                news: AtomicU64::new(0),
+            },
+            others,
+        ))
     }
 }
 
@@ -236,11 +264,11 @@ impl<V: Kept> Turn<V> {
         ensures name { V.name result ≡ self.name }
         ensures log { IsOfAll V.by passes.items (V.log result) }
     {
-        let Turn { table } = self;
+        let Turn { table, news: _ } = self;
         let Pass {
             seat: mut first,
             number: _,
-            served: _,
+            news: _,
         } = passes.remove(0);
         join_all(&table.shared, &mut first, passes);
         let mut closed = table.close_with(first);

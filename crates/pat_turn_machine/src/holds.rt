@@ -1,0 +1,63 @@
+// One hold of the turn each.
+ghost use Rattle.std.specs.Prelude.{◌≡◌, false, Some};
+ghost use Rattle.pat_core.specs.Views.{program_view};
+ghost use Rattle.pat_reduce_threads.specs.ThreadViews.{thread_view};
+ghost use Rattle.pat_commits.specs.Commits.{IsLocalRun};
+ghost use Rattle.pat_machine.specs.declared.job.Named.{Named as NamedOf};
+ghost use Rattle.pat_machine.specs.Shown.{Shown};
+ghost use Rattle.pat_machine.specs.Gives.{GivesBack};
+ghost use Rattle.pat_turn_machine.specs.Holds.{IsHold, TakingGives, CommittingGives};
+
+use crate::machines::{Taken, commit, take};
+use pat_machine::{CommitRefused, Job, Machine, Receipt};
+use pat_machine_threads::LocalRun;
+use pat_turn::{Pass, Turn};
+use std::sync::Wait;
+
+/// Takes a job and its state. Nothing is added to the history.
+pub fn take_in_turn<R: Wait>(rt: &R, turn: &Turn<Machine>, pass: &mut Pass<Machine>) -> Taken
+    requires turn { pass.old.turn ≡ turn.now.id }
+    requires free { pass.old.holds ≡ false }
+    ensures pass { pass.new ≡ record pass.old { seen = pass.new.seen } }
+    ensures taken { (found left : Shown) × IsHold pass.old pass.new.seen found left × TakingGives found result left }
+{
+    let mut machine = turn.hold(rt, pass);
+    let taken = take(&mut machine);
+    // Only a job that went back is news to those that rest.
+    let has_news = matches!(taken, Taken::NoMemory);
+    turn.put_back(pass, machine, has_news);
+    taken
+}
+
+/// Commits a job under the number of the pass. Where memory runs out the job goes back in the same hold.
+pub fn commit_in_turn<R: Wait>(
+    rt: &R,
+    turn: &Turn<Machine>,
+    pass: &mut Pass<Machine>,
+    job: Job,
+    run: LocalRun,
+) -> Result<Receipt, CommitRefused>
+    requires turn { pass.old.turn ≡ turn.now.id }
+    requires free { pass.old.holds ≡ false }
+    requires run { (named : NamedOf) → pass.old.name ≡ Some named → IsLocalRun (program_view named.program) job.allowance (thread_view run.start) run.steps (thread_view run.end) }
+    ensures pass { pass.new ≡ record pass.old { seen = pass.new.seen } }
+    ensures committed { (found left : Shown) × IsHold pass.old pass.new.seen found left × CommittingGives found pass.old.number job result left }
+{
+    let worker = pass.number();
+    let mut machine = turn.hold(rt, pass);
+    let result = commit(&mut machine, worker, job, run);
+    turn.put(pass, machine);
+    result
+}
+
+/// Gives a job back. Nothing is added to the history.
+pub fn give_back_in_turn<R: Wait>(rt: &R, turn: &Turn<Machine>, pass: &mut Pass<Machine>, job: Job)
+    requires turn { pass.old.turn ≡ turn.now.id }
+    requires free { pass.old.holds ≡ false }
+    ensures pass { pass.new ≡ record pass.old { seen = pass.new.seen } }
+    ensures back { (found left : Shown) × IsHold pass.old pass.new.seen found left × GivesBack found job left }
+{
+    let mut machine = turn.hold(rt, pass);
+    machine.give_back(job);
+    turn.put(pass, machine);
+}
