@@ -1,0 +1,5 @@
+mod Crossing
+mod Placed
+mod Holding
+mod Rows
+mod Ending

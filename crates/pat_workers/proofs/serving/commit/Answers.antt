@@ -1,0 +1,34 @@
+use Rattle.std.proofs.Common.{◌≡◌, ℕ, List, Result, Err, ap, sym, subst}
+use Rattle.pat_machine.specs.declared.job.Receipt.{Receipt}
+use Rattle.pat_machine.specs.declared.job.CommitRefused.{CommitRefused}
+use Rattle.pat_turn_machine.specs.Holds.{CommittingGives}
+use Rattle.pat_workers.specs.Receipts.{AreReceiptsOf}
+use Rattle.pat_workers.proofs.Holding.{after_commit, after_refusal}
+use Rattle.pat_workers.proofs.serving.commit.Goals as goal
+
+pub returns-in-Ok-clause-receipts : goal.returns-in-Ok-clause-receipts
+returns-in-Ok-clause-receipts g c =
+    let pass = c.args.worker.now.pass in
+    let now = c.commit_in_turn-result.new.pass.seen in
+    let told = c.in-Ok.ensures.committed in
+    let more = after_commit pass now told.0 told.1 c.args.worker.now.receipts.items told.2 c.requires.receipts c.args.job c.in-Ok.receipt told.3 in
+    subst (λ (n : ℕ). AreReceiptsOf n now c.push_reserved.new.self.items) (sym (ap (λ p. p.number) c.commit_in_turn-result.ensures.pass))
+    (subst (λ (l : List Receipt). AreReceiptsOf pass.number now l) (sym c.push_reserved.ensures.items) more)
+
+pub returns-in-Err-NotOut-clause-receipts : goal.returns-in-Err-NotOut-clause-receipts
+returns-in-Err-NotOut-clause-receipts g c =
+    let pass = c.args.worker.now.pass in
+    let now = c.commit_in_turn-result.new.pass.seen in
+    let told = c.commit_in_turn-result.ensures.committed in
+    let given = subst (λ (r : Result Receipt CommitRefused). CommittingGives told.0 pass.number c.args.job r told.1) c.in-Err-NotOut.is told.3 in
+    subst (λ (n : ℕ). AreReceiptsOf n now c.args.worker.now.receipts.items) (sym (ap (λ p. p.number) c.commit_in_turn-result.ensures.pass))
+    (after_refusal pass now told.0 told.1 c.args.worker.now.receipts.items told.2 c.requires.receipts c.args.job c.in-Err-NotOut.field-0 given)
+
+pub returns-in-Err-NoMemory-clause-receipts : goal.returns-in-Err-NoMemory-clause-receipts
+returns-in-Err-NoMemory-clause-receipts g c =
+    let pass = c.args.worker.now.pass in
+    let now = c.commit_in_turn-result.new.pass.seen in
+    let told = c.commit_in_turn-result.ensures.committed in
+    let given = subst (λ (r : Result Receipt CommitRefused). CommittingGives told.0 pass.number c.args.job r told.1) c.in-Err-NoMemory.is told.3 in
+    subst (λ (n : ℕ). AreReceiptsOf n now c.args.worker.now.receipts.items) (sym (ap (λ p. p.number) c.commit_in_turn-result.ensures.pass))
+    (after_refusal pass now told.0 told.1 c.args.worker.now.receipts.items told.2 c.requires.receipts c.args.job c.in-Err-NoMemory.field-0 given)

@@ -1,0 +1,39 @@
+// A run by workers.
+ghost use Rattle.std.specs.Prelude.{◌<◌, ◌≤◌, IfOk};
+ghost use Rattle.pat_workers.specs.Runs.{RunGives};
+
+use crate::finishing::{Finished, finish, part};
+use crate::working::work_all;
+use pat_accepted::Accepted;
+use pat_executable::Executable;
+use pat_machine::Machine;
+use pat_ports::Gate;
+use pat_turn::Turn;
+use std::alloc::{AllocError, Global};
+use std::sync::Wait;
+use std::thread::Threads;
+
+/// Runs the program from its start by so many workers, with so many steps and at most so many pending messages. The workers read one
+/// copy of the program. Each passes the gate before and after each of its commits. It may wait.
+pub fn run<R: Threads + Wait + Sync, G: Gate>(
+    rt: &R,
+    alloc: Global,
+    accepted: Accepted,
+    workers: u32,
+    steps: u64,
+    messages: u32,
+    gate: &G,
+) -> Result<Finished, AllocError>
+    requires workers { (0 < workers) × (workers ≤ 64) }
+    requires steps { steps ≤ 1000000 }
+    requires messages { (0 < messages) × (messages ≤ 1000000) }
+    ensures { IfOk result (RunGives accepted workers steps messages) }
+{
+    let program = accepted.into_program();
+    let code = Executable::new(alloc, program.copy(alloc)?)?;
+    let machine = Machine::new(alloc, Accepted::of(program), steps, messages)?;
+    let (turn, passes) = Turn::new(alloc, machine, workers)?;
+    let ended = work_all(rt, alloc, &turn, &code, gate, passes)?;
+    let (passes, receipts) = part(alloc, ended)?;
+    finish(turn.close(passes), receipts)
+}
