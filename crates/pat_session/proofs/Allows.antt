@@ -330,7 +330,7 @@ module _ (words : List (List ℕ)) (had left old new : Option (List ℕ)) where
         bytes = c.bytes;
         verified = shown.0;
         input = c.input Verify verify;
-        whole = (c.input Verify verify).all shown.0.small;
+        whole = (c.input Verify verify).all shown.0.has.small;
         written = subst (λ l. Appends old new l) shown.1 c.written;
       }
 
