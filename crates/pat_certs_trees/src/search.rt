@@ -16,6 +16,6 @@ pub enum Search {
     Inside,
     /// A refutation, whose tree is within the limit.
     Found(Refutation),
-    /// Some word refutes, and each tree of each such word has more nodes than the limit.
+    /// There are words that refute, but every tree of theirs outgrows the limit.
     Large,
 }

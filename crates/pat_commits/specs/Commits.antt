@@ -33,8 +33,8 @@ pub record Shares (p : Program) (limit : ℕ) (c : Config) (t : ℕ) (a : Option
   pub least : ReceivesLeast p c t a
   pub none : a ≡ None → IsStill p c limit t
 
--- the entry is what a job with this allowance makes of the kept state of its thread: all local steps that there are come first,
--- and then, where a step of the allowance is left, the shared step that is open
+-- a job with this allowance, started on the thread as it was kept, writes this entry: it goes on alone for as long as it can,
+-- and takes the open shared step only if that leaves it within the allowance
 pub record IsCommit (p : Program) (allowance limit : ℕ) (c : Config) (e : Entry) (d : Config) : Type 0 where
   pub kept : Thread
   pub middle : Thread

@@ -26,8 +26,8 @@ pub const MOST_NODES: u32 = 65536;
 /// The most levels that a pattern may have.
 pub const MOST_LEVELS: u32 = 16384;
 
-/// The closed form of the pattern: linear sets that together have its words. `TooLarge` comes exactly where the pattern has
-/// more than 65,536 nodes or 16,384 levels, or a list that is made on the way has more than 4,096 sets.
+/// Linear sets whose words, taken together, are the pattern's: its closed form. `TooLarge` is answered for a pattern above
+/// 65,536 nodes or 16,384 levels, or where some list on the way grows past 4,096 sets, and for no other.
 pub fn closed_form(alloc: Global, p: &Pattern) -> Result<Sequence<LinearSet>, FormError>
     requires { IsTrue (tags_below most_tags (pattern_view p.now)) }
     ensures form { GivesForm result (closed_form_of most_tags (pattern_view p.now)) }

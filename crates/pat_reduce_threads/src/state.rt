@@ -2,7 +2,7 @@
 use pat_reduce_values::Value;
 use pat_sequences::{Sequence, Stack};
 
-/// What a thread does next: a node with values for just its free variables, in ascending order of variable, or a value.
+/// Where a thread stands: before a node, with the values of the variables free in it (by ascending number), or holding a value.
 #[derive(Drop)]
 pub enum Control {
     Node {

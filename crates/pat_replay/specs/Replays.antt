@@ -20,7 +20,7 @@ ReplayGives p es (Ok c) = replay p es ≡ Some (config_view c)
 ReplayGives p es (Err (replay_error.RefusedAt i)) = IsRefusedAt p (start p) es i
 ReplayGives p es (Err replay_error.NoMemory) = Unit {0}
 
--- the entry leads from c to d; or it has no step, or one that isn't enabled
+-- what the entry makes of c is d; or it makes nothing, for one of its steps can't be taken, or it has none
 abbrev pub EntryGives : Program → Config → Entry → Config → Result (Unit {0}) StepError → Type 0
 EntryGives p c e d (Ok _) = entry_from p c (entry_steps e) ≡ Some d
 EntryGives p c e d (Err step_error.Disabled) = entry_from p c (entry_steps e) ≡ None

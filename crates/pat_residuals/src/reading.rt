@@ -48,8 +48,8 @@ fn has_word(p: &Pattern) -> bool
     }
 }
 
-/// Whether each word of the pattern is empty and `free` holds, or has a received tag. The tag `t` is
-/// received where bit `t` of `received` is set.
+/// Whether the clauses of a guard take whatever the pattern lets in: bit `t` of `received` says that a
+/// clause receives tag `t`, and `free` that there is a free clause for the empty word.
 pub fn covers(p: &Pattern, received: u32, free: bool) -> bool
     ensures value { result ≡ covers_of (pattern_view p.now) (is_received received) free }
     ensures words { IsTrue result ↔ Covers (pattern_view p.now) (is_received received) free }

@@ -10,8 +10,8 @@ use pat_patterns::{Pattern, sum, take_one, take_two};
 use pat_sequences::Stack;
 use std::alloc::{AllocError, Global};
 
-/// What is left of the pattern once one message with the tag is taken: its words are those to which
-/// such a message can be added to give a word of the pattern.
+/// What may still come after one message with the tag was taken from what the pattern lets in: putting
+/// that message back gives one of the pattern's words, and so it is for no other word.
 pub fn residual(alloc: Global, p: &Pattern, tag: u8) -> Result<Pattern, AllocError>
     ensures value { IfOk result (λ rest. pattern_view rest ≡ residual_of (pattern_view p.now) tag) }
     ensures words { IfOk result (λ rest. (w : Word) → In (pattern_view rest) w ↔ In (pattern_view p.now) (plus w (one tag))) }

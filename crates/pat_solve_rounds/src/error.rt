@@ -7,7 +7,7 @@ use std::alloc::{AllocError, AllocFailed};
 /// Why a round gives no values.
 #[derive(Debug, Drop)]
 pub enum RoundError {
-    /// A pattern that is made on the way has more than 65,536 nodes or 16,384 levels.
+    /// Replacing would build a pattern past 65,536 nodes or 16,384 levels.
     TooLarge,
     /// There was no memory.
     NoMemory,

@@ -93,14 +93,14 @@ module _ (p : Program) where
     pub grids : HasGrids c.interface
     pub closed : IsTrue (is_closed c.right)
 
-  -- a derivable word of its left that isn't one of its right has a tree that isn't too large
+  -- the left derives a word that the right lacks, and some tree that shows it keeps to the limit
   pub record IsRefuted (n : ℕ) (w : Word) (b : Bound) : Type 0 where
     pub constraint : Constraint
     pub at : IsConstraint n constraint
     pub searched : IsSearched constraint
     pub found : IsFound most_nodes (lowers_of p) constraint.left constraint.right w b
 
-  -- there is such a word, but each of its trees is too large
+  -- the right does lack such a word, but no tree that shows it keeps to the limit
   pub record IsOversized (c : Constraint) : Type 0 where
     pub searched : IsSearched c
     pub large : IsLarge most_nodes (lowers_of p) c.left c.right

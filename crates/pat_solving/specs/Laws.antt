@@ -98,8 +98,8 @@ abbrev pub LargeIsUntypable : Type 0
 LargeIsUntypable =
     (p : Program) (i : ℕ) → WellFormed p → IsRight p (TooLarge i) → IsInBounds p i → IsTypable p → ⊥
 
--- Undecided is answered of a constraint whose interface isn't in bounds, though its closed-form assignment isn't too large, and which
--- isn't directly covered under it
+-- what the answer Undecided tells: the closed forms could be made, but don't cover this constraint, and its interface is past the
+-- bounds within which a search would settle it
 abbrev pub UndecidedSays : Type 0
 UndecidedSays =
     (p : Program) (n : ℕ)

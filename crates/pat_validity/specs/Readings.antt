@@ -50,12 +50,12 @@ abbrev pub PayloadsStandApart : Program → Derivation → Place → Core → Ty
 PayloadsStandApart p d h (Guard x e free rs) = AllByRecursion (KeepsApart p d h x) rs
 PayloadsStandApart p d h _ = Unit {0}
 
--- Covers isn't broken: each word of a guard's pattern is empty, and there is a free clause, or it has a tag of a receive clause
+-- whatever a guard's pattern lets in, one of its clauses takes: a message that a receive clause names, or the free clause where nothing is left
 abbrev pub GuardCovers : Core → Type 0
 GuardCovers (Guard x e free rs) = Covers e (is_received rs) (is_some free)
 GuardCovers _ = Unit {0}
 
--- the certificates are taken in turn: none by a trivial inclusion, the next by each other one, and none is left over
+-- one pass over the needed inclusions uses up the certificates: a trivial inclusion passes by, any other is shown by the one in front
 pub data AreTaken (s : Scope) : List Inclusion → List Cert → Type 0 where
   all_taken : AreTaken s [] []
   takes_none : {q : Inclusion} {qs : List Inclusion} {certs : List Cert} → IsTrue (is_trivial s q.left q.right) → IsTrue (is_shown s q None) → AreTaken s qs certs → AreTaken s (q ∷ qs) certs

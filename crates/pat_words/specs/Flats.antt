@@ -2,7 +2,7 @@
 use Rattle.std.specs.Prelude.{ℕ, ◌+◌, Bool, true, false, ◌&&◌, max}
 use Rattle.pat_words.specs.Patterns.{Pat, Zero, One, Tag, Sum, Prod, Star, Var}
 
--- the pattern is built of 0, 1, single tags and sums alone
+-- no product, no star and no variable: just a choice among single messages, nothing and never
 abbrev pub is_choice : Pat → Bool
 is_choice Zero = true
 is_choice One = true
