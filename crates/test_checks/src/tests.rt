@@ -36,8 +36,7 @@ fn unaccepted(reason: Reason) -> Status {
     Status::Refused(Verdict::Unaccepted(reason))
 }
 
-#[test]
-fn check_rows(rt: HostRuntime) -> Result<(), Fail> {
+fn check_rows(rt: &impl Abort, alloc: Global) -> Result<(), Fail> {
     let rows: [(&[u8], Status, &[u8]); 7] = [
         (
             b"interface Cell { Put(Int) }\ndef cell(c: Cell?): Unit { guard c : Put { receive Put(x) from c -> free(c); print(x) } }\ndef main(): Unit { let c = new[Cell] in spawn { cell(c) }; c ! Put(1); c ! Put(2) }\n",
@@ -75,11 +74,10 @@ fn check_rows(rt: HostRuntime) -> Result<(), Fail> {
             b"refuted at 117-118: word 1 not in Reply\n",
         ),
     ];
-    try_rows(&rt, rt.alloc(), false, &rows)
+    try_rows(rt, alloc, false, &rows)
 }
 
-#[test]
-fn derive_rows(rt: HostRuntime) -> Result<(), Fail> {
+fn derive_rows(rt: &impl Abort, alloc: Global) -> Result<(), Fail> {
     let rows: [(&[u8], Status, &[u8]); 4] = [
         (
             b"interface I { m(), n() }\ndef f(a: I?*(m.n)): Unit { g(a) }\ndef g(a: I?*m.*n): Unit { g(a) }\ndef main(): Unit { () }\n",
@@ -102,5 +100,11 @@ fn derive_rows(rt: HostRuntime) -> Result<(), Fail> {
             b"refuted at 37-38: word Put Put not in Put\n",
         ),
     ];
-    try_rows(&rt, rt.alloc(), true, &rows)
+    try_rows(rt, alloc, true, &rows)
+}
+
+#[test]
+fn rows(rt: HostRuntime) -> Result<(), Fail> {
+    check_rows(&rt, rt.alloc())?;
+    derive_rows(&rt, rt.alloc())
 }

@@ -4,12 +4,10 @@ use pat_machine::{Machine, StateRefused, TakeRefused};
 use std::alloc::Global;
 use std::process::Abort;
 
-#[test]
-fn jobs_are_taken_and_given_back(rt: HostRuntime) {
-    let alloc = rt.alloc();
-    let program = turned(alloc).expect(&rt, "memory");
-    let mut machine = Machine::new(alloc, program, 300, 1).expect(&rt, "memory");
-    let job = machine.take().expect(&rt, "a job");
+pub fn jobs_are_taken_and_given_back(rt: &impl Abort, alloc: Global) {
+    let program = turned(alloc).expect(rt, "memory");
+    let mut machine = Machine::new(alloc, program, 300, 1).expect(rt, "memory");
+    let job = machine.take().expect(rt, "a job");
     assert_eq!(rt; job.allowance, 256);
     assert_eq!(rt; machine.take(), None);
     assert_eq!(rt; machine.outcome(), None);
@@ -21,16 +19,14 @@ fn jobs_are_taken_and_given_back(rt: HostRuntime) {
     assert_eq!(rt; machine.take(), Some(job));
     machine.give_back_all();
     machine.give_back(job);
-    let taken = machine.take_thread(0).expect(&rt, "a job");
+    let taken = machine.take_thread(0).expect(rt, "a job");
     assert_eq!(rt; taken.allowance, 256);
     assert_eq!(rt; machine.take_thread(1), Err(TakeRefused::NotReady));
 }
 
-#[test]
-fn no_job_is_taken_without_a_step(rt: HostRuntime) {
-    let alloc = rt.alloc();
-    let program = one_message(alloc).expect(&rt, "memory");
-    let mut machine = Machine::new(alloc, program, 0, 1).expect(&rt, "memory");
+pub fn no_job_is_taken_without_a_step(rt: &impl Abort, alloc: Global) {
+    let program = one_message(alloc).expect(rt, "memory");
+    let mut machine = Machine::new(alloc, program, 0, 1).expect(rt, "memory");
     assert_eq!(rt; machine.take(), None);
     assert_eq!(rt; machine.take_thread(0), Err(TakeRefused::Spent));
 }

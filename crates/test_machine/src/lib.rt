@@ -7,3 +7,5 @@ mod calls;
 mod programs;
 #[cfg(test)]
 mod runs;
+#[cfg(test)]
+mod tests;

@@ -83,9 +83,7 @@ fn accepted(alloc: Global, example: Example) -> Result<Accepted, AllocError> {
     }
 }
 
-#[test]
-fn drives_to_an_outcome(rt: HostRuntime) {
-    let alloc = rt.alloc();
+pub fn drives_to_an_outcome(rt: &impl Abort, alloc: Global) {
     let rows = [
         expects(Example::OneMessage, 9, 1, ONE_MESSAGE, Outcome::Done),
         expects(
@@ -111,7 +109,7 @@ fn drives_to_an_outcome(rt: HostRuntime) {
     ];
     for i in 0..rows.len() {
         assert!(rt;
-            is_driven_so(&rt, alloc, &rows[i]).expect(&rt, "memory"),
+            is_driven_so(rt, alloc, &rows[i]).expect(rt, "memory"),
             "row {i}"
         );
     }

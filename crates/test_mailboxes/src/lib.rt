@@ -5,3 +5,5 @@
 mod mailboxes;
 #[cfg(test)]
 mod pools;
+#[cfg(test)]
+mod tests;

@@ -1,12 +1,12 @@
 // A queue of a pool.
 use pat_pool::Pool;
+use std::alloc::Global;
 use std::process::Abort;
 
-#[test]
-fn values_come_out_in_order(rt: HostRuntime) {
-    let mut pool: Pool<u32> = Pool::new(rt.alloc());
-    pool.reserve(2).expect(&rt, "memory");
-    let queue = pool.open().expect(&rt, "memory");
+pub fn values_come_out_in_order(rt: &impl Abort, alloc: Global) {
+    let mut pool: Pool<u32> = Pool::new(alloc);
+    pool.reserve(2).expect(rt, "memory");
+    let queue = pool.open().expect(rt, "memory");
     pool.push_back(queue, 7);
     pool.push_back(queue, 8);
     assert_eq!(rt; pool.take_at(queue, 0), 7);
@@ -15,16 +15,15 @@ fn values_come_out_in_order(rt: HostRuntime) {
     assert_eq!(rt; pool.spare(), 1);
 }
 
-#[test]
-fn a_fixed_pool_has_just_its_nodes(rt: HostRuntime) {
-    let mut pool: Pool<u32> = Pool::fixed(rt.alloc(), 2).expect(&rt, "memory");
+pub fn a_fixed_pool_has_just_its_nodes(rt: &impl Abort, alloc: Global) {
+    let mut pool: Pool<u32> = Pool::fixed(alloc, 2).expect(rt, "memory");
     assert_eq!(rt; pool.spare(), 2);
-    let queue = pool.open().expect(&rt, "memory");
+    let queue = pool.open().expect(rt, "memory");
     pool.push_back(queue, 7);
     pool.push_back(queue, 8);
     assert_eq!(rt; pool.spare(), 0);
     assert_eq!(rt; pool.take_at(queue, 1), 8);
     assert_eq!(rt; pool.take_at(queue, 0), 7);
     pool.release(queue);
-    assert_eq!(rt; pool.open().expect(&rt, "memory"), queue);
+    assert_eq!(rt; pool.open().expect(rt, "memory"), queue);
 }

@@ -3,12 +3,12 @@ use pat_ports::{
     Failed, Gate, MemSink, MemSource, OpenGate, Sink, Source, StdSink, StdSource, SureSink,
     SureSource,
 };
+use std::alloc::Global;
 use std::io;
+use std::process::Abort;
 use std::test::Fail;
 
-#[test]
-fn ports_in_memory_fail_where_told(rt: HostRuntime) -> Result<(), Fail> {
-    let alloc = rt.alloc();
+fn ports_in_memory_fail_where_told(rt: &impl Abort, alloc: Global) -> Result<(), Fail> {
     let mut source = MemSource::new(b"abc".to_vec(alloc)?, 2, vec![in alloc; 2]?);
     let mut buf = [0u8; 4];
     for want in [Ok(2), Err(Failed), Ok(1), Ok(0)] {
@@ -35,7 +35,7 @@ fn ports_in_memory_fail_where_told(rt: HostRuntime) -> Result<(), Fail> {
 }
 
 #[test]
-fn standard_ports(rt: HostRuntime) -> Result<(), Fail> {
+fn ports(rt: HostRuntime) -> Result<(), Fail> {
     let mut buf = [0u8; 4];
     let mut input = StdSource::new(rt.reader());
     assert_eq!(rt; input.read(&mut buf[..0]), Ok(0));
@@ -50,12 +50,13 @@ fn standard_ports(rt: HostRuntime) -> Result<(), Fail> {
     assert_eq!(rt; sink.write(b"abc"), Ok(2));
     assert_eq!(rt; sink.write(b"c"), Err(Failed));
     assert_eq!(rt; sink.write(b""), Ok(0));
-    Ok(())
+    ports_in_memory_fail_where_told(&rt, rt.alloc())?;
+    a_broken_reader_fails(&rt, rt.alloc())?;
+    a_short_writer_is_flushed(&rt, rt.alloc())
 }
 
 // An error is no end, and what follows it is still read.
-#[test]
-fn a_broken_reader_fails(rt: HostRuntime) -> Result<(), Fail> {
+fn a_broken_reader_fails(rt: &impl Abort, alloc: Global) -> Result<(), Fail> {
     let mut source = StdSource::new(BrokenReader {
         call: 0,
         fails_at: 2,
@@ -68,9 +69,8 @@ fn a_broken_reader_fails(rt: HostRuntime) -> Result<(), Fail> {
 }
 
 // Each write is flushed, a part of a piece is answered as a part, and a flush that fails is a fault.
-#[test]
-fn a_short_writer_is_flushed(rt: HostRuntime) -> Result<(), Fail> {
-    let mut taken = Vec::new(rt.alloc());
+fn a_short_writer_is_flushed(rt: &impl Abort, alloc: Global) -> Result<(), Fail> {
+    let mut taken = Vec::new(alloc);
     let mut flushes = 0;
     let mut sink = StdSink::new(ShortWriter {
         taken: &mut taken,

@@ -24,9 +24,7 @@ fn bad(offset: u32) -> Status {
     Status::Refused(Verdict::BadText(offset))
 }
 
-#[test]
-fn inputs_of_two_parts(rt: HostRuntime) -> Result<(), Fail> {
-    let alloc = rt.alloc();
+fn inputs_of_two_parts(rt: &impl Abort, alloc: Global) -> Result<(), Fail> {
     let wrong_kind = Status::Refused(Verdict::Resolve(
         ResolveKind::WrongKind,
         Span { from: 32, to: 33 },
@@ -72,27 +70,28 @@ fn inputs_of_two_parts(rt: HostRuntime) -> Result<(), Fail> {
         ),
     ];
     for (input, status, text) in rows {
-        check(&rt, alloc, input, status, text)?;
+        check(rt, alloc, input, status, text)?;
     }
     Ok(())
 }
 
-#[test]
-fn a_program_before_the_mark_has_1048576_bytes_at_most(rt: HostRuntime) -> Result<(), Fail> {
-    let alloc = rt.alloc();
+fn a_program_before_the_mark_has_1048576_bytes_at_most(
+    rt: &impl Abort,
+    alloc: Global,
+) -> Result<(), Fail> {
     let mut input = Vec::new(alloc);
     for _ in 0..1048553 {
         input.push(b' ')?;
     }
     input.extend_from_slice(b"def main(): Unit { () }\n%%derivation\nnode 0 Unit {}\n")?;
     check(
-        &rt,
+        rt,
         alloc,
         input.as_slice(),
         Status::Refused(Verdict::TooLong),
         b"too long\n",
     )?;
-    check(&rt, alloc, &input[1..], Status::Ok, b"accepted\n")
+    check(rt, alloc, &input[1..], Status::Ok, b"accepted\n")
 }
 
 fn check(
@@ -106,4 +105,10 @@ fn check(
     assert_eq!(rt; answer.status, status, "of {:?}", input);
     assert_eq!(rt; answer.text.as_slice(), text, "of {:?}", input);
     Ok(())
+}
+
+#[test]
+fn verify_rows(rt: HostRuntime) -> Result<(), Fail> {
+    inputs_of_two_parts(&rt, rt.alloc())?;
+    a_program_before_the_mark_has_1048576_bytes_at_most(&rt, rt.alloc())
 }
