@@ -9,7 +9,7 @@ pub mod Takings
 pub mod Endings
 pub mod Idle
 pub mod Rooms
+pub mod LookUps
 -- the crate's own
-mod LookUps
 mod Moves
 mod Refused

@@ -1,0 +1,8 @@
+-- the crate's own
+mod Needs
+mod Decides
+mod Changes
+mod Afters
+mod Wakes
+mod Names
+mod Supersets

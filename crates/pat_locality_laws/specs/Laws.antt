@@ -1,0 +1,60 @@
+-- Laws of what a thread's next step looks at, of the threads that a step of another wakes, and of turns among some of the threads.
+use Rattle.std.specs.Prelude.{◌≡◌, ℕ, Bool, ◌&&◌, List, Option, Some, option_map, find, IsTrue, ◌⊎◌}
+use Rattle.std.specs.List.{list_any}
+use Rattle.pat_model.specs.Programs.{Program, is_among}
+use Rattle.pat_model.specs.Configs.{Thread, Config, thread_at, with_thread, thread_refers}
+use Rattle.pat_model.specs.Orders.{AscendsFrom, IsOrdered}
+use Rattle.pat_model.specs.Steps.{Act}
+use Rattle.pat_model.specs.Runs.{run_from, shared_step, can_step_thread}
+use Rattle.pat_commits.specs.Opens.{has_space, can_go_on}
+use Rattle.pat_commits.specs.Commits.{locally}
+use Rattle.pat_commits.specs.Lendings.{Out}
+use Rattle.pat_commits.specs.Turns.{is_above, is_ready, ready_above}
+use Rattle.pat_locality_laws.specs.Wakings.{guarded, OffersNoMore, IsWoken, GotSpace}
+
+-- a thread that stands alike in two configurations can step in the first wherever it can in the second, where the second offers its guard no more
+abbrev pub GuardDecides : Type 0
+GuardDecides =
+    (p : Program) (c d : Config) (u : ℕ) (s : Thread) → thread_at c u ≡ Some s → thread_at d u ≡ Some s → ((a : ℕ) → guarded p s ≡ Some a → OffersNoMore c d u a)
+    → IsTrue (can_step_thread p d u) → IsTrue (can_step_thread p c u)
+
+-- and it has an open step, where the second has no space that the first lacks
+abbrev pub SpaceDecides : Type 0
+SpaceDecides =
+    (p : Program) (c d : Config) (limit u : ℕ) (s : Thread) → thread_at c u ≡ Some s → thread_at d u ≡ Some s → ((a : ℕ) → guarded p s ≡ Some a → OffersNoMore c d u a)
+    → (IsTrue (has_space d limit) → IsTrue (has_space c limit)) → IsTrue (can_go_on p d limit u) → IsTrue (can_go_on p c limit u)
+
+-- where thread t came to be s by itself and then took a shared act, another thread that can step could step before, or is woken
+abbrev pub OthersWake : Type 0
+OthersWake =
+    (p : Program) (c d : Config) (t u : ℕ) (r s : Thread) (act : Option Act) → IsOrdered c → thread_at c t ≡ Some r → run_from p (with_thread c t s) (shared_step t act) ≡ Some d → (t ≡ u → ⊥)
+    → IsTrue (can_step_thread p d u) → IsTrue (can_step_thread p c u) ⊎ IsWoken p c t r s act d u
+
+-- and one that has an open step had one before, or is woken, or got space for its send
+abbrev pub OthersOpen : Type 0
+OthersOpen =
+    (p : Program) (c d : Config) (limit t u : ℕ) (r s : Thread) (act : Option Act) → IsOrdered c → thread_at c t ≡ Some r → run_from p (with_thread c t s) (shared_step t act) ≡ Some d → (t ≡ u → ⊥)
+    → IsTrue (can_go_on p d limit u) → IsTrue (can_go_on p c limit u) ⊎ IsWoken p c t r s act d u ⊎ GotSpace p limit c act d u
+
+-- a thread that goes on alone refers to no mailbox that it didn't refer to
+abbrev pub LocalsNameNoMore : Type 0
+LocalsNameNoMore =
+    (p : Program) (k : ℕ) (s r : Thread) (a : ℕ) → locally p k s ≡ Some r → IsTrue (thread_refers a r) → IsTrue (thread_refers a s)
+
+-- the first ready thread above another one is found among those that may be ready
+abbrev pub FoundAmongThose : Type 0
+FoundAmongThose =
+    (p : Program) (c : Config) (limit : ℕ) (out : Out) (last : Option ℕ) (may : ℕ → Bool) → ((t : ℕ) → IsTrue (is_ready p c limit out t) → IsTrue (may t))
+    → ready_above p c limit out last ≡ option_map (λ e. e.0) (find (λ e. may e.0 && (is_above last e.0 && is_ready p c limit out e.0)) c.threads)
+
+-- or in an ascending list of them
+abbrev pub FoundInList : Type 0
+FoundInList =
+    (p : Program) (c : Config) (limit : ℕ) (out : Out) (last : Option ℕ) (ts : List ℕ) → IsOrdered c → AscendsFrom 0 ts → ((t : ℕ) → IsTrue (is_ready p c limit out t) → IsTrue (is_among t ts))
+    → ready_above p c limit out last ≡ find (λ t. is_above last t && is_ready p c limit out t) ts
+
+-- and a thread has an open step where one of those that may have one has
+abbrev pub OpenInList : Type 0
+OpenInList =
+    (p : Program) (c : Config) (limit : ℕ) (ts : List ℕ) → ((t : ℕ) → IsTrue (can_go_on p c limit t) → IsTrue (is_among t ts))
+    → list_any (λ e. can_go_on p c limit e.0) c.threads ≡ list_any (can_go_on p c limit) ts

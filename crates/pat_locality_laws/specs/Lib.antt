@@ -1,0 +1,2 @@
+pub mod Wakings
+pub mod Laws
