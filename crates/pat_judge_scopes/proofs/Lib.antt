@@ -1,3 +1,4 @@
 mod Lookups
+mod Places
 mod Tables
 mod Walks

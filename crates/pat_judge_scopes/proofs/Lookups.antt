@@ -1,12 +1,11 @@
 -- Look-ups in lists as the definitions see them.
-use Rattle.std.proofs.Common.{◌≡◌, ℕ, Bool, false, ◌||◌, nat_eq, List, [], ◌∷◌, ◌++◌, map, option_map, Option, Some, None, refl, ap, ◌∙◌}
+use Rattle.std.proofs.Common.{◌≡◌, ℕ, ◌||◌, nat_eq, List, [], ◌∷◌, ◌++◌, option_map, Option, Some, None, refl, ap, ◌∙◌}
 use Rattle.std.specs.Prelude.{slice_get, option_and_then}
 use Rattle.std.proofs.lemmas.Option.{slice_get-map}
 use Rattle.std.proofs.lemmas.List.Folds.{list_any-append}
 use Rattle.std.proofs.Math.Bool.{or-false}
 use Rattle.pat_model.specs.Programs.{core_at, is_among}
 use Rattle.pat_core.specs.declared.program.Node.{Node}
-use Rattle.pat_core.specs.declared.program.Function.{Function}
 use Rattle.pat_core.specs.declared.program.Program.{Program}
 use Rattle.pat_core.specs.Views.{core_view, node_view, function_view, program_view}
 use Rattle.pat_validity.specs.Scopes.{function_of}

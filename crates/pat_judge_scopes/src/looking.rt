@@ -1,11 +1,11 @@
 // Names looked for upwards.
-ghost use Rattle.std.specs.Prelude.{◌≡◌, ◌<◌, ℕ, suc, Some, None, length, map, slice_get};
+ghost use Rattle.std.specs.Prelude.{◌≡◌, ◌<◌, ℕ, suc, Some, None, length, map, slice_get, is_some, IfSome};
 ghost use Rattle.std.specs.List.{list_all};
 ghost use Rattle.pat_model.specs.Programs.{core_at, is_among, clause_binders};
 ghost use Rattle.pat_core.specs.Views.{core_view, clause_view, program_view};
 ghost use Rattle.pat_types.specs.Views.{needs_view};
 ghost use Rattle.pat_validity.specs.Scopes.{function_of, bound_in, bound_by_clauses, is_param, is_in_scope, is_in_scope_within};
-ghost use Rattle.pat_judge_scopes.specs.Upwards.{AreAbove, after, StaysInside};
+ghost use Rattle.pat_judge_scopes.specs.Upwards.{AreAbove, after, StaysInside, LeadsUp, LiesAbove, IsFound};
 
 use pat_core::{Clause, Core, Program};
 use pat_environments::holds;
@@ -20,7 +20,15 @@ enum Found {
     Above(usize),
 }
 
-/// Whether each name of the environment is in scope at the node.
+/// A node, and how many nodes up a name may be looked for from it.
+#[derive(Clone, Copy, Debug, PartialEq, Eq)]
+struct Place {
+    node: usize,
+    left: usize,
+}
+
+/// Whether each name of the environment is in scope at the node. Inner names have higher numbers, so from the last one on each is
+/// found where the one before it was, or further up; one that isn't is looked for from the node again.
 pub fn names_in_scope(
     above: &[Option<usize>],
     program: &Program,
@@ -31,12 +39,65 @@ pub fn names_in_scope(
     requires node { node < length program.now.nodes }
     ensures { result ≡ list_all (λ e. is_in_scope (program_view program.now) node e.0) (needs_view env.now) }
 {
-    for (name, _) in env {
-        if !in_scope(above, program, node, *name) {
-            return false;
+    let mut place = Place {
+        node,
+        left: program.nodes.len(),
+    };
+    let mut first = env.len();
+    while first > 0 {
+        first -= 1;
+        match found_from(above, program, node, place, env[first].0) {
+            None => return false,
+            Some(next) => place = next,
         }
     }
     true
+}
+
+/// Where to look for the next name, if this one is in scope at the node.
+fn found_from(
+    above: &[Option<usize>],
+    program: &Program,
+    node: usize,
+    place: Place,
+    name: u32,
+) -> Option<Place>
+    requires above { AreAbove (program_view program.now) above.now }
+    requires node { node < length program.now.nodes }
+    requires place { LiesAbove (program_view program.now) node place }
+    ensures same { is_some result ≡ is_in_scope (program_view program.now) node name }
+    ensures place { IfSome result (LiesAbove (program_view program.now) node) }
+{
+    match found_above(above, program, place, name) {
+        Some(next) => Some(next),
+        None => if in_scope(above, program, node, name) {
+            Some(place)
+        } else {
+            None
+        },
+    }
+}
+
+/// The first place from this one upwards where the name is found.
+fn found_above(above: &[Option<usize>], program: &Program, from: Place, name: u32) -> Option<Place>
+    requires above { AreAbove (program_view program.now) above.now }
+    requires from { from.node < length program.now.nodes }
+    ensures { IfSome result (IsFound (program_view program.now) from name) }
+{
+    let mut place = from;
+    while place.left > 0 {
+        match look(above, program, place.node, name) {
+            Found::Here => return Some(place),
+            Found::Nowhere => return None,
+            Found::Above(next) => {
+                place = Place {
+                    node: next,
+                    left: place.left - 1,
+                }
+            }
+        }
+    }
+    None
 }
 
 /// Whether the variable is in scope at the node.
@@ -64,6 +125,7 @@ fn look(above: &[Option<usize>], program: &Program, at: usize, variable: u32) ->
     requires at { at < length program.now.nodes }
     ensures found { (up : ℕ) → is_in_scope_within (suc up) (program_view program.now) at variable ≡ after (program_view program.now) variable up result }
     ensures inside { StaysInside (program_view program.now) result }
+    ensures leads { LeadsUp (program_view program.now) at result }
 {
     if is_parameter(program, at, variable) {
         return Found::Here;
