@@ -13,3 +13,4 @@ pub mod LookUps
 -- the crate's own
 mod Moves
 mod Refused
+mod Tops

@@ -2,13 +2,14 @@
 use Rattle.std.specs.Prelude.{◌≡◌, ℕ, ◌+◌, ◌-◌, ◌<◌, ◌≤◌, List, [], length, Option, Some, None, slice_set, IsTrue, ◌↔◌}
 use Rattle.pat_model.specs.Programs.{Program}
 use Rattle.pat_model.specs.WellFormed.{WellFormed}
-use Rattle.pat_model.specs.Configs.{Config, start}
+use Rattle.pat_model.specs.Configs.{Thread, Config, start}
 use Rattle.pat_model.specs.Orders.{IsOrdered}
 use Rattle.pat_model.specs.Steps.{Act}
 use Rattle.pat_model.specs.Runs.{Entry, IsSharedOrNone, run_from, entry_steps, replay_from}
 use Rattle.pat_typing.specs.Typings.{IsTypable}
 use Rattle.pat_commits.specs.Opens.{IsOpen, IsStill, can_go_on}
-use Rattle.pat_commits.specs.Commits.{IsCommit, noted}
+use Rattle.pat_commits.specs.Commits.{IsLocalRun, IsCommit, noted}
+use Rattle.pat_commits.specs.Tops.{top_of, below, over}
 use Rattle.pat_commits.specs.Lendings.{Out, all_in, allowance_of, allowances, committed_out}
 use Rattle.pat_commits.specs.Turns.{IsReady, IsTurn, turn}
 use Rattle.pat_commits.specs.Refusals.{IsRefusedAt}
@@ -38,6 +39,10 @@ CommitRuns =
 abbrev pub IdleCommitIsStill : Type 0
 IdleCommitIsStill =
     (p : Program) (allowance limit : ℕ) (c d : Config) (e : Entry) → IsCommit p allowance limit c e d → 0 < allowance → (length (entry_steps e) ≡ 0) ↔ IsStill p c limit e.thread
+
+-- a job may run on the top of its thread, with a frame for each step of its allowance: what lies below stays below
+abbrev pub TopRuns : Type 0
+TopRuns = (p : Program) (allowance : ℕ) (s : Thread) (k : ℕ) (r : Thread) → IsLocalRun p allowance (top_of allowance s) k r → IsLocalRun p allowance s k (over r (below allowance s))
 
 -- what a machine keeps is true at the start of a typable program
 abbrev pub StartKeeps : Type 0
