@@ -76,6 +76,11 @@ impl Machine {
         self.parts.take()
     }
 
+    /// Whether a job could be taken. It takes no memory. Only who is woken hangs on it, so no clause speaks of it.
+    pub fn could_take(&self) -> bool {
+        self.parts.could_take()
+    }
+
     /// The job of a thread. It takes no memory.
     pub fn take_thread(&mut self, thread: u32) -> Result<Job, TakeRefused>
         ensures { TakeThreadGives self.old thread result self.new }

@@ -32,6 +32,15 @@ impl Parts {
         }
     }
 
+    /// Whether a job could be taken.
+    pub fn could_take(&self) -> bool {
+        self.left > 0
+            && self
+                .state
+                .next_ready(&self.code, self.limit, self.out.as_slice(), self.last)
+                .is_some()
+    }
+
     /// The job of a thread.
     pub fn take_thread(&mut self, thread: u32) -> Result<Job, TakeRefused>
         requires { IsKept self.old }

@@ -1,11 +1,12 @@
 //! A lock that hands one value from pass to pass, in the order of their tickets.
 #![tactic(auto)]
 
+mod bells;
 mod law;
 mod plays;
 mod turn;
 mod view;
 
 pub use law::{About, Law};
-pub use turn::{Pass, Turn};
+pub use turn::{News, Pass, Turn};
 pub use view::{Part, Stage, View};

@@ -7,6 +7,7 @@ ghost use Rattle.pat_turn.specs.Shown.{AreNew, AreAll, GoesOn, IsOfAll, newcomer
 ghost use Rattle.pat_turn.specs.declared.view.Stage.TheVariants.{Idle};
 ghost use Rattle.pat_turn.specs.Passes.{IsIdle, IsHolding, IsTable, known, with_seen};
 
+use crate::bells::{Bells, is_near};
 use crate::law::{About, Law};
 use crate::plays::{Another, Draw, Fold, Look, PassOn};
 use crate::view::View;
@@ -27,8 +28,22 @@ type Top<V> = Shared<Option<V>, View<<V as Kept>::Name, <V as Kept>::Entry>, Abo
 #[derive(Drop)]
 pub struct Turn<V: Kept> {
     table: Table<Option<V>, View<V::Name, V::Entry>, About<V>, Law<V>, Global>,
+    bells: Bells,
     /// How often the value was put back with news. It is changed while the value is held, and no contract speaks of it.
     news: AtomicU64,
+    /// How many passes rest.
+    resting: AtomicU64,
+}
+
+/// What the passes that rest are told when the value is put back.
+#[derive(Clone, Copy, Debug, PartialEq, Eq)]
+pub enum News {
+    Nothing,
+    /// There may be something to do, and this pass looks for it next. Who is about to rest looks again; who sleeps isn't woken.
+    Soon,
+    /// There is something to do for one of them.
+    ForOne,
+    ForAll,
 }
 
 impl<V: Kept> Model for Turn<V> {
@@ -65,7 +80,7 @@ impl<V: Kept> Model for Pass<V> {
 }
 
 // Draws a ticket, and waits until it is served.
-fn take<V: Kept, R: Wait>(rt: &R, top: &Top<V>, seat: &mut Place<V>) -> V
+fn take<V: Kept, R: Wait>(rt: &R, top: &Top<V>, bells: &Bells, seat: &mut Place<V>) -> V
     requires table { IsTable top.now.table_id × (seat.old.table_id ≡ top.now.table_id) }
     requires idle { IsIdle seat.old }
     ensures seat { (seat.new.table_id ≡ seat.old.table_id) × IsHolding seat.new × (known seat.new ≡ with_seen (known seat.old) (V.log result)) }
@@ -77,7 +92,7 @@ fn take<V: Kept, R: Wait>(rt: &R, top: &Top<V>, seat: &mut Place<V>) -> V
         if served == ticket {
             return top.exchange(seat, 0, None).unwrap();
         }
-        wait_for_another(rt, top, served);
+        wait(rt, top, bells, ticket, served);
     }
     unreachable!()
 }
@@ -85,30 +100,43 @@ fn take<V: Kept, R: Wait>(rt: &R, top: &Top<V>, seat: &mut Place<V>) -> V
 // How often the word is looked at before the thread sleeps.
 const LOOKS: u32 = 200;
 
-// Waits while so many tickets are served and no more: looks a few times, since most holds are short, and then sleeps. It may end for no
-// reason.
-fn wait_for_another<V: Kept, R: Wait>(rt: &R, top: &Top<V>, served: u64)
+// Waits while so many tickets are served and no more. Whose turn is near looks a few times, since most holds are short, and then sleeps.
+// It may end for no reason.
+fn wait<V: Kept, R: Wait>(rt: &R, top: &Top<V>, bells: &Bells, ticket: u64, served: u64)
+    requires { IsTable top.now.table_id }
+{
+    if is_near(ticket, served) && changes(top, served) {
+        return;
+    }
+    bells.raise(ticket);
+    if top.peek(1) == served {
+        bells.sleep(rt, ticket);
+    }
+}
+
+// Whether another ticket is served soon.
+fn changes<V: Kept>(top: &Top<V>, served: u64) -> bool
     requires { IsTable top.now.table_id }
 {
     for _ in 0..LOOKS {
         if top.peek(1) != served {
-            return;
+            return true;
         }
         hint::spin_loop();
     }
-    top.park(rt, 1, (served % (1 << 32)) as u32);
+    false
 }
 
-// Puts the value back, and wakes those that wait for their tickets.
-fn give<V: Kept>(top: &Top<V>, seat: &mut Place<V>, value: V)
+// Puts the value back, and wakes whose turn it is then, and whose turn is near.
+fn give<V: Kept>(top: &Top<V>, bells: &Bells, seat: &mut Place<V>, value: V)
     requires table { IsTable top.now.table_id × (seat.old.table_id ≡ top.now.table_id) }
     requires holds { IsHolding seat.old }
     requires value { MayPut V.name V.log V.by (known seat.old) value }
     ensures { (seat.new.table_id ≡ seat.old.table_id) × IsIdle seat.new × (known seat.new ≡ with_seen (known seat.old) (V.log value)) }
 {
     drop(top.exchange(seat, 0, Some(value)));
-    top.fetch_add::<PassOn>(seat, 1, 1);
-    top.wake_all(1);
+    let served = top.fetch_add::<PassOn>(seat, 1, 1);
+    bells.ring_behind(served);
 }
 
 // Adds the passes with the numbers from 1 on.
@@ -172,7 +200,7 @@ impl<V: Kept> Turn<V> {
         ensures seen { IsPrefix pass.old.seen (V.log result) }
         ensures own { entries_naming V.by pass.old.number (V.log result) ≡ entries_naming V.by pass.old.number pass.old.seen }
     {
-        let value = take(rt, &self.table.shared, &mut pass.seat);
+        let value = take(rt, &self.table.shared, &self.bells, &mut pass.seat);
         pass.news = self.news.load(Ordering::SeqCst);
         value
     }
@@ -185,12 +213,12 @@ impl<V: Kept> Turn<V> {
         requires log { GoesOn V.by pass.old.number pass.old.seen (V.log value) }
         ensures { pass.new ≡ record pass.old { seen = V.log value; holds = false } }
     {
-        self.put_back(pass, value, true);
+        self.put_back(pass, value, News::ForAll);
     }
 
-    /// As `put`, but those that rest are woken only if there is news for them. Where each of them found nothing to do, and looked again
-    /// whenever another had found nothing, they would keep one another awake.
-    pub fn put_back(&self, pass: &mut Pass<V>, value: V, has_news: bool)
+    /// As `put`, but of those that rest only as many are woken as there is news for. Where all were, and found nothing to do, they
+    /// would keep one another awake.
+    pub fn put_back(&self, pass: &mut Pass<V>, value: V, news: News)
         requires turn { pass.old.turn ≡ self.now.id }
         requires holds { pass.old.holds ≡ true }
         requires name { pass.old.name ≡ Some (V.name value) }
@@ -198,13 +226,25 @@ impl<V: Kept> Turn<V> {
         ensures { pass.new ≡ record pass.old { seen = V.log value; holds = false } }
     {
         // Before the value is back: who holds it later has seen this.
-        if has_news {
+        if news != News::Nothing {
             self.news.fetch_add(1, Ordering::SeqCst);
         }
-        give(&self.table.shared, &mut pass.seat, value);
-        if has_news {
-            self.news.wake_all();
+        give(&self.table.shared, &self.bells, &mut pass.seat, value);
+        self.tell(news);
+    }
+
+    // Who begins to rest later sees the count.
+    fn tell(&self, news: News) {
+        match news {
+            News::ForOne if self.has_resting() => self.news.wake_one(),
+            News::ForAll if self.has_resting() => self.news.wake_all(),
+            News::Nothing | News::Soon | News::ForOne | News::ForAll => {}
         }
+    }
+
+    /// Whether a pass rests just now.
+    pub fn has_resting(&self) -> bool {
+        self.resting.load(Ordering::SeqCst) > 0
     }
 
     /// May wait until another pass has put the value back with news, since this one last held it.
@@ -213,9 +253,11 @@ impl<V: Kept> Turn<V> {
         requires free { pass.old.holds ≡ false }
         ensures { pass.new ≡ pass.old }
     {
+        self.resting.fetch_add(1, Ordering::SeqCst);
         if self.news.load(Ordering::SeqCst) == pass.news {
             self.news.park(rt, (pass.news % (1 << 32)) as u32);
         }
+        self.resting.fetch_sub(1, Ordering::SeqCst);
     }
 }
 
@@ -247,10 +289,13 @@ impl<V: Kept> Turn<V> {
                 news: 0,
             },
         )?;
+        let bells = Bells::new(alloc)?;
         Ok((
             Turn {
                 table,
+                bells,
                 news: AtomicU64::new(0),
+                resting: AtomicU64::new(0),
             },
             others,
         ))
@@ -264,7 +309,7 @@ impl<V: Kept> Turn<V> {
         ensures name { V.name result ≡ self.name }
         ensures log { IsOfAll V.by passes.items (V.log result) }
     {
-        let Turn { table, news: _ } = self;
+        let Turn { table, .. } = self;
         let Pass {
             seat: mut first,
             number: _,

@@ -11,7 +11,7 @@ ghost use Rattle.pat_turn_machine.specs.Holds.{IsHold, TakingGives, CommittingGi
 use crate::machines::{Taken, commit, take};
 use pat_machine::{CommitRefused, Job, Machine, Receipt};
 use pat_machine_threads::LocalRun;
-use pat_turn::{Pass, Turn};
+use pat_turn::{News, Pass, Turn};
 use std::sync::Wait;
 
 /// Takes a job and its state. Nothing is added to the history.
@@ -23,10 +23,27 @@ pub fn take_in_turn<R: Wait>(rt: &R, turn: &Turn<Machine>, pass: &mut Pass<Machi
 {
     let mut machine = turn.hold(rt, pass);
     let taken = take(&mut machine);
-    // Only a job that went back is news to those that rest.
-    let has_news = matches!(taken, Taken::NoMemory);
-    turn.put_back(pass, machine, has_news);
+    let news = news_of(turn, &machine, &taken);
+    turn.put_back(pass, machine, news);
     taken
+}
+
+// Who took a job wakes one of those that rest where it leaves another one; who is woken does the same. A job that went back may be
+// taken by any of them, and where the run is over all of them end.
+fn news_of(turn: &Turn<Machine>, machine: &Machine, taken: &Taken) -> News {
+    match taken {
+        Taken::Job(_, _) if turn.has_resting() && machine.could_take() => News::ForOne,
+        Taken::Job(_, _) | Taken::Nothing => News::Nothing,
+        Taken::Over | Taken::NoMemory => News::ForAll,
+    }
+}
+
+// Who committed looks for the next job itself. Mostly there is no other one, and then nobody is woken in vain.
+fn news_of_commit(committed: &Result<Receipt, CommitRefused>) -> News {
+    match committed {
+        Ok(_) => News::Soon,
+        Err(_) => News::ForAll,
+    }
 }
 
 /// Commits a job under the number of the pass. Where memory runs out the job goes back in the same hold.
@@ -46,7 +63,7 @@ pub fn commit_in_turn<R: Wait>(
     let worker = pass.number();
     let mut machine = turn.hold(rt, pass);
     let result = commit(&mut machine, worker, job, run);
-    turn.put(pass, machine);
+    turn.put_back(pass, machine, news_of_commit(&result));
     result
 }
 

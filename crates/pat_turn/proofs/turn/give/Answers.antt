@@ -7,8 +7,8 @@ use Rattle.pat_turn.proofs.turn.give.Goals as goal
 pub exchange-requires : goal.exchange-requires
 exchange-requires g c = let slot = c.requires.holds.2 in (c.requires.table.1, (None, slot ∙ ap (λ l. (0, None) ∷ rest l) (sym slot)))
 
-pub fetch_add-requires : goal.fetch_add-requires
-fetch_add-requires g c =
+pub fetch_add-served-requires : goal.fetch_add-served-requires
+fetch_add-served-requires g c =
     let may = c.requires.value in
     let same : c.exchange.new.seat.me ≡ (c.args.seat.now.me.0, (0, Some c.args.value) ∷ []) = c.exchange.ensures.3 ∙ ap (λ l. (c.args.seat.now.me.0, (0, Some c.args.value) ∷ rest l)) c.requires.holds.2 in (
       search rules,
@@ -19,5 +19,5 @@ fetch_add-requires g c =
 pub returns : goal.returns
 returns g c =
     let same : c.exchange.new.seat.me ≡ (c.args.seat.now.me.0, (0, Some c.args.value) ∷ []) = c.exchange.ensures.3 ∙ ap (λ l. (c.args.seat.now.me.0, (0, Some c.args.value) ∷ rest l)) c.requires.holds.2 in
-    let now = c.fetch_add.ensures.2 c.args.value (ap (λ m. m.1) same) in
+    let now = c.fetch_add-served.ensures.2 c.args.value (ap (λ m. m.1) same) in
     (search rules, (ap (λ m. m.0.stage) now, ap (λ m. m.1) now), ap (λ m. idled m.0) now ∙ ap (λ m. with_seen (idled m.0) (g.V.Kept.log c.args.value)) same)
