@@ -1,3 +1,4 @@
 mod Opened
 mod Prospected
 mod Placed
+mod Ascending

@@ -1,43 +1,116 @@
--- The place of a thread, and a state put in the place of another.
-use Rattle.std.proofs.Common.{◌≡◌, ℕ, suc, ◌+◌, ◌<◌, true, nat_eq, List, ◌∷◌, ◌++◌, length, take, drop, get_or, Some, sym, ap, ◌∙◌, subst, slice_set, eq-eqb, add-one}
-use Rattle.std.specs.Map.{lookup, set_value}
-use Rattle.std.proofs.lemmas.Bool.{cond-true}
-use Rattle.std.proofs.lemmas.List.{drop_more, set_split, map-append}
+-- The place of a thread among ascending ones, and a state put in the place of another.
+use Rattle.std.proofs.Common.{◌≡◌, true, false, ℕ, zero, suc, ◌<◌, ◌≤◌, nat_eq, List, [], ◌∷◌, length, get_or, Some, None, Result, Ok, Err, IfOk, IfErr, refl, sym, ap, ◌∙◌, subst, slice_get, slice_set, eq-eqb, arith}
+use Rattle.std.specs.Prelude.{nat_lt}
+use Rattle.std.specs.Map.{lookup, set_value, remove_entry, keys_of}
+use Rattle.std.specs.List.Sorted.{IsSearchInRange, IsBinarySearchResult, IsNonDecreasingBy}
+use Rattle.std.specs.Ordering.{nat_cmp, ordering_index}
+use Rattle.std.proofs.lemmas.Cmp.{ranked}
+use Rattle.std.proofs.lemmas.Bool.{cond-true, cond-false, ne_eqb, ltb-true, ltb-false}
+use Rattle.std.proofs.lemmas.Bool.Decides.{nat_tests}
 use Rattle.std.proofs.lemmas.Option.{same_Some, slice_get-get_or}
-use Rattle.pat_model.specs.Configs.{Thread}
+use Rattle.pat_model.specs.Programs.{Program}
+use Rattle.pat_model.specs.Configs.{Thread, Config, thread_at}
+use Rattle.pat_model.specs.Orders.{AscendsFrom}
+use Rattle.pat_model.specs.Runs.{can_step_thread}
+use Rattle.std.proofs.lemmas.Bool.{false_from_ne_true}
+use Rattle.pat_model_laws.proofs.Enabled.{thread_exact}
 use Rattle.pat_reduce_threads.specs.declared.state.ThreadState.{ThreadState}
 use Rattle.pat_reduce_threads.specs.ThreadViews.{thread_view}
+use Rattle.pat_reduce.specs.Places.{IsPlace}
 use Rattle.pat_reduce.specs.Views.{threads_view}
-use Rattle.pat_machine_states.specs.Places.{StandsAt}
+use Rattle.pat_machine_states.specs.Places.{Ascend}
 
--- the first thread with the number stands at its place
-pub stands_here : (threads : List (ℕ × ThreadState)) (t i : ℕ) (own : ℕ × ThreadState) → i < length threads → own ≡ get_or threads i own → t ≡ own.0
-    → lookup (nat_eq t) (threads_view (drop i threads)) ≡ lookup (nat_eq t) (threads_view threads)
-    → ((s : Thread) → set_value (nat_eq t) (threads_view threads) s ≡ threads_view (take i threads) ++ set_value (nat_eq t) (threads_view (drop i threads)) s)
-    → StandsAt threads t i
-stands_here threads t i own within read named state changed =
-    let test : nat_eq t own.0 ≡ true = eq-eqb t own.0 named in
-    let front : drop i threads ≡ own ∷ drop (suc i) threads = drop_more threads i own within ∙ ap (λ x. x ∷ drop (i + 1) threads) (sym read) ∙ ap (λ n. own ∷ drop n threads) (add-one i) in
-    let rest = threads_view (drop (suc i) threads) in
-    let found : lookup (nat_eq t) (threads_view threads) ≡ Some (thread_view own.1) =
-    sym state ∙ ap (λ l. lookup (nat_eq t) (threads_view l)) front ∙ cond-true (nat_eq t own.0) (Some (thread_view own.1)) (lookup (nat_eq t) rest) test in
+abbrev pub Threads : Type 0
+Threads = List (ℕ × ThreadState)
+
+key_above : (n : ℕ) (ts : Threads) (i : ℕ) (d : ℕ × ThreadState) → AscendsFrom n (keys_of (threads_view ts)) → i < length ts → n ≤ (get_or ts i d).0
+key_above n [] i d a h = omega arith
+key_above n (x ∷ xs) zero d a h = a.0
+key_above n (x ∷ xs) (suc i) d a h =
+    let first : n ≤ x.0 = a.0 in
+    let above = key_above (suc x.0) xs i d a.1 (omega arith) in
+    omega arith
+
+keys_rise : (n : ℕ) (ts : Threads) (i j : ℕ) (d : ℕ × ThreadState) → AscendsFrom n (keys_of (threads_view ts)) → i ≤ j → j < length ts → (get_or ts i d).0 ≤ (get_or ts j d).0
+keys_rise n [] i j d a le h = omega arith
+keys_rise n (x ∷ xs) zero zero d a le h = omega arith
+keys_rise n (x ∷ xs) zero (suc j) d a le h =
+    let above = key_above (suc x.0) xs j d a.1 (omega arith) in
+    omega arith
+keys_rise n (x ∷ xs) (suc i) zero d a le h = omega arith
+keys_rise n (x ∷ xs) (suc i) (suc j) d a le h = keys_rise (suc x.0) xs i j d a.1 (omega arith) (omega arith)
+
+-- where the number stands, the thread stands before any other of its number
+place_of_number : (n : ℕ) (ts : Threads) (t i : ℕ) → AscendsFrom n (keys_of (threads_view ts)) → i < length ts → ((d : ℕ × ThreadState) → (get_or ts i d).0 ≡ t) → IsPlace ts t i
+place_of_number n [] t i a h is = absurd (omega arith)
+place_of_number n (x ∷ xs) t zero a h is =
+    let number : x.0 ≡ t = is x in
+    let test = eq-eqb t x.0 (sym number) in
+    let rest = threads_view xs in
+    let own : lookup (nat_eq t) (threads_view (x ∷ xs)) ≡ Some (thread_view x.1) = cond-true (nat_eq t x.0) (Some (thread_view x.1)) (lookup (nat_eq t) rest) test in
     record {
-      within = within;
+      within = h;
       state = λ e at.
-          let same : own ≡ e = same_Some own e (ap Some read ∙ sym (slice_get-get_or threads i own within) ∙ at) in
-          (ap (λ (q : ℕ × ThreadState). q.0) (sym same) ∙ sym named, found ∙ ap (λ (q : ℕ × ThreadState). Some (thread_view q.1)) same);
+          let same : x ≡ e = same_Some x e at in
+          (ap (λ (q : ℕ × ThreadState). q.0) (sym same) ∙ number, own ∙ ap (λ (q : ℕ × ThreadState). Some (thread_view q.1)) same);
       changed = λ s.
-          changed (thread_view s)
-          ∙ ap (λ l. threads_view (take i threads) ++ set_value (nat_eq t) (threads_view l) (thread_view s)) front
-          ∙ ap (λ l. threads_view (take i threads) ++ l) (cond-true (nat_eq t own.0) ((own.0, thread_view s) ∷ rest) ((own.0, thread_view own.1) ∷ set_value (nat_eq t) rest (thread_view s)) test)
-          ∙ ap (λ (n : ℕ). threads_view (take i threads) ++ (n, thread_view s) ∷ rest) (sym named)
-          ∙ sym (ap threads_view (set_split threads i (t, s) within) ∙ map-append _ (take i threads) ((t, s) ∷ drop (suc i) threads));
+          cond-true (nat_eq t x.0) ((x.0, thread_view s) ∷ rest) ((x.0, thread_view x.1) ∷ set_value (nat_eq t) rest (thread_view s)) test
+          ∙ ap (λ (k : ℕ). (k, thread_view s) ∷ rest) number;
+      gone = cond-true (nat_eq t x.0) rest ((x.0, thread_view x.1) ∷ remove_entry (nat_eq t) rest) test;
+    }
+place_of_number n (x ∷ xs) t (suc i) a h is =
+    let at_rest = place_of_number (suc x.0) xs t i a.1 (omega arith) is in
+    let above = key_above (suc x.0) xs i x a.1 (omega arith) in
+    let number : (get_or xs i x).0 ≡ t = is x in
+    let test = ne_eqb t x.0 (λ q. omega arith) in
+    let rest = threads_view xs in
+    record {
+      within = h;
+      state = λ e at. let q = at_rest.state e at in (q.0, cond-false (nat_eq t x.0) (Some (thread_view x.1)) (lookup (nat_eq t) rest) test ∙ q.1);
+      changed = λ s.
+          cond-false (nat_eq t x.0) ((x.0, thread_view s) ∷ rest) ((x.0, thread_view x.1) ∷ set_value (nat_eq t) rest (thread_view s)) test
+          ∙ ap (λ l. (x.0, thread_view x.1) ∷ l) (at_rest.changed s);
+      gone =
+          cond-false (nat_eq t x.0) rest ((x.0, thread_view x.1) ∷ remove_entry (nat_eq t) rest) test
+          ∙ ap (λ l. (x.0, thread_view x.1) ∷ l) at_rest.gone;
     }
 
-pub swapped : (k threads : List (ℕ × ThreadState)) (t i : ℕ) (e : ℕ × ThreadState) (s : ThreadState) → k ≡ threads → StandsAt threads t i → e ≡ get_or k i e → threads_view (slice_set k i (e.0, s)) ≡ set_value (nat_eq t) (threads_view threads) (thread_view s)
+-- where the number stands nowhere, no thread has it
+none_there : (ts : Threads) (t : ℕ) → ((i : ℕ) (d : ℕ × ThreadState) → i < length ts → (get_or ts i d).0 ≡ t → ⊥) → lookup (nat_eq t) (threads_view ts) ≡ None
+none_there [] t h = refl
+none_there (x ∷ xs) t h =
+    cond-false (nat_eq t x.0) (Some (thread_view x.1)) (lookup (nat_eq t) (threads_view xs)) (ne_eqb t x.0 (λ q. h zero x (omega arith) (sym q)))
+    ∙ none_there xs t (λ i d less is. h (suc i) d (omega arith) is)
+
+module _ (ts : Threads) (t : ℕ) (ascend : Ascend ts) where
+  rise : IsNonDecreasingBy (λ e. ordering_index (nat_cmp e.0 t)) ts
+  rise i j d le h = let keys = keys_rise 0 ts i j d ascend le h in grind (arith, nat_tests)
+
+  -- a search for the number ends at the place of its thread, or there is none
+  pub searched : (r : Result ℕ ℕ) → IsSearchInRange r (length ts) → IsBinarySearchResult (λ e. nat_cmp e.0 t) ts r → record { found : IfOk r (IsPlace ts t); absent : IfErr r (λ i. lookup (nat_eq t) (threads_view ts) ≡ None) }
+  searched (Ok i) within equal = record { found = place_of_number 0 ts t i ascend within (λ d. ranked _ t _ (sym (equal d))); absent = tt }
+  searched (Err i) within parted = record {
+    found = tt;
+    absent = none_there ts t (λ k d less is. go k d less is);
+  }
+    where
+      go : (k : ℕ) (d : ℕ × ThreadState) → k < length ts → (get_or ts k d).0 ≡ t → ⊥
+      go k d less is =
+          (elim (nat_lt k i) as (λ b. nat_lt k i ≡ b → ⊥) [
+            | true ↦ λ q. let front : k < i = ltb-true k i q in let lower : (get_or ts k d).0 < t = ranked _ t _ (sym ((parted rise).0 k d (omega arith) front)) in omega arith
+            | false ↦ λ q. let behind : i ≤ k = ltb-false k i q in let higher : t < (get_or ts k d).0 = ranked _ t _ (sym ((parted rise).1 k d behind less)) in omega arith
+          ]) refl
+
+pub swapped : (k threads : Threads) (t i : ℕ) (e : ℕ × ThreadState) (s : ThreadState) → k ≡ threads → IsPlace threads t i → e ≡ get_or k i e → threads_view (slice_set k i (e.0, s)) ≡ set_value (nat_eq t) (threads_view threads) (thread_view s)
 swapped k threads t i e s same at is =
-    let own = subst (λ l. StandsAt l t i) (sym same) at in
+    let own = subst (λ l. IsPlace l t i) (sym same) at in
     let number : e.0 ≡ t = (own.state e (slice_get-get_or k i e own.within ∙ ap Some (sym is))).0 in
     ap (λ n. threads_view (slice_set k i (n, s))) number
     ∙ sym (own.changed s)
     ∙ ap (λ l. set_value (nat_eq t) (threads_view l) (thread_view s)) same
+
+-- a thread that isn't there has no step
+pub absent : (p : Program) (c : Config) (t : ℕ) → thread_at c t ≡ None → can_step_thread p c t ≡ false
+absent p c t none = false_from_ne_true (can_step_thread p c t) (λ can.
+    let a = (thread_exact p c t).0 can in
+    cc)

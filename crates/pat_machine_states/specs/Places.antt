@@ -1,12 +1,9 @@
--- Where a thread stands in the list of threads.
-use Rattle.std.specs.Prelude.{◌≡◌, ℕ, ◌<◌, nat_eq, List, length, Some, slice_get, slice_set}
-use Rattle.std.specs.Map.{lookup, set_value}
+-- Threads in ascending order of number.
+use Rattle.std.specs.Prelude.{ℕ, List}
+use Rattle.std.specs.Map.{keys_of}
+use Rattle.pat_model.specs.Orders.{AscendsFrom}
 use Rattle.pat_reduce_threads.specs.declared.state.ThreadState.{ThreadState}
-use Rattle.pat_reduce_threads.specs.ThreadViews.{thread_view}
 use Rattle.pat_reduce.specs.Views.{threads_view}
 
--- the thread stands at this place, before any other of its number
-pub record StandsAt (threads : List (ℕ × ThreadState)) (t i : ℕ) : Type 0 where
-  pub within : i < length threads
-  pub state : (e : ℕ × ThreadState) → slice_get threads i ≡ Some e → (e.0 ≡ t) × (lookup (nat_eq t) (threads_view threads) ≡ Some (thread_view e.1))
-  pub changed : (s : ThreadState) → set_value (nat_eq t) (threads_view threads) (thread_view s) ≡ threads_view (slice_set threads i (t, s))
+abbrev pub Ascend : List (ℕ × ThreadState) → Type 0
+Ascend threads = AscendsFrom 0 (keys_of (threads_view threads))

@@ -1,11 +1,14 @@
 // The act of a thread that is open.
 ghost use Rattle.std.specs.Prelude.{◌≡◌, ◌&&◌, not, option_map};
 ghost use Rattle.pat_core.specs.Views.{program_view};
+ghost use Rattle.pat_model.specs.Orders.{IsOrdered};
+ghost use Rattle.pat_reduce.specs.Acts.{EnabledAct, IsLeast};
 ghost use Rattle.pat_reduce.specs.Views.{act_view};
 ghost use Rattle.pat_commits.specs.Opens.{has_space};
 ghost use Rattle.pat_machine_states.specs.Opening.{OpenAct, is_sending};
 
 use crate::State;
+use crate::places::place_of;
 use pat_executable::Executable;
 use pat_reduce::Act;
 
@@ -14,11 +17,22 @@ impl State {
     pub(crate) fn open_act(&self, code: &Executable, limit: u32, thread: u32) -> Option<Act>
         ensures { OpenAct (program_view code.now.program) self.now limit thread (option_map act_view result) }
     {
-        let act = self.config.enabled_act(code, thread);
+        let act = self.enabled_act(code, thread);
         if self.is_held_back(limit, act) {
             None
         } else {
             act
+        }
+    }
+
+    // The act of the thread that is enabled, if one is.
+    pub(crate) fn enabled_act(&self, code: &Executable, thread: u32) -> Option<Act>
+        ensures enabled { EnabledAct (program_view code.now.program) self.now thread (option_map act_view result) }
+        ensures least { IsOrdered self.now → IsLeast (program_view code.now.program) self.now thread (option_map act_view result) }
+    {
+        match place_of(self.config.threads.as_slice(), thread) {
+            Some(place) => self.config.act_at_place(code, thread, place),
+            None => None,
         }
     }
 

@@ -1,9 +1,10 @@
-// Where a thread stands in the list of threads.
+// Where a thread stands in the list of threads, which ascends.
 ghost use Rattle.std.specs.Prelude.{◌≡◌, Some, None, nat_eq, option_copied, option_map, IfSome, IfNone};
 ghost use Rattle.std.specs.Map.{lookup, set_value};
 ghost use Rattle.pat_reduce_threads.specs.ThreadViews.{thread_view};
+ghost use Rattle.pat_reduce.specs.Places.{IsPlace};
 ghost use Rattle.pat_reduce.specs.Views.{threads_view};
-ghost use Rattle.pat_machine_states.specs.Places.{StandsAt};
+ghost use Rattle.pat_machine_states.specs.Places.{Ascend};
 
 use pat_reduce::ThreadState;
 use pat_sequences::Sequence;
@@ -11,27 +12,25 @@ use std::mem;
 
 /// The place of a thread.
 pub fn place_of(threads: &[(u32, ThreadState)], thread: u32) -> Option<usize>
-    ensures found { IfSome result (StandsAt threads.now thread) }
+    requires { Ascend threads.now }
+    ensures found { IfSome result (IsPlace threads.now thread) }
     ensures none { IfNone result (lookup (nat_eq thread) (threads_view threads.now) ≡ None) }
 {
-    for (i, own) in threads.iter().enumerate() {
-        if thread == own.0 {
-            return Some(i);
-        }
+    match threads.binary_search_by_key(&thread, |own| own.0) {
+        Ok(place) => Some(place),
+        Err(_) => None,
     }
-    None
 }
 
 /// The state of a thread.
 pub fn state_of(threads: &[(u32, ThreadState)], thread: u32) -> Option<&ThreadState>
+    requires { Ascend threads.now }
     ensures { option_map thread_view (option_copied result) ≡ lookup (nat_eq thread) (threads_view threads.now) }
 {
-    for entry in threads {
-        if thread == entry.0 {
-            return Some(&entry.1);
-        }
+    match place_of(threads, thread) {
+        Some(place) => Some(&threads[place].1),
+        None => None,
     }
-    None
 }
 
 /// Puts a state in the place of that of the thread at a place.
@@ -41,7 +40,7 @@ pub fn swap_at(
     place: usize,
     state: ThreadState,
 ) -> ThreadState
-    requires { StandsAt threads.old thread place }
+    requires { IsPlace threads.old thread place }
     ensures before { lookup (nat_eq thread) (threads_view threads.old) ≡ Some (thread_view result) }
     ensures after { threads_view threads.new ≡ set_value (nat_eq thread) (threads_view threads.old) (thread_view state) }
 {

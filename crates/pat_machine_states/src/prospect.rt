@@ -1,6 +1,7 @@
 // Whether a run can go on.
 ghost use Rattle.std.specs.Prelude.{◌≡◌, ◌≤◌, length};
 ghost use Rattle.std.specs.List.{list_any};
+ghost use Rattle.pat_model.specs.Runs.{can_step, can_step_thread};
 ghost use Rattle.pat_core.specs.Views.{program_view};
 ghost use Rattle.pat_commits.specs.Opens.{can_go_on};
 ghost use Rattle.pat_machine_states.specs.Prospects.{HasProspect};
@@ -32,9 +33,31 @@ impl State {
         if self.has_open(code, limit) {
             return Prospect::Open;
         }
-        match self.config.ready_thread(code) {
-            Some(_) => Prospect::Full,
-            None => Prospect::Stuck,
+        if self.has_enabled(code) {
+            Prospect::Full
+        } else {
+            Prospect::Stuck
+        }
+    }
+
+    // Whether a step is enabled.
+    fn has_enabled(&self, code: &Executable) -> bool
+        ensures { result ≡ can_step (program_view code.now.program) self.now }
+    {
+        for entry in self.config.threads.as_slice() {
+            if self.is_enabled(code, entry.0) {
+                return true;
+            }
+        }
+        false
+    }
+
+    fn is_enabled(&self, code: &Executable, thread: u32) -> bool
+        ensures { result ≡ can_step_thread (program_view code.now.program) self.now thread }
+    {
+        match self.enabled_act(code, thread) {
+            Some(_) => true,
+            None => false,
         }
     }
 

@@ -11,7 +11,7 @@ use pat_sequences::Text;
 use std::alloc::{AllocError, Global};
 use std::marker::Model;
 
-/// A configuration, kept as plain lists. Contracts see the configuration of the definitions, however it is kept.
+/// A configuration, kept as lists in ascending order of number. Contracts see the configuration of the definitions, however it is kept.
 #[derive(Drop)]
 pub struct State {
     pub(crate) config: Config,
@@ -24,6 +24,10 @@ impl Model for State {
     ghost Value = { Config };
 
     ghost view = { λ s. config_view s.config };
+
+    ghost use Rattle.pat_machine_states.specs.Places.{Ascend};
+
+    ghost invariant = { λ s. Ascend s.config.threads };
 }
 
 impl State {

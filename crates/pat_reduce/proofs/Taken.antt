@@ -48,7 +48,7 @@ module _ (p : Program) (c : CodeConfig) (threads : Threads) (t i : ℕ) (st : Th
   own : slice_get c.threads i ≡ Some (t, st)
   own = ap (λ l. slice_get l i) (sym same) ∙ got
 
-  there : thread_at (config_view c) t ≡ Some (thread_view st)
+  pub there : thread_at (config_view c) t ≡ Some (thread_view st)
   there = (at.state (t, st) own).1
 
   pub free_refused : (e : StepError) → Gives freed_view (redex_freed p (config_view c) t (redex p (control_view st.control))) (Err e)

@@ -11,8 +11,9 @@ ghost use Rattle.pat_reduce_values.specs.ValueViews.{env_view, reference_view};
 ghost use Rattle.pat_reduce_threads.specs.GuardViews.{guard_view};
 ghost use Rattle.pat_reduce.specs.Acts.{act_if, is_truth, is_mailbox_value, term_act, plain_act, free_act, guard_act, act_at, EnabledAct, IsFirst, IsLeast, IsLeastReady};
 ghost use Rattle.pat_reduce_threads.specs.ThreadActs.{guard_at};
+ghost use Rattle.pat_reduce.specs.Places.{IsPlace};
 
-use crate::steps::place_of;
+use crate::steps::{place_of, state_at};
 use crate::{Act, Config};
 use pat_core::Core;
 use pat_executable::Executable;
@@ -29,11 +30,21 @@ impl Config {
         ensures first { IsFirst (program_view code.now.program) (config_view self.now) thread (option_map act_view result) }
         ensures least { IsOrdered (config_view self.now) → IsLeast (program_view code.now.program) (config_view self.now) thread (option_map act_view result) }
     {
-        let threads = self.threads.as_slice();
-        match place_of(threads, thread) {
-            Some(place) => self.act_of(code, thread, &threads[place].1),
+        match place_of(self.threads.as_slice(), thread) {
+            Some(place) => self.act_at_place(code, thread, place),
             None => None,
         }
+    }
+
+    /// The same of the thread at a place.
+    pub fn act_at_place(&self, code: &Executable, thread: u32, place: usize) -> Option<Act>
+        requires { IsPlace self.now.threads thread place }
+        ensures enabled { EnabledAct (program_view code.now.program) (config_view self.now) thread (option_map act_view result) }
+        ensures first { IsFirst (program_view code.now.program) (config_view self.now) thread (option_map act_view result) }
+        ensures least { IsOrdered (config_view self.now) → IsLeast (program_view code.now.program) (config_view self.now) thread (option_map act_view result) }
+    {
+        let state = state_at(self.threads.as_slice(), thread, place);
+        self.act_of(code, thread, state)
     }
 
     /// The first thread that has an enabled step, if one has: the one of the least number where the configuration is in order.

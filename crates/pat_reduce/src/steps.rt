@@ -63,9 +63,26 @@ impl Config {
         requires threads { step.now.act ≡ Spawn → self.old.next_thread < 4294967295 }
         ensures { StepGives config_view (after_step (program_view code.now.program) (config_view self.old) (step_view step.now)) self.old self.new result }
     {
-        let Some(place) = place_of(self.threads.as_slice(), step.thread) else {
-            return Err(StepError::Disabled);
-        };
+        match place_of(self.threads.as_slice(), step.thread) {
+            Some(place) => self.step_at_place(alloc, code, step, place),
+            None => Err(StepError::Disabled),
+        }
+    }
+
+    /// The same of the thread at a place.
+    pub fn step_at_place(
+        &mut self,
+        alloc: Global,
+        code: &Executable,
+        step: &Step,
+        place: usize,
+    ) -> Result<(), StepError>
+        requires place { IsPlace self.old.threads step.now.thread place }
+        requires mailboxes { step.now.act ≡ New → self.old.next_mailbox < 4294967295 }
+        requires messages { step.now.act ≡ Send → self.old.next_message < 4294967295 }
+        requires threads { step.now.act ≡ Spawn → self.old.next_thread < 4294967295 }
+        ensures { StepGives config_view (after_step (program_view code.now.program) (config_view self.old) (step_view step.now)) self.old self.new result }
+    {
         match step.act {
             Act::Local => self.step_locally(alloc, code, step.thread, place),
             Act::New => self.make_mailbox(code, step.thread, place),
@@ -272,7 +289,7 @@ impl Config {
 }
 
 // The thread at its place.
-fn state_at(threads: &[(u32, ThreadState)], thread: u32, place: usize) -> &ThreadState
+pub fn state_at(threads: &[(u32, ThreadState)], thread: u32, place: usize) -> &ThreadState
     requires { IsPlace threads.now thread place }
     ensures { slice_get threads.now place ≡ Some (thread, result.now) }
 {
