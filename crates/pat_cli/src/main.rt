@@ -5,11 +5,6 @@ ghost use Rattle.std.specs.Prelude.{◌≡◌, drop};
 ghost use Rattle.std.specs.Process.{exit_status};
 ghost use Rattle.pat_answers.specs.Statuses.{status_code};
 
-#[cfg(test)]
-mod tests;
-#[cfg(test)]
-mod texts;
-
 use pat_answers::Status;
 use pat_ports::{OpenGate, StdSink, StdSource};
 pub use pat_session::pat;
@@ -22,6 +17,7 @@ fn main(rt: HostRuntime) -> ExitCode {
     let mut sink = StdSink::new(io::writer(&rt));
     let status = match arguments(&rt) {
         Ok(arguments) => pat(
+            &rt,
             rt.alloc(),
             without_name(arguments.as_slice()),
             &mut source,

@@ -17,7 +17,7 @@ use Rattle.pat_machine.specs.Shown.{Shown, IsMachine, program_of, entries_of}
 use Rattle.pat_machine.specs.Gives.{outcome_view}
 use Rattle.pat_options.specs.declared.options.RunOptions.{RunOptions}
 use Rattle.pat_run.specs.declared.running.Finished.{Finished}
-use Rattle.pat_run.specs.Runs.{IsRun, RunGives}
+use Rattle.pat_runners.specs.Runs.{RunGives}
 use Rattle.pat_lines.specs.RunText.{run_text}
 use Rattle.pat_answers.specs.declared.status.Status.{Status}
 use Rattle.pat_command_run.specs.Allowed.{EndsWith, RunsTo, RunShows}
@@ -56,7 +56,7 @@ pub shown_history : (m : Shown) (h : List CodeEntry) → IsMachine m → h ≡ m
 shown_history m h facts same = subst (λ l. IsHistory (map entry_view l)) (sym same) facts.history
 
 -- a finished run shows its text and its status
-pub run_shows : (program : CodeProgram) (o : RunOptions) (f : Finished) (h : List CodeEntry) (c : CodeConfig) (text : List ℕ) (s : Status) → RunGives program o.steps o.messages f → IsMachine f.machine → h ≡ f.machine.history → config_view c ≡ f.machine.config → text ≡ run_text (map entry_view h) (config_view c) (outcome_view f.outcome) → EndsWith (outcome_view f.outcome) s → RunShows (program_view program) o text s
+pub run_shows : (program : CodeProgram) (o : RunOptions) (f : Finished) (h : List CodeEntry) (c : CodeConfig) (text : List ℕ) (s : Status) → RunGives program o f → IsMachine f.machine → h ≡ f.machine.history → config_view c ≡ f.machine.config → text ≡ run_text (map entry_view h) (config_view c) (outcome_view f.outcome) → EndsWith (outcome_view f.outcome) s → RunShows (program_view program) o text s
 run_shows program o f h c text s gives facts same config shown ends =
     let own = outcome_view f.outcome in
     let es = entries_of f.machine in (

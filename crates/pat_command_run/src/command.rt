@@ -6,6 +6,7 @@ ghost use Rattle.pat_typing.specs.Typings.{IsTypable};
 ghost use Rattle.pat_machine.specs.Gives.{outcome_view};
 ghost use Rattle.pat_options.specs.Options.{IsWithin};
 ghost use Rattle.pat_input.specs.Inputs.{IsRead};
+ghost use Rattle.pat_runners.specs.Runs.{IsRunner};
 ghost use Rattle.pat_checked.specs.Checks.{IsChecked};
 ghost use Rattle.pat_command_run.specs.Allowed.{AllowedRun, RunShows, EndsWith};
 
@@ -17,53 +18,76 @@ use pat_derivations::Derivation;
 use pat_input::Input;
 use pat_machine::Outcome;
 use pat_options::RunOptions;
+use pat_run::Finished;
 use std::alloc::{AllocError, Global};
 
-/// What `run` with these options answers on this input.
-pub fn answer_run(alloc: Global, options: RunOptions, input: Input) -> Result<Answer, AllocError>
+/// What `run` with these options answers on this input, where a program is run so.
+pub fn answer_run<F: Fn(Accepted, RunOptions) -> Result<Finished, AllocError>>(
+    alloc: Global,
+    run: &F,
+    options: RunOptions,
+    input: Input,
+) -> Result<Answer, AllocError>
+    requires runner { IsRunner (F.pre run.now) (F.post run.now) }
     requires read { (bytes : List ℕ) × IsRead bytes input }
     requires within { IsWithin options }
     ensures { (bytes : List ℕ) → IsRead bytes input → IfOk result (λ a. AllowedRun options bytes a.text.items a.status) }
 {
     let found = check_input(alloc, input)?;
-    answer_of(alloc, options, found)
+    answer_of(alloc, run, options, found)
 }
 
-fn answer_of(alloc: Global, options: RunOptions, found: Checked) -> Result<Answer, AllocError>
+fn answer_of<F: Fn(Accepted, RunOptions) -> Result<Finished, AllocError>>(
+    alloc: Global,
+    run: &F,
+    options: RunOptions,
+    found: Checked,
+) -> Result<Answer, AllocError>
+    requires runner { IsRunner (F.pre run.now) (F.post run.now) }
     requires checked { (bytes : List ℕ) × IsChecked bytes found }
     requires within { IsWithin options }
     ensures { (bytes : List ℕ) → IsChecked bytes found → IfOk result (λ a. AllowedRun options bytes a.text.items a.status) }
 {
     match found {
-        Checked::Accepted(program, derivation) => run_accepted(alloc, options, program, derivation),
+        Checked::Accepted(program, derivation) => {
+            run_accepted(alloc, run, options, program, derivation)
+        }
         Checked::Refused(answer) => Ok(answer),
     }
 }
 
 // The run of a program that can be typed; the derivation says so, and isn't needed any more.
-fn run_accepted(
+fn run_accepted<F: Fn(Accepted, RunOptions) -> Result<Finished, AllocError>>(
     alloc: Global,
+    run: &F,
     options: RunOptions,
     program: Program,
     derivation: Derivation,
 ) -> Result<Answer, AllocError>
+    requires runner { IsRunner (F.pre run.now) (F.post run.now) }
     requires well { WellFormed (program_view program) }
     requires typable { IsTypable (program_view program) }
     requires within { IsWithin options }
     ensures { IfOk result (λ a. RunShows (program_view program) options a.text.items a.status) }
 {
     let_go(derivation);
-    run_program(alloc, Accepted::of(program), options)
+    run_program(alloc, run, options, Accepted::of(program))
 }
 
 fn let_go(_derivation: Derivation) {}
 
 // The text of an accepted program's run, and its status.
-fn run_program(alloc: Global, accepted: Accepted, options: RunOptions) -> Result<Answer, AllocError>
-    requires { IsWithin options }
+fn run_program<F: Fn(Accepted, RunOptions) -> Result<Finished, AllocError>>(
+    alloc: Global,
+    run: &F,
+    options: RunOptions,
+    accepted: Accepted,
+) -> Result<Answer, AllocError>
+    requires runner { IsRunner (F.pre run.now) (F.post run.now) }
+    requires within { IsWithin options }
     ensures { IfOk result (λ a. RunShows (program_view accepted) options a.text.items a.status) }
 {
-    let finished = pat_run::run(alloc, accepted, options.steps as u64, options.messages)?;
+    let finished = run(accepted, options)?;
     let config = finished.machine.config()?;
     let entries = finished.machine.history();
     let text = pat_lines::text_of(alloc, entries, &config, finished.outcome)?;

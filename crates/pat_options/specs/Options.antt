@@ -8,20 +8,26 @@ use Rattle.pat_options.specs.declared.options.RunOptions.{RunOptions}
 abbrev pub number_of : List ℕ → Option ℕ
 number_of word = if nat_le 1 (length word) && nat_le (length word) 7 then read_digits 0 word else None
 
+-- a number of workers that wasn't chosen yet, from 1 to 64
+abbrev pub with_workers : Choice → Option ℕ → Option Choice
+with_workers c None = None
+with_workers c (Some n) = if is_none c.workers && (nat_le 1 n && nat_le n 64) then Some (record { workers = Some n; steps = c.steps; messages = c.messages }) else None
+
 -- a number of steps that wasn't chosen yet, from 0 to 1,000,000
 abbrev pub with_steps : Choice → Option ℕ → Option Choice
 with_steps c None = None
-with_steps c (Some n) = if is_none c.steps && nat_le n 1000000 then Some (record { steps = Some n; messages = c.messages }) else None
+with_steps c (Some n) = if is_none c.steps && nat_le n 1000000 then Some (record { workers = c.workers; steps = Some n; messages = c.messages }) else None
 
 -- a number of messages that wasn't chosen yet, from 1 to 1,000,000
 abbrev pub with_messages : Choice → Option ℕ → Option Choice
 with_messages c None = None
-with_messages c (Some n) = if is_none c.messages && (nat_le 1 n && nat_le n 1000000) then Some (record { steps = c.steps; messages = Some n }) else None
+with_messages c (Some n) = if is_none c.messages && (nat_le 1 n && nat_le n 1000000) then Some (record { workers = c.workers; steps = c.steps; messages = Some n }) else None
 
 -- one option: its name and its number
 abbrev pub with_option : Choice → (name number : List ℕ) → Option Choice
 with_option c name number =
-    if bytes_eq name (codes "--steps") then with_steps c (number_of number)
+    if bytes_eq name (codes "--workers") then with_workers c (number_of number)
+    else if bytes_eq name (codes "--steps") then with_steps c (number_of number)
     else if bytes_eq name (codes "--messages") then with_messages c (number_of number)
     else None
 
@@ -35,12 +41,12 @@ abbrev pub or_default : Option ℕ → ℕ → ℕ
 or_default None n = n
 or_default (Some m) n = m
 
--- 100,000 steps and 1,000,000 messages, where nothing else is chosen
+-- one worker, 100,000 steps and 1,000,000 messages, where nothing else is chosen
 abbrev pub with_defaults : Choice → RunOptions
-with_defaults c = record { steps = or_default c.steps 100000; messages = or_default c.messages 1000000 }
+with_defaults c = record { workers = or_default c.workers 1; steps = or_default c.steps 100000; messages = or_default c.messages 1000000 }
 
 abbrev pub nothing_chosen : Choice
-nothing_chosen = record { steps = None; messages = None }
+nothing_chosen = record { workers = None; steps = None; messages = None }
 
 -- the options that the words choose, if they are options
 abbrev pub options_of : List (List ℕ) → Option RunOptions
@@ -49,10 +55,11 @@ options_of words = option_map with_defaults (choices nothing_chosen words)
 -- ---- bounds
 
 abbrev pub ChosenWithin : Choice → Type 0
-ChosenWithin c = IfSome c.steps (λ n. n ≤ 1000000) × IfSome c.messages (λ n. (0 < n) × (n ≤ 1000000))
+ChosenWithin c = IfSome c.workers (λ n. (0 < n) × (n ≤ 64)) × IfSome c.steps (λ n. n ≤ 1000000) × IfSome c.messages (λ n. (0 < n) × (n ≤ 1000000))
 
--- at most 1,000,000 steps, and from 1 to 1,000,000 messages
+-- from 1 to 64 workers, at most 1,000,000 steps, and from 1 to 1,000,000 messages
 pub record IsWithin (o : RunOptions) : Type 0 where
+  pub workers : (0 < o.workers) × (o.workers ≤ 64)
   pub steps : o.steps ≤ 1000000
   pub some : 0 < o.messages
   pub messages : o.messages ≤ 1000000

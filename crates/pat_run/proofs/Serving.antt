@@ -131,6 +131,7 @@ run_gives program steps messages old new rs o begun driven ends =
     let whole = subst (λ c. Served p messages steps None c (entries_in rs) new.config) begun.config moved in
     record {
       named = named;
+      over = (driven.none_out, driven.rests);
       run = record {
         workers = subst (λ es. AllByRecursion (λ (e : Entry). e.worker ≡ 0) es) (sym entries) (workers (length old.history) rs driven.goes_on.places);
         served = subst (λ es. Served p messages steps None (start p) es new.config) (sym entries) whole;

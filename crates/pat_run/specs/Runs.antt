@@ -32,7 +32,8 @@ pub record IsRun (p : Program) (budget limit : ℕ) (es : List Entry) (c : Confi
 abbrev pub IsOver : Shown → Type 0
 IsOver m = NoneOut m.out × Rests m
 
--- the machine is one of the program, and was driven to this outcome
+-- the machine is one of the program, and was driven to this outcome, so nothing is left to do
 pub record RunGives (program : CodeProgram) (steps messages : ℕ) (f : Finished) : Type 0 where
   pub named : f.machine.named ≡ record { program = program; budget = steps; limit = messages }
+  pub over : IsOver f.machine
   pub run : IsRun (program_view program) steps messages (entries_of f.machine) f.machine.config (outcome_view f.outcome)

@@ -2,10 +2,12 @@
 ghost use Rattle.std.specs.Prelude.{◌≤◌, ℕ, List, IfOk, length};
 ghost use Rattle.pat_ports.specs.Ends.{EndsOnce, EndsThere};
 ghost use Rattle.pat_input.specs.Inputs.{IsRead, IsInputWithin, FaultsAfter};
+ghost use Rattle.pat_runners.specs.Runs.{IsRunner};
 ghost use Rattle.pat_session.specs.Allowed.{AllowedTo, HasBounds, limit_of};
 ghost use Rattle.pat_session.specs.Asking.{Asks, IsAsked, IsOfProgram, IsOfTwoParts};
 
 use crate::Command;
+use pat_accepted::Accepted;
 use pat_answers::Answer;
 use pat_command_check::answer_check;
 use pat_command_derive::answer_derive;
@@ -16,6 +18,7 @@ use pat_command_verify::answer_verify;
 use pat_input::{Input, InputError, read_bytes, read_tokens};
 use pat_options::RunOptions;
 use pat_ports::Source;
+use pat_run::Finished;
 use std::alloc::{AllocError, Global};
 
 /// What there is to answer.
@@ -29,16 +32,21 @@ pub enum Asked {
     Verify(Vec<u8>),
 }
 
-/// What a command answers on this input.
-pub fn answer_to(alloc: Global, asked: Asked) -> Result<Answer, AllocError>
-    requires { IsAsked asked }
+/// What a command answers on this input, where a program is run so.
+pub fn answer_to<F: Fn(Accepted, RunOptions) -> Result<Finished, AllocError>>(
+    alloc: Global,
+    run: &F,
+    asked: Asked,
+) -> Result<Answer, AllocError>
+    requires runner { IsRunner (F.pre run.now) (F.post run.now) }
+    requires asked { IsAsked asked }
     ensures { (command : Command) (bytes : List ℕ) → Asks command bytes asked → IfOk result (λ a. AllowedTo command bytes a.text.items a.status) }
 {
     match asked {
         Asked::Check(input) => answer_check(alloc, input),
         Asked::Derive(input) => answer_derive(alloc, input),
         Asked::Print(input) => answer_print(alloc, input),
-        Asked::Run(options, input) => answer_run(alloc, options, input),
+        Asked::Run(options, input) => answer_run(alloc, run, options, input),
         Asked::Replay(bytes) => answer_replay(alloc, bytes.as_slice()),
         Asked::Verify(bytes) => answer_verify(alloc, bytes.as_slice()),
     }

@@ -6,5 +6,5 @@ mod output;
 mod session;
 mod words;
 
-pub use session::pat;
+pub use session::{pat, pat_alone};
 pub use words::Command;

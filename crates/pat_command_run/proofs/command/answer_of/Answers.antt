@@ -4,14 +4,14 @@ use Rattle.pat_command_run.proofs.Runnable.{checked_well, checked_typable, accep
 use Rattle.pat_command_run.proofs.command.answer_of.Goals as goal
 
 pub run_accepted-requires-clause-well : goal.run_accepted-requires-clause-well
-run_accepted-requires-clause-well c = checked_well c.in-Accepted.program c.in-Accepted.derivation (c.requires.checked.0, subst (IsChecked c.requires.checked.0) c.in-Accepted.is c.requires.checked.1)
+run_accepted-requires-clause-well g c = checked_well c.in-Accepted.program c.in-Accepted.derivation (c.requires.checked.0, subst (IsChecked c.requires.checked.0) c.in-Accepted.is c.requires.checked.1)
 
 pub run_accepted-requires-clause-typable : goal.run_accepted-requires-clause-typable
-run_accepted-requires-clause-typable c = checked_typable c.in-Accepted.program c.in-Accepted.derivation (c.requires.checked.0, subst (IsChecked c.requires.checked.0) c.in-Accepted.is c.requires.checked.1)
+run_accepted-requires-clause-typable g c = checked_typable c.in-Accepted.program c.in-Accepted.derivation (c.requires.checked.0, subst (IsChecked c.requires.checked.0) c.in-Accepted.is c.requires.checked.1)
 
 pub returns-in-Accepted : goal.returns-in-Accepted
-returns-in-Accepted c = λ bytes is.
+returns-in-Accepted g c = λ bytes is.
     accepted_allowed c.args.options bytes c.in-Accepted.program c.in-Accepted.derivation c.run_accepted.result (subst (IsChecked bytes) c.in-Accepted.is is) c.run_accepted.ensures
 
 pub returns-in-Refused : goal.returns-in-Refused
-returns-in-Refused c = λ bytes is. refused_allowed c.args.options bytes c.in-Refused.answer (subst (IsChecked bytes) c.in-Refused.is is)
+returns-in-Refused g c = λ bytes is. refused_allowed c.args.options bytes c.in-Refused.answer (subst (IsChecked bytes) c.in-Refused.is is)

@@ -4,28 +4,28 @@ use Rattle.pat_session.proofs.Asking.{of_check, of_derive, of_print, of_run, of_
 use Rattle.pat_session.proofs.commands.answer_to.Goals as goal
 
 pub answer_check-requires : goal.answer_check-requires
-answer_check-requires c = check_read c.in-Check.input (subst IsAsked c.in-Check.is c.requires)
+answer_check-requires g c = check_read c.in-Check.input (subst IsAsked c.in-Check.is c.requires.asked)
 
 pub answer_derive-requires : goal.answer_derive-requires
-answer_derive-requires c = derive_read c.in-Derive.input (subst IsAsked c.in-Derive.is c.requires)
+answer_derive-requires g c = derive_read c.in-Derive.input (subst IsAsked c.in-Derive.is c.requires.asked)
 
 pub answer_print-requires : goal.answer_print-requires
-answer_print-requires c = print_read c.in-Print.input (subst IsAsked c.in-Print.is c.requires)
+answer_print-requires g c = print_read c.in-Print.input (subst IsAsked c.in-Print.is c.requires.asked)
 
 pub answer_run-requires-clause-read : goal.answer_run-requires-clause-read
-answer_run-requires-clause-read c = run_read c.in-Run.options c.in-Run.input (subst IsAsked c.in-Run.is c.requires)
+answer_run-requires-clause-read g c = run_read c.in-Run.options c.in-Run.input (subst IsAsked c.in-Run.is c.requires.asked)
 
 pub answer_run-requires-clause-within : goal.answer_run-requires-clause-within
-answer_run-requires-clause-within c = run_within c.in-Run.options c.in-Run.input (subst IsAsked c.in-Run.is c.requires)
+answer_run-requires-clause-within g c = run_within c.in-Run.options c.in-Run.input (subst IsAsked c.in-Run.is c.requires.asked)
 
 pub returns-in-Check : goal.returns-in-Check
-returns-in-Check c = λ command bytes asks. of_check command bytes c.answer_check.result c.in-Check.input (subst (Asks command bytes) c.in-Check.is asks) (c.answer_check.ensures bytes)
+returns-in-Check g c = λ command bytes asks. of_check command bytes c.answer_check.result c.in-Check.input (subst (Asks command bytes) c.in-Check.is asks) (c.answer_check.ensures bytes)
 
 pub returns-in-Derive : goal.returns-in-Derive
-returns-in-Derive c = λ command bytes asks. of_derive command bytes c.answer_derive.result c.in-Derive.input (subst (Asks command bytes) c.in-Derive.is asks) (c.answer_derive.ensures bytes)
+returns-in-Derive g c = λ command bytes asks. of_derive command bytes c.answer_derive.result c.in-Derive.input (subst (Asks command bytes) c.in-Derive.is asks) (c.answer_derive.ensures bytes)
 
 pub returns-in-Print : goal.returns-in-Print
-returns-in-Print c = λ command bytes asks. of_print command bytes c.answer_print.result c.in-Print.input (subst (Asks command bytes) c.in-Print.is asks) (c.answer_print.ensures bytes)
+returns-in-Print g c = λ command bytes asks. of_print command bytes c.answer_print.result c.in-Print.input (subst (Asks command bytes) c.in-Print.is asks) (c.answer_print.ensures bytes)
 
 pub returns-in-Run : goal.returns-in-Run
-returns-in-Run c = λ command bytes asks. of_run command bytes c.answer_run.result c.in-Run.options c.in-Run.input (subst (Asks command bytes) c.in-Run.is asks) (c.answer_run.ensures bytes)
+returns-in-Run g c = λ command bytes asks. of_run command bytes c.answer_run.result c.in-Run.options c.in-Run.input (subst (Asks command bytes) c.in-Run.is asks) (c.answer_run.ensures bytes)

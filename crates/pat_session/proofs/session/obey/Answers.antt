@@ -4,8 +4,8 @@ use Rattle.pat_session.proofs.Allows.{not_a_write_fault}
 use Rattle.pat_session.proofs.Calls.{call_command}
 use Rattle.pat_session.proofs.session.obey.Goals as goal
 
-pub answer_to-requires : goal.answer_to-requires
-answer_to-requires g c = let read = c.in-Ok.ensures.ok in (c.args.command, read.0, read.2)
+pub answer_to-requires-clause-asked : goal.answer_to-requires-clause-asked
+answer_to-requires-clause-asked g c = let read = c.in-Ok.ensures.ok in (c.args.command, read.0, read.2)
 
 pub written-requires : goal.written-requires
 written-requires g c =

@@ -3,37 +3,37 @@ use Rattle.pat_session.proofs.Allows.{usage_only, accepts_safe, shows_checked, s
 use Rattle.pat_session.proofs.session.pat.Goals as goal
 
 pub returns-clause-read_fault : goal.returns-clause-read_fault
-returns-clause-read_fault g c = λ e. c.respond.ensures.call.read.failed e
+returns-clause-read_fault g c = λ e. c.dispatch.ensures.call.read.failed e
 
 pub returns-clause-write_fault : goal.returns-clause-write_fault
-returns-clause-write_fault g c = λ e. c.respond.ensures.call.write.failed e
+returns-clause-write_fault g c = λ e. c.dispatch.ensures.call.write.failed e
 
 pub returns-clause-begun : goal.returns-clause-begun
-returns-clause-begun g c = λ e. c.respond.ensures.call.begun e
+returns-clause-begun g c = λ e. c.dispatch.ensures.call.begun e
 
 pub returns-clause-usage : goal.returns-clause-usage
-returns-clause-usage g c = usage_only (map string_bytes c.args.words.now) (g.S.Source.rest c.args.source.now) (g.S.Source.rest c.respond.new.source) (g.K.Sink.taken c.args.sink.now) (g.K.Sink.taken c.respond.new.sink) c.respond.result c.respond.ensures.call.output
+returns-clause-usage g c = usage_only (map string_bytes c.args.words.now) (g.S.Source.rest c.args.source.now) (g.S.Source.rest c.dispatch.new.source) (g.K.Sink.taken c.args.sink.now) (g.K.Sink.taken c.dispatch.new.sink) c.dispatch.result c.dispatch.ensures.call.output
 
 pub returns-clause-accepted_is_safe : goal.returns-clause-accepted_is_safe
-returns-clause-accepted_is_safe g c = accepts_safe (map string_bytes c.args.words.now) (g.S.Source.rest c.args.source.now) (g.S.Source.rest c.respond.new.source) (g.K.Sink.taken c.args.sink.now) (g.K.Sink.taken c.respond.new.sink) c.respond.result c.respond.ensures.call.output
+returns-clause-accepted_is_safe g c = accepts_safe (map string_bytes c.args.words.now) (g.S.Source.rest c.args.source.now) (g.S.Source.rest c.dispatch.new.source) (g.K.Sink.taken c.args.sink.now) (g.K.Sink.taken c.dispatch.new.sink) c.dispatch.result c.dispatch.ensures.call.output
 
 pub returns-clause-run : goal.returns-clause-run
-returns-clause-run g c = shows_run (map string_bytes c.args.words.now) (g.S.Source.rest c.args.source.now) (g.S.Source.rest c.respond.new.source) (g.K.Sink.taken c.args.sink.now) (g.K.Sink.taken c.respond.new.sink) c.respond.result c.respond.ensures.call.output
+returns-clause-run g c = shows_run (map string_bytes c.args.words.now) (g.S.Source.rest c.args.source.now) (g.S.Source.rest c.dispatch.new.source) (g.K.Sink.taken c.args.sink.now) (g.K.Sink.taken c.dispatch.new.sink) c.dispatch.result c.dispatch.ensures.call.output
 
 pub returns-clause-printed : goal.returns-clause-printed
-returns-clause-printed g c = shows_tree (map string_bytes c.args.words.now) (g.S.Source.rest c.args.source.now) (g.S.Source.rest c.respond.new.source) (g.K.Sink.taken c.args.sink.now) (g.K.Sink.taken c.respond.new.sink) c.respond.result c.respond.ensures.call.output
+returns-clause-printed g c = shows_tree (map string_bytes c.args.words.now) (g.S.Source.rest c.args.source.now) (g.S.Source.rest c.dispatch.new.source) (g.K.Sink.taken c.args.sink.now) (g.K.Sink.taken c.dispatch.new.sink) c.dispatch.result c.dispatch.ensures.call.output
 
 pub returns-clause-refused : goal.returns-clause-refused
-returns-clause-refused g c = shows_verdict (map string_bytes c.args.words.now) (g.S.Source.rest c.args.source.now) (g.S.Source.rest c.respond.new.source) (g.K.Sink.taken c.args.sink.now) (g.K.Sink.taken c.respond.new.sink) c.respond.result c.respond.ensures.call.output
+returns-clause-refused g c = shows_verdict (map string_bytes c.args.words.now) (g.S.Source.rest c.args.source.now) (g.S.Source.rest c.dispatch.new.source) (g.K.Sink.taken c.args.sink.now) (g.K.Sink.taken c.dispatch.new.sink) c.dispatch.result c.dispatch.ensures.call.output
 
 pub returns-clause-verified : goal.returns-clause-verified
-returns-clause-verified g c = shows_verified (map string_bytes c.args.words.now) (g.S.Source.rest c.args.source.now) (g.S.Source.rest c.respond.new.source) (g.K.Sink.taken c.args.sink.now) (g.K.Sink.taken c.respond.new.sink) c.respond.result c.respond.ensures.call.output
+returns-clause-verified g c = shows_verified (map string_bytes c.args.words.now) (g.S.Source.rest c.args.source.now) (g.S.Source.rest c.dispatch.new.source) (g.K.Sink.taken c.args.sink.now) (g.K.Sink.taken c.dispatch.new.sink) c.dispatch.result c.dispatch.ensures.call.output
 
 pub returns-clause-replayed : goal.returns-clause-replayed
-returns-clause-replayed g c = shows_replay (map string_bytes c.args.words.now) (g.S.Source.rest c.args.source.now) (g.S.Source.rest c.respond.new.source) (g.K.Sink.taken c.args.sink.now) (g.K.Sink.taken c.respond.new.sink) c.respond.result c.respond.ensures.call.output
+returns-clause-replayed g c = shows_replay (map string_bytes c.args.words.now) (g.S.Source.rest c.args.source.now) (g.S.Source.rest c.dispatch.new.source) (g.K.Sink.taken c.args.sink.now) (g.K.Sink.taken c.dispatch.new.sink) c.dispatch.result c.dispatch.ensures.call.output
 
 pub returns-clause-checked : goal.returns-clause-checked
-returns-clause-checked g c = shows_checked (map string_bytes c.args.words.now) (g.S.Source.rest c.args.source.now) (g.S.Source.rest c.respond.new.source) (g.K.Sink.taken c.args.sink.now) (g.K.Sink.taken c.respond.new.sink) c.respond.result c.respond.ensures.call.output
+returns-clause-checked g c = shows_checked (map string_bytes c.args.words.now) (g.S.Source.rest c.args.source.now) (g.S.Source.rest c.dispatch.new.source) (g.K.Sink.taken c.args.sink.now) (g.K.Sink.taken c.dispatch.new.sink) c.dispatch.result c.dispatch.ensures.call.output
 
 pub returns-clause-derived : goal.returns-clause-derived
-returns-clause-derived g c = shows_derived (map string_bytes c.args.words.now) (g.S.Source.rest c.args.source.now) (g.S.Source.rest c.respond.new.source) (g.K.Sink.taken c.args.sink.now) (g.K.Sink.taken c.respond.new.sink) c.respond.result c.respond.ensures.call.output
+returns-clause-derived g c = shows_derived (map string_bytes c.args.words.now) (g.S.Source.rest c.args.source.now) (g.S.Source.rest c.dispatch.new.source) (g.K.Sink.taken c.args.sink.now) (g.K.Sink.taken c.dispatch.new.sink) c.dispatch.result c.dispatch.ensures.call.output

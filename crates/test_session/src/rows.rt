@@ -1,42 +1,21 @@
-ghost use Rattle.std.specs.Prelude.{◌<◌};
-
-use super::pat;
-use super::texts::TEXTS;
+// Texts, with what each command answers.
+use crate::calls::answer;
+use crate::texts::TEXTS;
 use pat_answers::Status;
 use pat_front::Verdict;
-use pat_ports::{MemSink, MemSource, OpenGate};
 use pat_resolver_answers::ResolveKind;
 use pat_syntax::Span;
 use std::alloc::{AllocError, Global};
 use std::process::Abort;
+use std::sync::Wait;
 use std::test::Fail;
+use std::thread::Threads;
 
 const FIRST: &[u8] = b"def main(): Unit { let x = 2 in print(x * 21) }\n";
 
 const FIRST_TEXT: &[u8] = b"%%history\n0 0 2 print\n0 0 0 end\n%%output\nout 42\ndone 4\n";
 
 const USAGE: &[u8] = b"usage: pat check|derive|verify|print|run|replay|load|help\n";
-
-// What a call on these words and this input answers, with ports of these pieces that fail at these calls.
-fn answer(
-    alloc: Global,
-    words: &[&str],
-    input: &[u8],
-    pieces: (usize, usize),
-    failing: (u64, u64),
-) -> Result<(Status, Vec<u8>), Fail>
-    requires source { 0 < pieces.0 }
-    requires sink { 0 < pieces.1 }
-{
-    let mut source = MemSource::new(input.to_vec(alloc)?, pieces.0, vec![in alloc; failing.0]?);
-    let mut sink = MemSink::new(alloc, pieces.1, vec![in alloc; failing.1]?, 8192)?;
-    let mut command = Vec::new(alloc);
-    for word in words {
-        command.push(String::from_str(alloc, word)?)?;
-    }
-    let status = pat(alloc, command.as_slice(), &mut source, &mut sink, &OpenGate);
-    Ok((status, sink.taken().to_vec(alloc)?))
-}
 
 fn bad(offset: u32) -> Status {
     Status::Refused(Verdict::BadText(offset))
@@ -50,8 +29,7 @@ fn broken(kind: ResolveKind, from: u32, to: u32) -> Status {
     Status::Refused(Verdict::Resolve(kind, Span { from, to }))
 }
 
-#[test]
-fn run_rows(rt: HostRuntime) -> Result<(), Fail> {
+pub fn run_rows<R: Abort + Threads + Wait + Sync>(rt: &R, alloc: Global) -> Result<(), Fail> {
     let rows: [(&[u8], Status, &[u8]); 17] = [
         (FIRST, Status::Ok, FIRST_TEXT),
         (
@@ -135,11 +113,10 @@ fn run_rows(rt: HostRuntime) -> Result<(), Fail> {
             b"%%history\n0 0 0 print\n0 0 0 end\n%%output\nout true\ndone 2\n",
         ),
     ];
-    try_rows(&rt, rt.alloc(), "run", &rows)
+    try_rows(rt, alloc, "run", &rows)
 }
 
-#[test]
-fn print_rows(rt: HostRuntime) -> Result<(), Fail> {
+pub fn print_rows<R: Abort + Threads + Wait + Sync>(rt: &R, alloc: Global) -> Result<(), Fail> {
     let rows: [(&[u8], Status, &[u8]); 12] = [
         (
             b"def main():Unit{print((1+2)*3)}",
@@ -203,19 +180,19 @@ fn print_rows(rt: HostRuntime) -> Result<(), Fail> {
             b"syntax error at 0\n",
         ),
     ];
-    try_rows(&rt, rt.alloc(), "print", &rows)
+    try_rows(rt, alloc, "print", &rows)
 }
 
 // Each input, in pieces of 1, 2 and 4,096 bytes.
-fn try_rows(
-    rt: &impl Abort,
+fn try_rows<R: Abort + Threads + Wait + Sync>(
+    rt: &R,
     alloc: Global,
     word: &str,
     rows: &[(&[u8], Status, &[u8])],
 ) -> Result<(), Fail> {
     for (input, status, text) in rows {
         for piece in [1, 2, 4096] {
-            let (came, taken) = answer(alloc, &[word], input, (piece, piece), (0, 0))?;
+            let (came, taken) = answer(rt, alloc, &[word], input, (piece, piece), (0, 0))?;
             assert_eq!(rt; came, *status, "of {:?}", *input);
             assert_eq!(rt; taken.as_slice(), *text, "of {:?}", *input);
         }
@@ -223,20 +200,22 @@ fn try_rows(
     Ok(())
 }
 
-#[test]
-fn each_rule_where_it_is_first_broken(rt: HostRuntime) -> Result<(), Fail> {
-    let alloc = rt.alloc();
+pub fn each_rule_where_it_is_first_broken<R: Abort + Threads + Wait + Sync>(
+    rt: &R,
+    alloc: Global,
+) -> Result<(), Fail> {
     for (input, text) in TEXTS {
-        let (_, taken) = answer(alloc, &["print"], input, (4096, 4096), (0, 0))?;
+        let (_, taken) = answer(rt, alloc, &["print"], input, (4096, 4096), (0, 0))?;
         assert_eq!(rt; taken.as_slice(), *text, "of {:?}", *input);
     }
     Ok(())
 }
 
-#[test]
-fn words_that_are_no_command(rt: HostRuntime) -> Result<(), Fail> {
-    let alloc = rt.alloc();
-    let rows: [&[&str]; 13] = [
+pub fn words_that_are_no_command<R: Abort + Threads + Wait + Sync>(
+    rt: &R,
+    alloc: Global,
+) -> Result<(), Fail> {
+    let rows: [&[&str]; 17] = [
         &[],
         &["run", "run"],
         &["runs"],
@@ -250,20 +229,25 @@ fn words_that_are_no_command(rt: HostRuntime) -> Result<(), Fail> {
         &["run", "--steps", "1", "--steps", "1"],
         &["run", "--steps", "1", "--messages", "1", "--steps", "1"],
         &["run", "--steps", "-1"],
+        &["run", "--workers", "0"],
+        &["run", "--workers", "65"],
+        &["run", "--workers", "2", "--workers", "2"],
+        &["check", "--workers", "2"],
     ];
     for words in rows {
-        let (came, taken) = answer(alloc, words, FIRST, (8, 8), (0, 0))?;
+        let (came, taken) = answer(rt, alloc, words, FIRST, (8, 8), (0, 0))?;
         assert_eq!(rt; came, Status::Usage);
         assert_eq!(rt; taken.as_slice(), USAGE);
     }
     Ok(())
 }
 
-#[test]
-fn runs_with_options(rt: HostRuntime) -> Result<(), Fail> {
-    let alloc = rt.alloc();
+pub fn runs_with_options<R: Abort + Threads + Wait + Sync>(
+    rt: &R,
+    alloc: Global,
+) -> Result<(), Fail> {
     let spent = Status::Budget;
-    let rows: [(&[&str], Status, &[u8]); 5] = [
+    let rows: [(&[&str], Status, &[u8]); 7] = [
         (
             &["run", "--steps", "0"],
             spent,
@@ -285,17 +269,22 @@ fn runs_with_options(rt: HostRuntime) -> Result<(), Fail> {
             Status::Ok,
             FIRST_TEXT,
         ),
+        (&["run", "--workers", "1"], Status::Ok, FIRST_TEXT),
+        (
+            &["run", "--steps", "0", "--workers", "64"],
+            spent,
+            b"%%history\n%%output\nbudget 0\n",
+        ),
     ];
     for (words, status, text) in rows {
-        let (came, taken) = answer(alloc, words, FIRST, (8, 8), (0, 0))?;
+        let (came, taken) = answer(rt, alloc, words, FIRST, (8, 8), (0, 0))?;
         assert_eq!(rt; came, status);
         assert_eq!(rt; taken.as_slice(), text);
     }
     Ok(())
 }
 
-#[test]
-fn replay_rows(rt: HostRuntime) -> Result<(), Fail> {
+pub fn replay_rows<R: Abort + Threads + Wait + Sync>(rt: &R, alloc: Global) -> Result<(), Fail> {
     let rows: [(&[u8], Status, &[u8]); 14] = [
         (
             b"def main(): Unit { () }\n%%history\n",
@@ -364,7 +353,7 @@ fn replay_rows(rt: HostRuntime) -> Result<(), Fail> {
             b"syntax error at 11\n",
         ),
     ];
-    try_rows(&rt, rt.alloc(), "replay", &rows)
+    try_rows(rt, alloc, "replay", &rows)
 }
 
 // A program of so many lets in a row.
@@ -377,9 +366,10 @@ fn lets(alloc: Global, count: usize) -> Result<Vec<u8>, AllocError> {
     Ok(input)
 }
 
-#[test]
-fn an_entry_has_256_steps_at_most(rt: HostRuntime) -> Result<(), Fail> {
-    let alloc = rt.alloc();
+pub fn an_entry_has_256_steps_at_most<R: Abort + Threads + Wait + Sync>(
+    rt: &R,
+    alloc: Global,
+) -> Result<(), Fail> {
     let rows: [(usize, &[u8]); 3] = [
         (
             127,
@@ -396,16 +386,17 @@ fn an_entry_has_256_steps_at_most(rt: HostRuntime) -> Result<(), Fail> {
     ];
     for (count, text) in rows {
         let input = lets(alloc, count)?;
-        let (status, taken) = answer(alloc, &["run"], input.as_slice(), (4096, 4096), (0, 0))?;
+        let (status, taken) = answer(rt, alloc, &["run"], input.as_slice(), (4096, 4096), (0, 0))?;
         assert_eq!(rt; status, Status::Ok, "of {} lets", count);
         assert_eq!(rt; taken.as_slice(), text, "of {} lets", count);
     }
     Ok(())
 }
 
-#[test]
-fn a_program_has_1048576_bytes_at_most(rt: HostRuntime) -> Result<(), Fail> {
-    let alloc = rt.alloc();
+pub fn a_program_has_1048576_bytes_at_most<R: Abort + Threads + Wait + Sync>(
+    rt: &R,
+    alloc: Global,
+) -> Result<(), Fail> {
     let too_long = Status::Refused(Verdict::TooLong);
     for (blanks, status, text) in [
         (1_048_528, Status::Ok, FIRST_TEXT),
@@ -415,19 +406,20 @@ fn a_program_has_1048576_bytes_at_most(rt: HostRuntime) -> Result<(), Fail> {
         for _ in 0..blanks {
             input.push(b' ')?;
         }
-        let (came, taken) = answer(alloc, &["run"], input.as_slice(), (8192, 512), (0, 0))?;
+        let (came, taken) = answer(rt, alloc, &["run"], input.as_slice(), (8192, 512), (0, 0))?;
         assert_eq!(rt; came, status, "with {} blanks", blanks);
         assert_eq!(rt; taken.as_slice(), text, "with {} blanks", blanks);
     }
     Ok(())
 }
 
-#[test]
-fn each_read_and_each_write_fails_in_turn(rt: HostRuntime) -> Result<(), Fail> {
-    let alloc = rt.alloc();
+pub fn each_read_and_each_write_fails_in_turn<R: Abort + Threads + Wait + Sync>(
+    rt: &R,
+    alloc: Global,
+) -> Result<(), Fail> {
     // Pieces of 8: seven reads, the last of which finds the end, and seven writes.
     for call in 1..9u64 {
-        let (status, taken) = answer(alloc, &["run"], FIRST, (8, 8), (call, 0))?;
+        let (status, taken) = answer(rt, alloc, &["run"], FIRST, (8, 8), (call, 0))?;
         let want = if call < 8 {
             Status::ReadFault
         } else {
@@ -437,7 +429,7 @@ fn each_read_and_each_write_fails_in_turn(rt: HostRuntime) -> Result<(), Fail> {
         assert_eq!(rt; taken.is_empty(), call < 8, "at read {}", call);
     }
     for call in 1..9u64 {
-        let (status, taken) = answer(alloc, &["run"], FIRST, (8, 8), (0, call))?;
+        let (status, taken) = answer(rt, alloc, &["run"], FIRST, (8, 8), (0, call))?;
         let (want, count) = if call < 8 {
             (Status::WriteFault, call as usize * 8 - 8)
         } else {
@@ -446,7 +438,7 @@ fn each_read_and_each_write_fails_in_turn(rt: HostRuntime) -> Result<(), Fail> {
         assert_eq!(rt; status, want, "at write {}", call);
         assert_eq!(rt; taken.as_slice(), &FIRST_TEXT[..count], "at write {}", call);
     }
-    let (status, taken) = answer(alloc, &[], FIRST, (8, 8), (0, 2))?;
+    let (status, taken) = answer(rt, alloc, &[], FIRST, (8, 8), (0, 2))?;
     assert_eq!(rt; status, Status::WriteFault);
     assert_eq!(rt; taken.as_slice(), &USAGE[..8]);
     Ok(())

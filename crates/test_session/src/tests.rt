@@ -1,0 +1,18 @@
+use crate::holding::two_workers;
+use crate::rows;
+use std::test::Fail;
+
+#[test]
+fn calls(rt: HostRuntime) -> Result<(), Fail> {
+    let alloc = rt.alloc();
+    rows::run_rows(&rt, alloc)?;
+    rows::print_rows(&rt, alloc)?;
+    rows::each_rule_where_it_is_first_broken(&rt, alloc)?;
+    rows::words_that_are_no_command(&rt, alloc)?;
+    rows::runs_with_options(&rt, alloc)?;
+    rows::replay_rows(&rt, alloc)?;
+    rows::an_entry_has_256_steps_at_most(&rt, alloc)?;
+    rows::a_program_has_1048576_bytes_at_most(&rt, alloc)?;
+    rows::each_read_and_each_write_fails_in_turn(&rt, alloc)?;
+    two_workers(&rt, alloc)
+}
