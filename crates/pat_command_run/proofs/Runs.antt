@@ -18,9 +18,9 @@ use Rattle.pat_machine.specs.Gives.{outcome_view}
 use Rattle.pat_options.specs.declared.options.RunOptions.{RunOptions}
 use Rattle.pat_run.specs.declared.running.Finished.{Finished}
 use Rattle.pat_runners.specs.Runs.{RunGives}
-use Rattle.pat_lines.specs.RunText.{run_text}
 use Rattle.pat_answers.specs.declared.status.Status.{Status}
-use Rattle.pat_command_run.specs.Allowed.{EndsWith, RunsTo, RunShows}
+use Rattle.pat_command_run.specs.declared.command.Detail.{Detail}
+use Rattle.pat_command_run.specs.Allowed.{EndsWith, RunsTo, RunShows, told}
 
 -- each entry of a history that replays has a step
 some_step : (p : Program) (c d : Config) (es : List Entry) (ks : List Step) → option_and_then (λ m. replay_from p m es) (entry_from p c ks) ≡ Some d → 0 < length ks
@@ -56,8 +56,8 @@ pub shown_history : (m : Shown) (h : List CodeEntry) → IsMachine m → h ≡ m
 shown_history m h facts same = subst (λ l. IsHistory (map entry_view l)) (sym same) facts.history
 
 -- a finished run shows its text and its status
-pub run_shows : (program : CodeProgram) (o : RunOptions) (f : Finished) (h : List CodeEntry) (c : CodeConfig) (text : List ℕ) (s : Status) → RunGives program o f → IsMachine f.machine → h ≡ f.machine.history → config_view c ≡ f.machine.config → text ≡ run_text (map entry_view h) (config_view c) (outcome_view f.outcome) → EndsWith (outcome_view f.outcome) s → RunShows (program_view program) o text s
-run_shows program o f h c text s gives facts same config shown ends =
+pub run_shows : (d : Detail) (program : CodeProgram) (o : RunOptions) (f : Finished) (h : List CodeEntry) (c : CodeConfig) (text : List ℕ) (s : Status) → RunGives program o f → IsMachine f.machine → h ≡ f.machine.history → config_view c ≡ f.machine.config → text ≡ told d (map entry_view h) (config_view c) (outcome_view f.outcome) → EndsWith (outcome_view f.outcome) s → RunShows (program_view program) d o text s
+run_shows d program o f h c text s gives facts same config shown ends =
     let own = outcome_view f.outcome in
     let es = entries_of f.machine in (
       own,
@@ -68,6 +68,6 @@ run_shows program o f h c text s gives facts same config shown ends =
         replayed = subst (λ (n : Named). replay (program_view n.program) es ≡ Some f.machine.config) gives.named facts.replayed;
         limited = subst (λ (n : Named). StaysWithin (program_view n.program) n.limit es) gives.named facts.limited;
         run = gives.run;
-        shown = shown ∙ ap (λ l. run_text (map entry_view l) (config_view c) own) same ∙ ap (λ k. run_text es k own) config;
+        shown = shown ∙ ap (λ l. told d (map entry_view l) (config_view c) own) same ∙ ap (λ k. told d es k own) config;
       },
     )

@@ -1,4 +1,4 @@
--- What `run` may answer.
+-- What `run` may answer, and whoever else runs a program.
 use Rattle.std.specs.Prelude.{◌≡◌, ℕ, List, Some}
 use Rattle.pat_model.specs.Programs.{Program}
 use Rattle.pat_model.specs.Configs.{Config}
@@ -6,20 +6,27 @@ use Rattle.pat_model.specs.Runs.{Entry, Outcome, EndDone, EndWaiting, EndFull, E
 use Rattle.pat_commits.specs.Machines.{StaysWithin}
 use Rattle.pat_options.specs.declared.options.RunOptions.{RunOptions}
 use Rattle.pat_runners.specs.Runs.{IsRunWith}
-use Rattle.pat_lines.specs.RunText.{run_text}
+use Rattle.pat_lines.specs.RunText.{run_text, replay_text}
 use Rattle.pat_checked.specs.Inputs.{IsAcceptedText, IsCheckRefusal}
 use Rattle.pat_answers.specs.declared.status.Status.{Status}
 use Rattle.pat_answers.specs.declared.status.Status.TheVariants.{Ok, Refused, Usage, ReadFault, WriteFault, NoMemory, Budget, Waiting, Full}
+use Rattle.pat_command_run.specs.declared.command.Detail.{Detail}
+use Rattle.pat_command_run.specs.declared.command.Detail.TheVariants.{Whole, Summary}
 
--- the text is that of a history that replays, with at most so many pending messages after each of its entries; it is a run by so many
+-- the text that tells so much of a run: all of it, or what it printed and how it ended
+abbrev pub told : Detail → List Entry → Config → Outcome → List ℕ
+told Whole entries c o = run_text entries c o
+told Summary entries c o = replay_text entries c (Some o)
+
+-- the text tells of a history that replays, with at most so many pending messages after each of its entries; it is a run by so many
 -- workers within so many steps, and this is how it ended
-pub record RunsTo (p : Program) (options : RunOptions) (o : Outcome) (text : List ℕ) : Type 0 where
+pub record RunsTo (p : Program) (d : Detail) (options : RunOptions) (o : Outcome) (text : List ℕ) : Type 0 where
   pub entries : List Entry
   pub config : Config
   pub replayed : replay p entries ≡ Some config
   pub limited : StaysWithin p options.messages entries
   pub run : IsRunWith p options entries config o
-  pub shown : text ≡ run_text entries config o
+  pub shown : text ≡ told d entries config o
 
 -- the status of a run that ended so
 abbrev pub EndsWith : Outcome → Status → Type 0
@@ -29,21 +36,21 @@ EndsWith EndWaiting status = status ≡ Waiting
 EndsWith EndFull status = status ≡ Full
 
 -- the text and the status of a run of the program
-abbrev pub RunShows : Program → RunOptions → List ℕ → Status → Type 0
-RunShows p options text status = (o : Outcome) × EndsWith o status × RunsTo p options o text
+abbrev pub RunShows : Program → Detail → RunOptions → List ℕ → Status → Type 0
+RunShows p d options text status = (o : Outcome) × EndsWith o status × RunsTo p d options o text
 
 -- the bytes are the text of a program that is accepted, and these are the text and the status of a run of it
-abbrev pub ShowsOne : RunOptions → List ℕ → List ℕ → Status → Type 0
-ShowsOne options bytes text status = (a : IsAcceptedText bytes) × RunShows a.program options text status
+abbrev pub ShowsOne : Detail → RunOptions → List ℕ → List ℕ → Status → Type 0
+ShowsOne d options bytes text status = (a : IsAcceptedText bytes) × RunShows a.program d options text status
 
--- the text and the status of `run` with these options on these bytes
-abbrev pub AllowedRun : RunOptions → List ℕ → List ℕ → Status → Type 0
-AllowedRun options bytes text Ok = ShowsOne options bytes text Ok
-AllowedRun options bytes text Budget = ShowsOne options bytes text Budget
-AllowedRun options bytes text Waiting = ShowsOne options bytes text Waiting
-AllowedRun options bytes text Full = ShowsOne options bytes text Full
-AllowedRun options bytes text (Refused v) = IsCheckRefusal bytes v text
-AllowedRun options bytes text Usage = ⊥
-AllowedRun options bytes text ReadFault = ⊥
-AllowedRun options bytes text WriteFault = ⊥
-AllowedRun options bytes text NoMemory = ⊥
+-- the text and the status of a run with these options on these bytes, where so much of it is told
+abbrev pub AllowedRun : Detail → RunOptions → List ℕ → List ℕ → Status → Type 0
+AllowedRun d options bytes text Ok = ShowsOne d options bytes text Ok
+AllowedRun d options bytes text Budget = ShowsOne d options bytes text Budget
+AllowedRun d options bytes text Waiting = ShowsOne d options bytes text Waiting
+AllowedRun d options bytes text Full = ShowsOne d options bytes text Full
+AllowedRun d options bytes text (Refused v) = IsCheckRefusal bytes v text
+AllowedRun d options bytes text Usage = ⊥
+AllowedRun d options bytes text ReadFault = ⊥
+AllowedRun d options bytes text WriteFault = ⊥
+AllowedRun d options bytes text NoMemory = ⊥

@@ -1,13 +1,16 @@
 // The run of the program of an input, if it is accepted.
-ghost use Rattle.std.specs.Prelude.{ℕ, List, IfOk};
+ghost use Rattle.std.specs.Prelude.{◌≡◌, ◌<◌, ℕ, List, length, map, IfOk};
 ghost use Rattle.pat_core.specs.Views.{program_view};
 ghost use Rattle.pat_model.specs.WellFormed.{WellFormed};
+ghost use Rattle.pat_model.specs.Runs.{IsHistory};
 ghost use Rattle.pat_typing.specs.Typings.{IsTypable};
+ghost use Rattle.pat_reduce.specs.Views.{config_view, entry_view};
 ghost use Rattle.pat_machine.specs.Gives.{outcome_view};
 ghost use Rattle.pat_options.specs.Options.{IsWithin};
 ghost use Rattle.pat_input.specs.Inputs.{IsRead};
 ghost use Rattle.pat_runners.specs.Runs.{IsRunner};
 ghost use Rattle.pat_checked.specs.Checks.{IsChecked};
+ghost use Rattle.pat_command_run.specs.Allowed as allowed;
 ghost use Rattle.pat_command_run.specs.Allowed.{AllowedRun, RunShows, EndsWith};
 
 use pat_accepted::Accepted;
@@ -16,41 +19,54 @@ use pat_checked::{Checked, check_input};
 use pat_core::Program;
 use pat_derivations::Derivation;
 use pat_input::Input;
+use pat_lines::{replay_text_of, text_of};
 use pat_machine::Outcome;
 use pat_options::RunOptions;
+use pat_reduce::{Config, Entry};
 use pat_run::Finished;
 use std::alloc::{AllocError, Global};
 
-/// What `run` with these options answers on this input, where a program is run so.
+/// How much of a run is told.
+#[derive(Clone, Copy, Debug, PartialEq, Eq)]
+pub enum Detail {
+    /// Its history, what it printed, and how it ended.
+    Whole,
+    /// What it printed, and how it ended.
+    Summary,
+}
+
+/// What a run with these options answers on this input, where a program is run so, and so much of the run is told.
 pub fn answer_run<F: Fn(Accepted, RunOptions) -> Result<Finished, AllocError>>(
     alloc: Global,
     run: &F,
+    detail: Detail,
     options: RunOptions,
     input: Input,
 ) -> Result<Answer, AllocError>
     requires runner { IsRunner (F.pre run.now) (F.post run.now) }
     requires read { (bytes : List ℕ) × IsRead bytes input }
     requires within { IsWithin options }
-    ensures { (bytes : List ℕ) → IsRead bytes input → IfOk result (λ a. AllowedRun options bytes a.text.items a.status) }
+    ensures { (bytes : List ℕ) → IsRead bytes input → IfOk result (λ a. AllowedRun detail options bytes a.text.items a.status) }
 {
     let found = check_input(alloc, input)?;
-    answer_of(alloc, run, options, found)
+    answer_of(alloc, run, detail, options, found)
 }
 
 fn answer_of<F: Fn(Accepted, RunOptions) -> Result<Finished, AllocError>>(
     alloc: Global,
     run: &F,
+    detail: Detail,
     options: RunOptions,
     found: Checked,
 ) -> Result<Answer, AllocError>
     requires runner { IsRunner (F.pre run.now) (F.post run.now) }
     requires checked { (bytes : List ℕ) × IsChecked bytes found }
     requires within { IsWithin options }
-    ensures { (bytes : List ℕ) → IsChecked bytes found → IfOk result (λ a. AllowedRun options bytes a.text.items a.status) }
+    ensures { (bytes : List ℕ) → IsChecked bytes found → IfOk result (λ a. AllowedRun detail options bytes a.text.items a.status) }
 {
     match found {
         Checked::Accepted(program, derivation) => {
-            run_accepted(alloc, run, options, program, derivation)
+            run_accepted(alloc, run, detail, options, program, derivation)
         }
         Checked::Refused(answer) => Ok(answer),
     }
@@ -60,6 +76,7 @@ fn answer_of<F: Fn(Accepted, RunOptions) -> Result<Finished, AllocError>>(
 fn run_accepted<F: Fn(Accepted, RunOptions) -> Result<Finished, AllocError>>(
     alloc: Global,
     run: &F,
+    detail: Detail,
     options: RunOptions,
     program: Program,
     derivation: Derivation,
@@ -68,10 +85,10 @@ fn run_accepted<F: Fn(Accepted, RunOptions) -> Result<Finished, AllocError>>(
     requires well { WellFormed (program_view program) }
     requires typable { IsTypable (program_view program) }
     requires within { IsWithin options }
-    ensures { IfOk result (λ a. RunShows (program_view program) options a.text.items a.status) }
+    ensures { IfOk result (λ a. RunShows (program_view program) detail options a.text.items a.status) }
 {
     let_go(derivation);
-    run_program(alloc, run, options, Accepted::of(program))
+    run_program(alloc, run, detail, options, Accepted::of(program))
 }
 
 fn let_go(_derivation: Derivation) {}
@@ -80,21 +97,40 @@ fn let_go(_derivation: Derivation) {}
 fn run_program<F: Fn(Accepted, RunOptions) -> Result<Finished, AllocError>>(
     alloc: Global,
     run: &F,
+    detail: Detail,
     options: RunOptions,
     accepted: Accepted,
 ) -> Result<Answer, AllocError>
     requires runner { IsRunner (F.pre run.now) (F.post run.now) }
     requires within { IsWithin options }
-    ensures { IfOk result (λ a. RunShows (program_view accepted) options a.text.items a.status) }
+    ensures { IfOk result (λ a. RunShows (program_view accepted) detail options a.text.items a.status) }
 {
     let finished = run(accepted, options)?;
     let config = finished.machine.config()?;
     let entries = finished.machine.history();
-    let text = pat_lines::text_of(alloc, entries, &config, finished.outcome)?;
+    let text = told(alloc, detail, entries, &config, finished.outcome)?;
     Ok(Answer {
         text,
         status: status_of(finished.outcome),
     })
+}
+
+// The text that tells so much of a run.
+fn told(
+    alloc: Global,
+    detail: Detail,
+    entries: &[Entry],
+    config: &Config,
+    outcome: Outcome,
+) -> Result<Vec<u8>, AllocError>
+    requires history { IsHistory (map entry_view entries.now) }
+    requires few { length entries.now < 4294967296 }
+    ensures { IfOk result (λ t. t.items ≡ allowed.told detail (map entry_view entries.now) (config_view config.now) (outcome_view outcome)) }
+{
+    match detail {
+        Detail::Whole => text_of(alloc, entries, config, outcome),
+        Detail::Summary => replay_text_of(alloc, entries, config, Some(outcome)),
+    }
 }
 
 fn status_of(outcome: Outcome) -> Status

@@ -3,4 +3,4 @@
 
 mod command;
 
-pub use command::answer_run;
+pub use command::{Detail, answer_run};

@@ -136,8 +136,8 @@ fn with_messages(choice: Choice, number: Option<u32>) -> Option<Choice>
     }
 }
 
-// The number that one to seven decimal digits spell.
-fn number_of(word: &[u8]) -> Option<u32>
+/// The number that one to seven decimal digits spell. None where the word is no such number.
+pub fn number_of(word: &[u8]) -> Option<u32>
     ensures { result ≡ chosen.number_of word.now }
 {
     if 1 <= word.len() && word.len() <= 7 {

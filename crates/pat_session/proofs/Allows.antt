@@ -2,105 +2,82 @@
 use Rattle.std.proofs.Common.{◌≡◌, ◌≤◌, ℕ, List, [], ◌∷◌, length, Option, Some, refl, sym, ap, ◌∙◌, subst, ⊎_elim, arith}
 use Rattle.std.specs.Io.KnownBytes.{Appends}
 use Rattle.pat_ports.specs.Bytes.{AppendsFront}
-use Rattle.pat_input.specs.Inputs.{IsInput, IsInputWithin}
+use Rattle.pat_input.specs.Inputs.{IsInput, limit, whole_limit}
+use Rattle.pat_load.specs.LoadText.{load_text}
 use Rattle.pat_front.specs.declared.verdict.Verdict.{Verdict}
 use Rattle.pat_answers.specs.declared.status.Status.{Status}
 use Rattle.pat_answers.specs.declared.status.Status.TheVariants.{Ok, Refused, Usage, ReadFault, WriteFault, NoMemory, Budget, Waiting, Full}
 use Rattle.pat_session.specs.declared.words.Command.{Command}
-use Rattle.pat_session.specs.declared.words.Command.TheVariants.{Check, Derive, Print, Run, Replay, Verify}
+use Rattle.pat_session.specs.declared.words.Command.TheVariants.{Check, Derive, Print, Run, Replay, Verify, Load, Help}
 use Rattle.pat_session.specs.Ports.{IsCutShort, Written}
 use Rattle.pat_answers.specs.Answers.{IsStatusWithin}
 use Rattle.pat_command_print.specs.Allowed.{AllowedPrint}
 use Rattle.pat_command_print.proofs.Statuses.{print_status}
 use Rattle.pat_options.specs.declared.options.RunOptions.{RunOptions}
-use Rattle.pat_options.specs.Options.{options_of}
 use Rattle.pat_checked.specs.Inputs.{IsAcceptedText}
 use Rattle.pat_command_check.specs.Allowed.{AllowedCheck}
 use Rattle.pat_command_check.proofs.Statuses.{check_status}
 use Rattle.pat_command_derive.specs.Allowed.{AllowedDerive}
 use Rattle.pat_command_derive.proofs.Statuses.{derive_status}
+use Rattle.pat_command_run.specs.declared.command.Detail.TheVariants.{Whole, Summary}
 use Rattle.pat_command_run.specs.Allowed.{RunShows, ShowsOne, AllowedRun}
+use Rattle.pat_command_load.specs.Allowed.{AllowedLoad}
+use Rattle.pat_command_load.proofs.Statuses.{load_status}
 use Rattle.pat_command_run.proofs.Statuses.{run_status}
 use Rattle.pat_command_replay.specs.Allowed.{AllowedReplay}
 use Rattle.pat_command_replay.proofs.Statuses.{replay_status}
 use Rattle.pat_command_verify.specs.Allowed.{AllowedVerify}
 use Rattle.pat_command_verify.proofs.Statuses.{verify_status}
-use Rattle.pat_session.specs.Allowed.{IsCommand, HasCommand, AllowedTo, limit_of, Allowed, usage_line}
+use Rattle.pat_session.specs.Allowed.{IsCommand, HasCommand, HasInput, Takes, AllowedTo, limit_of, Allowed, usage_line}
 use Rattle.pat_session.specs.Calls.{ReadsAll}
-use Rattle.pat_session.specs.Answers.{Completes, BreaksOff, Begins, Answers, IsAccepted, AcceptsSafe, ShowsChecked, ShowsDerived, ShowsRun, ShowsTree, ShowsReplay, ShowsVerified, ShowsVerdict}
-
--- ---- words
-
-abbrev pub first_length : List (List ℕ) → ℕ
-first_length [] = 0
-first_length (w ∷ ws) = length w
-
--- the first byte of the first word
-abbrev byte_of : List ℕ → ℕ
-byte_of [] = 0
-byte_of (b ∷ bs) = b
-
-abbrev first_byte : List (List ℕ) → ℕ
-first_byte [] = 0
-first_byte (w ∷ ws) = byte_of w
-
-abbrev pub rest_words : List (List ℕ) → List (List ℕ)
-rest_words [] = []
-rest_words (w ∷ ws) = ws
-
--- words are one command at most
-one_command : (words : List (List ℕ)) (c d : Command) → IsCommand c words → IsCommand d words → c ≡ d
-one_command words Print Print p q = refl
-one_command words Replay Replay p q = refl
-one_command words (Run o) (Run u) p q =
-    let rest : p.0 ≡ q.0 = ap rest_words (sym p.1 ∙ q.1) in
-    let both : Some o ≡ Some u = sym p.2 ∙ ap options_of rest ∙ q.2 in
-    let same : o ≡ u = cc in
-    ap (λ (k : RunOptions). Run k) same
-one_command words Print (Run o) p q = let clash : 5 ≡ 3 = ap first_length (sym p ∙ q.1) in absurd (omega (arith, clash))
-one_command words Print Replay p q = let clash : 5 ≡ 6 = ap first_length (sym p ∙ q) in absurd (omega (arith, clash))
-one_command words (Run o) Print p q = let clash : 3 ≡ 5 = ap first_length (sym p.1 ∙ q) in absurd (omega (arith, clash))
-one_command words (Run o) Replay p q = let clash : 3 ≡ 6 = ap first_length (sym p.1 ∙ q) in absurd (omega (arith, clash))
-one_command words Replay Print p q = let clash : 6 ≡ 5 = ap first_length (sym p ∙ q) in absurd (omega (arith, clash))
-one_command words Replay (Run o) p q = let clash : 6 ≡ 3 = ap first_length (sym p ∙ q.1) in absurd (omega (arith, clash))
-one_command words Verify Verify p q = refl
-one_command words Print Verify p q = let clash : 5 ≡ 6 = ap first_length (sym p ∙ q) in absurd (omega (arith, clash))
-one_command words (Run o) Verify p q = let clash : 3 ≡ 6 = ap first_length (sym p.1 ∙ q) in absurd (omega (arith, clash))
-one_command words Verify Print p q = let clash : 6 ≡ 5 = ap first_length (sym p ∙ q) in absurd (omega (arith, clash))
-one_command words Verify (Run o) p q = let clash : 6 ≡ 3 = ap first_length (sym p ∙ q.1) in absurd (omega (arith, clash))
-one_command words Replay Verify p q = let clash : 114 ≡ 118 = ap first_byte (sym p ∙ q) in absurd (omega (arith, clash))
-one_command words Verify Replay p q = let clash : 118 ≡ 114 = ap first_byte (sym p ∙ q) in absurd (omega (arith, clash))
-one_command words Check Check p q = refl
-one_command words Derive Derive p q = refl
-one_command words Check Derive p q = let clash : 5 ≡ 6 = ap first_length (sym p ∙ q) in absurd (omega (arith, clash))
-one_command words Check Print p q = let clash : 99 ≡ 112 = ap first_byte (sym p ∙ q) in absurd (omega (arith, clash))
-one_command words Print Check p q = let clash : 112 ≡ 99 = ap first_byte (sym p ∙ q) in absurd (omega (arith, clash))
-one_command words Check (Run o) p q = let clash : 5 ≡ 3 = ap first_length (sym p ∙ q.1) in absurd (omega (arith, clash))
-one_command words (Run o) Check p q = let clash : 3 ≡ 5 = ap first_length (sym p.1 ∙ q) in absurd (omega (arith, clash))
-one_command words Check Replay p q = let clash : 5 ≡ 6 = ap first_length (sym p ∙ q) in absurd (omega (arith, clash))
-one_command words Replay Check p q = let clash : 6 ≡ 5 = ap first_length (sym p ∙ q) in absurd (omega (arith, clash))
-one_command words Check Verify p q = let clash : 5 ≡ 6 = ap first_length (sym p ∙ q) in absurd (omega (arith, clash))
-one_command words Verify Check p q = let clash : 6 ≡ 5 = ap first_length (sym p ∙ q) in absurd (omega (arith, clash))
-one_command words Derive Check p q = let clash : 6 ≡ 5 = ap first_length (sym p ∙ q) in absurd (omega (arith, clash))
-one_command words Derive Print p q = let clash : 6 ≡ 5 = ap first_length (sym p ∙ q) in absurd (omega (arith, clash))
-one_command words Print Derive p q = let clash : 5 ≡ 6 = ap first_length (sym p ∙ q) in absurd (omega (arith, clash))
-one_command words Derive (Run o) p q = let clash : 6 ≡ 3 = ap first_length (sym p ∙ q.1) in absurd (omega (arith, clash))
-one_command words (Run o) Derive p q = let clash : 3 ≡ 6 = ap first_length (sym p.1 ∙ q) in absurd (omega (arith, clash))
-one_command words Derive Replay p q = let clash : 100 ≡ 114 = ap first_byte (sym p ∙ q) in absurd (omega (arith, clash))
-one_command words Replay Derive p q = let clash : 114 ≡ 100 = ap first_byte (sym p ∙ q) in absurd (omega (arith, clash))
-one_command words Derive Verify p q = let clash : 100 ≡ 118 = ap first_byte (sym p ∙ q) in absurd (omega (arith, clash))
-one_command words Verify Derive p q = let clash : 118 ≡ 100 = ap first_byte (sym p ∙ q) in absurd (omega (arith, clash))
+use Rattle.pat_session.specs.Answers.{Completes, BreaksOff, Begins, Answers, IsAccepted, AcceptsSafe, ShowsChecked, ShowsDerived, ShowsLoad, ShowsRun, ShowsTree, ShowsReplay, ShowsVerified, ShowsVerdict}
+use Rattle.pat_session.proofs.OneCommand.{one_command}
 
 -- ---- statuses
 
+-- a status that a command may answer
+abbrev IsCommands : Status → Type 0
+IsCommands Usage = ⊥
+IsCommands ReadFault = ⊥
+IsCommands WriteFault = ⊥
+IsCommands NoMemory = ⊥
+IsCommands _ = Unit {0}
+
+of_input : (most : ℕ) (bytes : List ℕ) (s : Status) → IsStatusWithin most bytes s → IsCommands s
+of_input most bytes Ok is = tt
+of_input most bytes Budget is = tt
+of_input most bytes Waiting is = tt
+of_input most bytes Full is = tt
+of_input most bytes (Refused v) is = tt
+of_input most bytes Usage is = absurd is
+of_input most bytes ReadFault is = absurd is
+of_input most bytes WriteFault is = absurd is
+of_input most bytes NoMemory is = absurd is
+
+of_ok : (s : Status) → s ≡ Ok → IsCommands s
+of_ok s is = subst IsCommands (sym is) tt
+
 -- what is allowed of a command has a command's status
-pub command_status : (c : Command) (bytes text : List ℕ) (s : Status) → AllowedTo c bytes text s → IsStatusWithin (limit_of c) bytes s
-command_status Check bytes text s a = check_status bytes text s a
-command_status Derive bytes text s a = derive_status bytes text s a
-command_status Print bytes text s a = print_status bytes text s a
-command_status (Run o) bytes text s a = run_status o bytes text s a
-command_status Replay bytes text s a = replay_status bytes text s a
-command_status Verify bytes text s a = verify_status bytes text s a
+command_status : (c : Command) (bytes text : List ℕ) (s : Status) → AllowedTo c bytes text s → IsCommands s
+command_status Check bytes text s a = of_input limit bytes s (check_status bytes text s a)
+command_status Derive bytes text s a = of_input limit bytes s (derive_status bytes text s a)
+command_status Print bytes text s a = of_input limit bytes s (print_status bytes text s a)
+command_status (Run o) bytes text s a = of_input limit bytes s (run_status Whole o bytes text s a)
+command_status Replay bytes text s a = of_input whole_limit bytes s (replay_status bytes text s a)
+command_status Verify bytes text s a = of_input whole_limit bytes s (verify_status bytes text s a)
+command_status (Load n o) bytes text s a = of_input limit (load_text n) s (load_status n o text s a)
+command_status Help bytes text s a = of_ok s a.0
+
+-- and where the command has an input, the status is one that its bytes allow
+pub input_status : (c : Command) (bytes text : List ℕ) (s : Status) → HasInput c → AllowedTo c bytes text s → IsStatusWithin (limit_of c) bytes s
+input_status Check bytes text s has a = check_status bytes text s a
+input_status Derive bytes text s has a = derive_status bytes text s a
+input_status Print bytes text s has a = print_status bytes text s a
+input_status (Run o) bytes text s has a = run_status Whole o bytes text s a
+input_status Replay bytes text s has a = replay_status bytes text s a
+input_status Verify bytes text s has a = verify_status bytes text s a
+input_status (Load n o) bytes text s has a = absurd has
+input_status Help bytes text s has a = absurd has
 
 -- so it is no fault
 pub not_a_write_fault : (c : Command) (bytes text : List ℕ) (s : Status) → AllowedTo c bytes text s → s ≡ WriteFault → ⊥
@@ -135,8 +112,8 @@ of_command words c bytes text Full command a = (c, command, a)
 
 module _ (words : List (List ℕ)) (had left old new : Option (List ℕ)) where
   -- the input is that of the command, whichever the words are
-  same_input : (c : Command) (bytes : List ℕ) → IsInputWithin (limit_of c) had left bytes → IsCommand c words → (d : Command) → IsCommand d words → IsInputWithin (limit_of d) had left bytes
-  same_input c bytes input command d other = subst (λ e. IsInputWithin (limit_of e) had left bytes) (one_command words c d command other) input
+  same_input : (c : Command) (bytes : List ℕ) → Takes c had left bytes → IsCommand c words → (d : Command) → IsCommand d words → Takes d had left bytes
+  same_input c bytes input command d other = subst (λ e. Takes e had left bytes) (one_command words c d command other) input
 
   -- what was written whole is answered
   completed : (s : Status) → Completes words had left old new s → Answers words had left old new s
@@ -151,14 +128,14 @@ module _ (words : List (List ℕ)) (had left old new : Option (List ℕ)) where
   completed NoMemory c = let a = c.allowed in absurd (command_status a.0 c.bytes c.text NoMemory a.2)
 
   -- what was written, whole or not, is answered
-  answered : (bytes text : List ℕ) (s result : Status) → ((c : Command) → IsCommand c words → IsInputWithin (limit_of c) had left bytes) → Allowed words bytes text s → Written old new text s result → Answers words had left old new result
+  answered : (bytes text : List ℕ) (s result : Status) → ((c : Command) → IsCommand c words → Takes c had left bytes) → Allowed words bytes text s → Written old new text s result → Answers words had left old new result
   answered bytes text s result input allowed written =
       ⊎_elim
       (λ (w : (result ≡ s) × Appends old new text). subst (λ k. Answers words had left old new k) (sym w.0) (completed s (record { bytes = bytes; text = text; input = input; allowed = allowed; written = w.1 })))
       (λ (w : (result ≡ WriteFault) × IsCutShort old new text). let cut : BreaksOff words had left old new = record { bytes = bytes; text = text; status = s; input = input; allowed = allowed; cut = w.1 } in subst (λ k. Answers words had left old new k) (sym w.0) cut)
       written
 
-  pub answered_command : (c : Command) (bytes text : List ℕ) (s result : Status) → IsInputWithin (limit_of c) had left bytes → AllowedTo c bytes text s → Written old new text s result → IsCommand c words → Answers words had left old new result
+  pub answered_command : (c : Command) (bytes text : List ℕ) (s result : Status) → Takes c had left bytes → AllowedTo c bytes text s → Written old new text s result → IsCommand c words → Answers words had left old new result
   answered_command c bytes text s result input allowed written command =
       answered bytes text s result (same_input c bytes input command) (of_command words c bytes text s command allowed) written
 
@@ -166,7 +143,7 @@ module _ (words : List (List ℕ)) (had left old new : Option (List ℕ)) where
   answered_usage result none written = answered [] usage_line Usage result (λ c command. absurd (none (c, command))) (none, refl) written
 
   -- of what was written, a front was handed over
-  pub begun_command : (c : Command) (bytes text : List ℕ) (s : Status) → IsInputWithin (limit_of c) had left bytes → AllowedTo c bytes text s → IsCommand c words → AppendsFront old new text → Begins words had left old new
+  pub begun_command : (c : Command) (bytes text : List ℕ) (s : Status) → Takes c had left bytes → AllowedTo c bytes text s → IsCommand c words → AppendsFront old new text → Begins words had left old new
   begun_command c bytes text s input allowed command begun = record { bytes = bytes; text = text; status = s; input = same_input c bytes input command; allowed = of_command words c bytes text s command allowed; begun = begun }
 
   pub begun_usage : (HasCommand words → ⊥) → AppendsFront old new usage_line → Begins words had left old new
@@ -218,7 +195,7 @@ module _ (words : List (List ℕ)) (had left old new : Option (List ℕ)) where
   -- ---- run
 
   -- what is allowed of a run command is allowed of `run`
-  is_run : (o : RunOptions) (c : Command) (bytes text : List ℕ) (s : Status) → IsCommand (Run o) words → IsCommand c words → AllowedTo c bytes text s → AllowedRun o bytes text s
+  is_run : (o : RunOptions) (c : Command) (bytes text : List ℕ) (s : Status) → IsCommand (Run o) words → IsCommand c words → AllowedTo c bytes text s → AllowedRun Whole o bytes text s
   is_run o c bytes text s run command a = subst (λ d. AllowedTo d bytes text s) (one_command words c (Run o) command run) a
 
   safe_input : (bytes : List ℕ) → IsInput had left bytes → (r : IsAcceptedText bytes) → AcceptsSafe had left
@@ -232,7 +209,7 @@ module _ (words : List (List ℕ)) (had left old new : Option (List ℕ)) where
     safe = r.safe;
   }
 
-  shown_run : (o : RunOptions) (s : Status) (bytes text : List ℕ) → IsInput had left bytes → (r : IsAcceptedText bytes) → RunShows r.program o text s → Appends old new text → ShowsRun o had left old new s
+  shown_run : (o : RunOptions) (s : Status) (bytes text : List ℕ) → IsInput had left bytes → (r : IsAcceptedText bytes) → RunShows r.program Whole o text s → Appends old new text → ShowsRun o had left old new s
   shown_run o s bytes text input r shows written = record {
     bytes = bytes;
     tree = r.tree;
@@ -251,7 +228,7 @@ module _ (words : List (List ℕ)) (had left old new : Option (List ℕ)) where
     bytes : List ℕ
     text : List ℕ
     input : IsInput had left bytes
-    shows : ShowsOne o bytes text s
+    shows : ShowsOne Whole o bytes text s
     written : Appends old new text
 
   was_run : (o : RunOptions) (s : Status) → IsCommand (Run o) words → Answers words had left old new s → IsAccepted s → WasRun o s
@@ -272,6 +249,26 @@ module _ (words : List (List ℕ)) (had left old new : Option (List ℕ)) where
   -- and shows its run
   pub shows_run : (s : Status) → Answers words had left old new s → (o : RunOptions) → IsCommand (Run o) words → IsAccepted s → ShowsRun o had left old new s
   shows_run s a o run is = let w = was_run o s run a is in shown_run o s w.bytes w.text w.input w.shows.0 w.shows.1 w.written
+
+  -- ---- load
+
+  is_load : (n : ℕ) (o : RunOptions) (c : Command) (bytes text : List ℕ) (s : Status) → IsCommand (Load n o) words → IsCommand c words → AllowedTo c bytes text s → AllowedLoad n o text s
+  is_load n o c bytes text s load command a = subst (λ d. AllowedTo d bytes text s) (one_command words c (Load n o) command load) a
+
+  shown_load : (n : ℕ) (o : RunOptions) (s : Status) (text : List ℕ) → ShowsOne Summary o (load_text n) text s → Appends old new text → ShowsLoad n o old new s
+  shown_load n o s text shows written = record { accepted = shows.0; text = text; shown = shows.1; written = written }
+
+  -- what is accepted is a run of the generated program
+  pub shows_load : (s : Status) → Answers words had left old new s → (n : ℕ) (o : RunOptions) → IsCommand (Load n o) words → IsAccepted s → ShowsLoad n o old new s
+  shows_load Ok c n o load is = let k = c.allowed in shown_load n o Ok c.text (is_load n o k.0 c.bytes c.text Ok load k.1 k.2) c.written
+  shows_load Budget c n o load is = let k = c.allowed in shown_load n o Budget c.text (is_load n o k.0 c.bytes c.text Budget load k.1 k.2) c.written
+  shows_load Waiting c n o load is = let k = c.allowed in shown_load n o Waiting c.text (is_load n o k.0 c.bytes c.text Waiting load k.1 k.2) c.written
+  shows_load Full c n o load is = let k = c.allowed in shown_load n o Full c.text (is_load n o k.0 c.bytes c.text Full load k.1 k.2) c.written
+  shows_load (Refused v) c n o load is = absurd is
+  shows_load Usage c n o load is = absurd is
+  shows_load ReadFault c n o load is = absurd is
+  shows_load WriteFault c n o load is = absurd is
+  shows_load NoMemory c n o load is = absurd is
 
   -- ---- replay
 

@@ -6,21 +6,23 @@ use Rattle.pat_ports.specs.declared.reach.Reach.{Reach}
 use Rattle.pat_ports.specs.Ends.{EndsThere}
 use Rattle.pat_input.specs.declared.reading.Input.{Input}
 use Rattle.pat_input.specs.declared.reading.Input.TheVariants.{TooLong}
-use Rattle.pat_input.specs.Inputs.{IsInput, IsInputWithin, IsRead, limit}
+use Rattle.pat_input.specs.Inputs.{IsInput, IsRead, limit}
 use Rattle.pat_answers.specs.declared.answer.Answer.{Answer}
 use Rattle.pat_command_check.specs.Allowed.{AllowedCheck}
 use Rattle.pat_command_derive.specs.Allowed.{AllowedDerive}
 use Rattle.pat_command_print.specs.Allowed.{AllowedPrint}
 use Rattle.pat_options.specs.declared.options.RunOptions.{RunOptions}
 use Rattle.pat_options.specs.Options.{IsWithin}
+use Rattle.pat_command_load.specs.Allowed.{AllowedLoad}
+use Rattle.pat_command_run.specs.declared.command.Detail.TheVariants.{Whole}
 use Rattle.pat_command_run.specs.Allowed.{AllowedRun}
 use Rattle.pat_command_replay.specs.Allowed.{AllowedReplay}
 use Rattle.pat_command_verify.specs.Allowed.{AllowedVerify}
 use Rattle.pat_session.specs.declared.commands.Asked.{Asked}
 use Rattle.pat_session.specs.declared.commands.Asked.TheVariants as asked
 use Rattle.pat_session.specs.declared.words.Command.{Command}
-use Rattle.pat_session.specs.declared.words.Command.TheVariants.{Check, Derive, Print, Run, Replay, Verify}
-use Rattle.pat_session.specs.Allowed.{AllowedTo, limit_of}
+use Rattle.pat_session.specs.declared.words.Command.TheVariants.{Check, Derive, Print, Run, Replay, Verify, Load, Help}
+use Rattle.pat_session.specs.Allowed.{HasInput, Takes, AllowedTo, limit_of}
 use Rattle.pat_session.specs.Asking.{Asks, IsAsked}
 
 -- ---- what is answered
@@ -36,6 +38,8 @@ module _ {E : Type 0} (c : Command) (bytes : List ℕ) (r : Result Answer E) whe
       go (Run o) h = absurd h
       go Replay h = absurd h
       go Verify h = absurd h
+      go (Load n u) h = absurd h
+      go Help h = absurd h
 
   pub of_derive : (input : Input) → Asks c bytes (asked.Derive input) → (IsRead bytes input → IfOk r (λ a. AllowedDerive bytes a.text.items a.status)) → IfOk r (λ a. AllowedTo c bytes a.text.items a.status)
   of_derive input asks answer = go c asks
@@ -47,6 +51,8 @@ module _ {E : Type 0} (c : Command) (bytes : List ℕ) (r : Result Answer E) whe
       go (Run o) h = absurd h
       go Replay h = absurd h
       go Verify h = absurd h
+      go (Load n u) h = absurd h
+      go Help h = absurd h
 
   pub of_print : (input : Input) → Asks c bytes (asked.Print input) → (IsRead bytes input → IfOk r (λ a. AllowedPrint bytes a.text.items a.status)) → IfOk r (λ a. AllowedTo c bytes a.text.items a.status)
   of_print input asks answer = go c asks
@@ -58,17 +64,21 @@ module _ {E : Type 0} (c : Command) (bytes : List ℕ) (r : Result Answer E) whe
       go (Run o) h = absurd h
       go Replay h = absurd h
       go Verify h = absurd h
+      go (Load n u) h = absurd h
+      go Help h = absurd h
 
-  pub of_run : (options : RunOptions) (input : Input) → Asks c bytes (asked.Run options input) → (IsRead bytes input → IfOk r (λ a. AllowedRun options bytes a.text.items a.status)) → IfOk r (λ a. AllowedTo c bytes a.text.items a.status)
+  pub of_run : (options : RunOptions) (input : Input) → Asks c bytes (asked.Run options input) → (IsRead bytes input → IfOk r (λ a. AllowedRun Whole options bytes a.text.items a.status)) → IfOk r (λ a. AllowedTo c bytes a.text.items a.status)
   of_run options input asks answer = go c asks
     where
       go : (d : Command) → Asks d bytes (asked.Run options input) → IfOk r (λ a. AllowedTo d bytes a.text.items a.status)
       go Check h = absurd h
       go Derive h = absurd h
       go Print h = absurd h
-      go (Run o) h = subst (λ k. IfOk r (λ a. AllowedRun k bytes a.text.items a.status)) (sym h.0) (answer h.2)
+      go (Run o) h = subst (λ k. IfOk r (λ a. AllowedRun Whole k bytes a.text.items a.status)) (sym h.0) (answer h.2)
       go Replay h = absurd h
       go Verify h = absurd h
+      go (Load n u) h = absurd h
+      go Help h = absurd h
 
   pub of_replay : (read : Vec ℕ Global) → Asks c bytes (asked.Replay read) → IfOk r (λ a. AllowedReplay read.items a.text.items a.status) → IfOk r (λ a. AllowedTo c bytes a.text.items a.status)
   of_replay read asks answer = go c asks
@@ -80,6 +90,8 @@ module _ {E : Type 0} (c : Command) (bytes : List ℕ) (r : Result Answer E) whe
       go (Run o) h = absurd h
       go Replay h = subst (λ l. IfOk r (λ a. AllowedReplay l a.text.items a.status)) h answer
       go Verify h = absurd h
+      go (Load n u) h = absurd h
+      go Help h = absurd h
 
   pub of_verify : (read : Vec ℕ Global) → Asks c bytes (asked.Verify read) → IfOk r (λ a. AllowedVerify read.items a.text.items a.status) → IfOk r (λ a. AllowedTo c bytes a.text.items a.status)
   of_verify read asks answer = go c asks
@@ -91,6 +103,23 @@ module _ {E : Type 0} (c : Command) (bytes : List ℕ) (r : Result Answer E) whe
       go (Run o) h = absurd h
       go Replay h = absurd h
       go Verify h = subst (λ l. IfOk r (λ a. AllowedVerify l a.text.items a.status)) h answer
+      go (Load n u) h = absurd h
+      go Help h = absurd h
+
+  pub of_load : (size : ℕ) (options : RunOptions) → Asks c bytes (asked.Load size options) → IfOk r (λ a. AllowedLoad size options a.text.items a.status) → IfOk r (λ a. AllowedTo c bytes a.text.items a.status)
+  of_load size options asks answer = go c asks
+    where
+      go : (d : Command) → Asks d bytes (asked.Load size options) → IfOk r (λ a. AllowedTo d bytes a.text.items a.status)
+      go Check h = absurd h
+      go Derive h = absurd h
+      go Print h = absurd h
+      go (Run o) h = absurd h
+      go Replay h = absurd h
+      go Verify h = absurd h
+      go (Load n o) h =
+          subst (λ k. IfOk r (λ a. AllowedLoad k o a.text.items a.status)) (sym h.0)
+          (subst (λ u. IfOk r (λ a. AllowedLoad size u a.text.items a.status)) (sym h.1) answer)
+      go Help h = absurd h
 
 -- what a command asks was read as its input
 pub check_read : (input : Input) → IsAsked (asked.Check input) → (bytes : List ℕ) × IsRead bytes input
@@ -100,6 +129,8 @@ check_read input (Print, bytes, h) = absurd h
 check_read input (Run o, bytes, h) = absurd h
 check_read input (Replay, bytes, h) = absurd h
 check_read input (Verify, bytes, h) = absurd h
+check_read input (Load n o, bytes, h) = absurd h
+check_read input (Help, bytes, h) = absurd h
 
 pub derive_read : (input : Input) → IsAsked (asked.Derive input) → (bytes : List ℕ) × IsRead bytes input
 derive_read input (Check, bytes, h) = absurd h
@@ -108,6 +139,8 @@ derive_read input (Print, bytes, h) = absurd h
 derive_read input (Run o, bytes, h) = absurd h
 derive_read input (Replay, bytes, h) = absurd h
 derive_read input (Verify, bytes, h) = absurd h
+derive_read input (Load n o, bytes, h) = absurd h
+derive_read input (Help, bytes, h) = absurd h
 
 pub print_read : (input : Input) → IsAsked (asked.Print input) → (bytes : List ℕ) × IsRead bytes input
 print_read input (Check, bytes, h) = absurd h
@@ -116,6 +149,8 @@ print_read input (Print, bytes, h) = (bytes, h)
 print_read input (Run o, bytes, h) = absurd h
 print_read input (Replay, bytes, h) = absurd h
 print_read input (Verify, bytes, h) = absurd h
+print_read input (Load n o, bytes, h) = absurd h
+print_read input (Help, bytes, h) = absurd h
 
 pub run_read : (options : RunOptions) (input : Input) → IsAsked (asked.Run options input) → (bytes : List ℕ) × IsRead bytes input
 run_read options input (Check, bytes, h) = absurd h
@@ -124,6 +159,8 @@ run_read options input (Print, bytes, h) = absurd h
 run_read options input (Run o, bytes, h) = (bytes, h.2)
 run_read options input (Replay, bytes, h) = absurd h
 run_read options input (Verify, bytes, h) = absurd h
+run_read options input (Load n o, bytes, h) = absurd h
+run_read options input (Help, bytes, h) = absurd h
 
 -- and its options have their bounds
 pub run_within : (options : RunOptions) (input : Input) → IsAsked (asked.Run options input) → IsWithin options
@@ -133,6 +170,19 @@ run_within options input (Print, bytes, h) = absurd h
 run_within options input (Run o, bytes, h) = h.1
 run_within options input (Replay, bytes, h) = absurd h
 run_within options input (Verify, bytes, h) = absurd h
+run_within options input (Load n o, bytes, h) = absurd h
+run_within options input (Help, bytes, h) = absurd h
+
+-- what is asked of a load has its bounds
+pub load_within : (size : ℕ) (options : RunOptions) → IsAsked (asked.Load size options) → (size ≤ 1000) × IsWithin options
+load_within size options (Check, bytes, h) = absurd h
+load_within size options (Derive, bytes, h) = absurd h
+load_within size options (Print, bytes, h) = absurd h
+load_within size options (Run o, bytes, h) = absurd h
+load_within size options (Replay, bytes, h) = absurd h
+load_within size options (Verify, bytes, h) = absurd h
+load_within size options (Load n o, bytes, h) = (h.2, h.3)
+load_within size options (Help, bytes, h) = absurd h
 
 -- ---- what is read
 
@@ -142,17 +192,17 @@ small_input bytes input read small is = let long = subst (IsRead bytes) is read 
 
 -- what is asked of a read input
 abbrev pub ReadAs : Command → Option (List ℕ) → Option (List ℕ) → Option Reach → Option Reach → Asked → Type 0
-ReadAs c had left before now a = (bytes : List ℕ) × IsInputWithin (limit_of c) had left bytes × Asks c bytes a × (length bytes ≤ limit_of c → EndsThere before now)
+ReadAs c had left before now a = (bytes : List ℕ) × Takes c had left bytes × Asks c bytes a × (HasInput c → length bytes ≤ limit_of c → EndsThere before now)
 
 module _ (had left : Option (List ℕ)) (before now : Option Reach) where
   pub reads_check : (input : Input) → ((bytes : List ℕ) × IsInput had left bytes × IsRead bytes input) → (input ≢ TooLong → EndsThere before now) → ReadAs Check had left before now (asked.Check input)
-  reads_check input (bytes, own, read) there = (bytes, own, read, λ small. there (small_input bytes input read small))
+  reads_check input (bytes, own, read) there = (bytes, own, read, λ has small. there (small_input bytes input read small))
 
   pub reads_derive : (input : Input) → ((bytes : List ℕ) × IsInput had left bytes × IsRead bytes input) → (input ≢ TooLong → EndsThere before now) → ReadAs Derive had left before now (asked.Derive input)
-  reads_derive input (bytes, own, read) there = (bytes, own, read, λ small. there (small_input bytes input read small))
+  reads_derive input (bytes, own, read) there = (bytes, own, read, λ has small. there (small_input bytes input read small))
 
   pub reads_print : (input : Input) → ((bytes : List ℕ) × IsInput had left bytes × IsRead bytes input) → (input ≢ TooLong → EndsThere before now) → ReadAs Print had left before now (asked.Print input)
-  reads_print input (bytes, own, read) there = (bytes, own, read, λ small. there (small_input bytes input read small))
+  reads_print input (bytes, own, read) there = (bytes, own, read, λ has small. there (small_input bytes input read small))
 
   pub reads_run : (options : RunOptions) (input : Input) → IsWithin options → ((bytes : List ℕ) × IsInput had left bytes × IsRead bytes input) → (input ≢ TooLong → EndsThere before now) → ReadAs (Run options) had left before now (asked.Run options input)
-  reads_run options input within (bytes, own, read) there = (bytes, own, (refl, within, read), λ small. there (small_input bytes input read small))
+  reads_run options input within (bytes, own, read) there = (bytes, own, (refl, within, read), λ has small. there (small_input bytes input read small))

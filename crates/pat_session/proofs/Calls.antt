@@ -1,18 +1,20 @@
 -- What a call comes to, for each way in which it ends.
-use Rattle.std.proofs.Common.{◌≡◌, ◌≤◌, ℕ, List, length, Option, Some, None, refl, sym, ◌∙◌, subst, inl, ⊎_elim}
+use Rattle.std.proofs.Common.{◌≡◌, ◌≤◌, ℕ, List, [], length, Option, Some, None, refl, sym, ◌∙◌, subst, inl, inr, ⊎_elim}
 use Rattle.std.specs.Prelude.{◌≢◌}
 use Rattle.std.specs.Io.KnownBytes.{Appends, Keeps}
 use Rattle.pat_ports.specs.Causes.{Raised}
 use Rattle.pat_ports.specs.Ends.{EndsOnce, EndsThere}
 use Rattle.pat_ports.specs.declared.reach.Reach.{Reach}
-use Rattle.pat_input.specs.Inputs.{IsInputWithin}
 use Rattle.pat_answers.specs.declared.status.Status.{Status}
-use Rattle.pat_answers.specs.declared.status.Status.TheVariants.{Usage, ReadFault, WriteFault, NoMemory}
+use Rattle.pat_answers.specs.declared.status.Status.TheVariants.{Ok, Usage, ReadFault, WriteFault, NoMemory}
 use Rattle.pat_session.specs.declared.words.Command.{Command}
+use Rattle.pat_session.specs.declared.words.Command.TheVariants.{Help}
 use Rattle.pat_session.specs.Ports.{SourceState, SinkState, IsCutShort, Writes}
-use Rattle.pat_session.specs.Allowed.{IsCommand, HasCommand, AllowedTo, limit_of, usage_line}
+use Rattle.pat_session.specs.Allowed.{IsCommand, HasCommand, HasInput, AsksInput, Takes, AllowedTo, limit_of, usage_line}
+use Rattle.pat_session.specs.Answers.{IsHelped}
 use Rattle.pat_session.specs.Calls.{Call, ReadsAll}
-use Rattle.pat_session.proofs.Allows.{command_status, not_a_read_fault, reads_small, answered_command, answered_usage, begun_command, begun_usage}
+use Rattle.pat_session.proofs.OneCommand.{asks_of}
+use Rattle.pat_session.proofs.Allows.{input_status, not_a_read_fault, reads_small, answered_command, answered_usage, begun_command, begun_usage}
 
 keeps : (o : Option (List ℕ)) → Keeps o o
 keeps None = tt
@@ -31,7 +33,7 @@ module _ (words : List (List ℕ)) (had left : SourceState) where
     read = record { failed = λ _. more; unfailed = λ other. absurd (other refl) };
     write = record { failed = λ e. let clash : ReadFault ≡ WriteFault = e in cc; unfailed = λ _. refl };
     one_end = once;
-    end = λ all. absurd all;
+    end = λ asks all. absurd all;
   }
 
   -- want of memory
@@ -43,7 +45,7 @@ module _ (words : List (List ℕ)) (had left : SourceState) where
     read = record { failed = λ e. let clash : NoMemory ≡ ReadFault = e in cc; unfailed = λ _. same };
     write = record { failed = λ e. let clash : NoMemory ≡ WriteFault = e in cc; unfailed = λ _. refl };
     one_end = once;
-    end = λ all. absurd all;
+    end = λ asks all. absurd all;
   }
 
   module _ (old new : SinkState) (text : List ℕ) (status result : Status) (wrote : Writes old new text status result) where
@@ -62,7 +64,7 @@ module _ (words : List (List ℕ)) (had left : SourceState) where
     reads_as all = subst ReadsAll (same_status (λ w. let none : ReadsAll WriteFault = subst ReadsAll w all in absurd none)) all
 
     -- what a command answers
-    pub call_command : (c : Command) (bytes : List ℕ) → IsInputWithin (limit_of c) had.rest left.rest bytes → AllowedTo c bytes text status → left.faults ≡ had.faults → EndsOnce had.reach left.reach → (length bytes ≤ limit_of c → EndsThere had.reach left.reach) → IsCommand c words → Call words had left old new result
+    pub call_command : (c : Command) (bytes : List ℕ) → Takes c had.rest left.rest bytes → AllowedTo c bytes text status → left.faults ≡ had.faults → EndsOnce had.reach left.reach → (HasInput c → length bytes ≤ limit_of c → EndsThere had.reach left.reach) → IsCommand c words → Call words had left old new result
     call_command c bytes input allowed same once there command = record {
       output = answered_command words had.rest left.rest old.taken new.taken c bytes text status result input allowed wrote.written command;
       handed = λ other. answered_command words had.rest left.rest old.handed new.handed c bytes text status result input allowed (inl (same_status other, wrote.handed other)) command;
@@ -70,7 +72,9 @@ module _ (words : List (List ℕ)) (had left : SourceState) where
       read = record { failed = λ e. absurd (not_read (not_a_read_fault c bytes text status allowed) e); unfailed = λ _. same };
       write = wrote.faults;
       one_end = once;
-      end = λ all. there (reads_small (limit_of c) bytes status (command_status c bytes text status allowed) (reads_as all));
+      end = λ asks all.
+          let has = asks_of words c command asks in
+          there has (reads_small (limit_of c) bytes status (input_status c bytes text status has allowed) (reads_as all));
     }
 
 -- usage
@@ -82,5 +86,17 @@ call_usage words source old new result none wrote = record {
   read = record { failed = λ e. absurd (not_read words source source old new usage_line Usage result wrote (λ u. let clash : Usage ≡ ReadFault = u in cc) e); unfailed = λ _. refl };
   write = wrote.faults;
   one_end = none_read source.reach;
-  end = λ all. let usage : ReadsAll Usage = reads_as words source source old new usage_line Usage result wrote all in absurd usage;
+  end = λ asks all. let usage : ReadsAll Usage = reads_as words source source old new usage_line Usage result wrote all in absurd usage;
 }
+
+-- help
+pub call_help : (words : List (List ℕ)) (source : SourceState) (old new : SinkState) (result : Status) → Writes old new usage_line Ok result → IsCommand Help words → Call words source source old new result
+call_help words source old new result wrote command =
+    call_command words source source old new usage_line Ok result wrote Help [] (refl, refl) (refl, refl) refl (none_read source.reach) (λ has small. absurd has) command
+
+pub helps : (old new : SinkState) (result : Status) → Writes old new usage_line Ok result → IsHelped old.taken new.taken result
+helps old new result wrote =
+    ⊎_elim
+    (λ (w : (result ≡ Ok) × Appends old.taken new.taken usage_line). inl w)
+    (λ (w : (result ≡ WriteFault) × IsCutShort old.taken new.taken usage_line). inr w.0)
+    wrote.written

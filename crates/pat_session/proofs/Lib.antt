@@ -1,5 +1,6 @@
 mod Fronts
 mod Writing
+mod OneCommand
 mod Allows
 mod Asking
 mod Calls

@@ -1,5 +1,5 @@
 -- What a call read and wrote, for each answer.
-use Rattle.std.specs.Prelude.{◌≡◌, ℕ, List}
+use Rattle.std.specs.Prelude.{◌≡◌, ◌⊎◌, ℕ, List}
 use Rattle.std.specs.declared.option.Option.{Option}
 use Rattle.std.specs.Io.KnownBytes.{IsAtEnd, Appends, Keeps}
 use Rattle.pat_model.specs.Programs.{Program}
@@ -13,7 +13,9 @@ use Rattle.pat_front.specs.declared.verdict.Verdict.{Verdict}
 use Rattle.pat_answers.specs.declared.status.Status.{Status}
 use Rattle.pat_answers.specs.declared.status.Status.TheVariants.{Ok, Refused, Usage, ReadFault, WriteFault, NoMemory, Budget, Waiting, Full}
 use Rattle.pat_options.specs.declared.options.RunOptions.{RunOptions}
+use Rattle.pat_command_run.specs.declared.command.Detail.TheVariants.{Whole, Summary}
 use Rattle.pat_command_run.specs.Allowed.{RunShows}
+use Rattle.pat_load.specs.LoadText.{load_text}
 use Rattle.pat_command_replay.specs.Allowed.{IsReplayed}
 use Rattle.pat_command_verify.specs.Allowed.{IsVerified}
 use Rattle.pat_derivation_text.specs.DerivationText.{derivation_text}
@@ -21,13 +23,13 @@ use Rattle.pat_checked.specs.Inputs.{IsAcceptedText}
 use Rattle.pat_answers.specs.Answers.{accepted_line}
 use Rattle.pat_session.specs.declared.words.Command.{Command}
 use Rattle.pat_session.specs.Ports.{IsCutShort}
-use Rattle.pat_session.specs.Allowed.{IsCommand, AllowedTo, limit_of, Allowed}
+use Rattle.pat_session.specs.Allowed.{IsCommand, Takes, AllowedTo, Allowed, usage_line}
 
 -- the sink took all of a text that the words and the input allow with this status
 pub record Completes (words : List (List ℕ)) (had left old new : Option (List ℕ)) (status : Status) : Type 0 where
   pub bytes : List ℕ
   pub text : List ℕ
-  pub input : (c : Command) → IsCommand c words → IsInputWithin (limit_of c) had left bytes
+  pub input : (c : Command) → IsCommand c words → Takes c had left bytes
   pub allowed : Allowed words bytes text status
   pub written : Appends old new text
 
@@ -36,7 +38,7 @@ pub record BreaksOff (words : List (List ℕ)) (had left old new : Option (List 
   pub bytes : List ℕ
   pub text : List ℕ
   pub status : Status
-  pub input : (c : Command) → IsCommand c words → IsInputWithin (limit_of c) had left bytes
+  pub input : (c : Command) → IsCommand c words → Takes c had left bytes
   pub allowed : Allowed words bytes text status
   pub cut : IsCutShort old new text
 
@@ -45,7 +47,7 @@ pub record Begins (words : List (List ℕ)) (had left old new : Option (List ℕ
   pub bytes : List ℕ
   pub text : List ℕ
   pub status : Status
-  pub input : (c : Command) → IsCommand c words → IsInputWithin (limit_of c) had left bytes
+  pub input : (c : Command) → IsCommand c words → Takes c had left bytes
   pub allowed : Allowed words bytes text status
   pub begun : AppendsFront old new text
 
@@ -106,8 +108,20 @@ pub record ShowsRun (options : RunOptions) (had left old new : Option (List ℕ)
   pub whole : IsAtEnd left
   pub spelled : IsProgramText bytes tree program
   pub safe : IsSafe program
-  pub shown : RunShows program options text status
+  pub shown : RunShows program Whole options text status
   pub written : Appends old new text
+
+-- the generated text of this size is that of a program with a valid derivation, so it is safe; and the sink took what a run of
+-- it printed, and how that ended
+pub record ShowsLoad (size : ℕ) (options : RunOptions) (old new : Option (List ℕ)) (status : Status) : Type 0 where
+  pub accepted : IsAcceptedText (load_text size)
+  pub text : List ℕ
+  pub shown : RunShows accepted.program Summary options text status
+  pub written : Appends old new text
+
+-- the sink took the line of usage, and nothing else, unless a write failed
+abbrev pub IsHelped : (old new : Option (List ℕ)) → Status → Type 0
+IsHelped old new status = ((status ≡ Ok) × Appends old new usage_line) ⊎ (status ≡ WriteFault)
 
 -- all that the source had was read and is the text of a program, and the sink took the canonical text of its tree
 pub record ShowsTree (had left old new : Option (List ℕ)) : Type 0 where
@@ -144,6 +158,6 @@ pub record ShowsVerdict (words : List (List ℕ)) (had left old new : Option (Li
   pub line : List ℕ
   pub command : Command
   pub asked : IsCommand command words
-  pub input : IsInputWithin (limit_of command) had left bytes
+  pub input : Takes command had left bytes
   pub refused : AllowedTo command bytes line (Refused v)
   pub written : Appends old new line

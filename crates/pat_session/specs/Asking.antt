@@ -1,11 +1,11 @@
 -- What there is to answer, once a command's input is read.
-use Rattle.std.specs.Prelude.{◌≡◌, ℕ, List}
+use Rattle.std.specs.Prelude.{◌≡◌, ◌≤◌, ℕ, List, []}
 use Rattle.pat_options.specs.Options.{IsWithin}
 use Rattle.pat_input.specs.Inputs.{IsRead}
 use Rattle.pat_session.specs.declared.commands.Asked.{Asked}
 use Rattle.pat_session.specs.declared.commands.Asked.TheVariants as asked
 use Rattle.pat_session.specs.declared.words.Command.{Command}
-use Rattle.pat_session.specs.declared.words.Command.TheVariants.{Check, Derive, Print, Run, Replay, Verify}
+use Rattle.pat_session.specs.declared.words.Command.TheVariants.{Check, Derive, Print, Run, Replay, Verify, Load, Help}
 
 -- it is what the command asks of these bytes
 abbrev pub Asks : Command → List ℕ → Asked → Type 0
@@ -15,11 +15,17 @@ Asks Print bytes (asked.Print input) = IsRead bytes input
 Asks (Run o) bytes (asked.Run options input) = (o ≡ options) × IsWithin options × IsRead bytes input
 Asks Replay bytes (asked.Replay read) = read.items ≡ bytes
 Asks Verify bytes (asked.Verify read) = read.items ≡ bytes
+Asks (Load n o) bytes (asked.Load size options) = (n ≡ size) × (o ≡ options) × (size ≤ 1000) × IsWithin options
 Asks c bytes a = ⊥
 
 -- it is what some command asks of some bytes
 abbrev pub IsAsked : Asked → Type 0
 IsAsked a = (c : Command) × (bytes : List ℕ) × Asks c bytes a
+
+-- whether there is anything to find out for the command
+abbrev pub IsAsking : Command → Type 0
+IsAsking Help = ⊥
+IsAsking _ = Unit {0}
 
 -- whether the command reads a program alone
 abbrev pub IsOfProgram : Command → Type 0
@@ -29,6 +35,8 @@ IsOfProgram Print = Unit {0}
 IsOfProgram (Run o) = Unit {0}
 IsOfProgram Replay = ⊥
 IsOfProgram Verify = ⊥
+IsOfProgram (Load n o) = ⊥
+IsOfProgram Help = ⊥
 
 -- or a program, and a text behind it
 abbrev pub IsOfTwoParts : Command → Type 0

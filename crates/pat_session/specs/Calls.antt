@@ -5,6 +5,7 @@ use Rattle.pat_front.specs.declared.verdict.Verdict.TheVariants.{TooLong}
 use Rattle.pat_answers.specs.declared.status.Status.{Status}
 use Rattle.pat_answers.specs.declared.status.Status.TheVariants.{Ok, Refused, Usage, ReadFault, WriteFault, NoMemory, Budget, Waiting, Full}
 use Rattle.pat_session.specs.Ports.{SourceState, SinkState, Answered}
+use Rattle.pat_session.specs.Allowed.{AsksInput}
 use Rattle.pat_session.specs.Answers.{Answers, Begins}
 
 -- an answer for which the whole input was read
@@ -27,4 +28,4 @@ pub record Call (words : List (List ℕ)) (had left : SourceState) (old new : Si
   pub read : Answered ReadFault status had.faults left.faults
   pub write : Answered WriteFault status old.faults new.faults
   pub one_end : EndsOnce had.reach left.reach
-  pub end : ReadsAll status → EndsThere had.reach left.reach
+  pub end : AsksInput words → ReadsAll status → EndsThere had.reach left.reach

@@ -1,19 +1,20 @@
 // What each command answers.
-ghost use Rattle.std.specs.Prelude.{◌≤◌, ℕ, List, IfOk, length};
+ghost use Rattle.std.specs.Prelude.{◌≡◌, ◌≤◌, ℕ, List, IfOk, length};
 ghost use Rattle.pat_ports.specs.Ends.{EndsOnce, EndsThere};
 ghost use Rattle.pat_input.specs.Inputs.{IsRead, IsInputWithin, FaultsAfter};
 ghost use Rattle.pat_runners.specs.Runs.{IsRunner};
-ghost use Rattle.pat_session.specs.Allowed.{AllowedTo, HasBounds, limit_of};
-ghost use Rattle.pat_session.specs.Asking.{Asks, IsAsked, IsOfProgram, IsOfTwoParts};
+ghost use Rattle.pat_session.specs.Allowed.{AllowedTo, HasBounds, HasInput, Takes, limit_of};
+ghost use Rattle.pat_session.specs.Asking.{Asks, IsAsked, IsAsking, IsOfProgram, IsOfTwoParts};
 
 use crate::Command;
 use pat_accepted::Accepted;
 use pat_answers::Answer;
 use pat_command_check::answer_check;
 use pat_command_derive::answer_derive;
+use pat_command_load::answer_load;
 use pat_command_print::answer_print;
 use pat_command_replay::answer_replay;
-use pat_command_run::answer_run;
+use pat_command_run::{Detail, answer_run};
 use pat_command_verify::answer_verify;
 use pat_input::{Input, InputError, read_bytes, read_tokens};
 use pat_options::RunOptions;
@@ -30,6 +31,7 @@ pub enum Asked {
     Run(RunOptions, Input),
     Replay(Vec<u8>),
     Verify(Vec<u8>),
+    Load(u32, RunOptions),
 }
 
 /// What a command answers on this input, where a program is run so.
@@ -46,24 +48,29 @@ pub fn answer_to<F: Fn(Accepted, RunOptions) -> Result<Finished, AllocError>>(
         Asked::Check(input) => answer_check(alloc, input),
         Asked::Derive(input) => answer_derive(alloc, input),
         Asked::Print(input) => answer_print(alloc, input),
-        Asked::Run(options, input) => answer_run(alloc, run, options, input),
+        Asked::Run(options, input) => answer_run(alloc, run, Detail::Whole, options, input),
         Asked::Replay(bytes) => answer_replay(alloc, bytes.as_slice()),
         Asked::Verify(bytes) => answer_verify(alloc, bytes.as_slice()),
+        Asked::Load(size, options) => answer_load(alloc, run, size, options),
     }
 }
 
-/// Reads what the command asks for.
+/// Reads what the command asks for; the source is left alone where that is nothing.
 pub fn read_asked<S: Source>(
     alloc: Global,
     command: Command,
     source: &mut S,
 ) -> Result<Asked, InputError>
-    requires { HasBounds command }
-    ensures ok { IfOk result (λ asked. (bytes : List ℕ) × IsInputWithin (limit_of command) (S.rest source.old) (S.rest source.new) bytes × Asks command bytes asked × (length bytes ≤ limit_of command → EndsThere (S.reach source.old) (S.reach source.new))) }
+    requires bounds { HasBounds command }
+    requires asking { IsAsking command }
+    ensures ok { IfOk result (λ asked. (bytes : List ℕ) × Takes command (S.rest source.old) (S.rest source.new) bytes × Asks command bytes asked × (HasInput command → length bytes ≤ limit_of command → EndsThere (S.reach source.old) (S.reach source.new))) }
     ensures faults { FaultsAfter (S.faults source.old) (S.faults source.new) result }
     ensures one_end { EndsOnce (S.reach source.old) (S.reach source.new) }
+    ensures untouched { (HasInput command → ⊥) → source.new ≡ source.old }
 {
     match command {
+        Command::Load(size, options) => Ok(Asked::Load(size, options)),
+        Command::Help => unreachable!(),
         Command::Replay => read_two_parts(alloc, command, source),
         Command::Verify => read_two_parts(alloc, command, source),
         _ => read_program(alloc, command, source),
@@ -96,8 +103,7 @@ fn asked_of_program(command: Command, input: Input) -> Asked
         Command::Derive => Asked::Derive(input),
         Command::Print => Asked::Print(input),
         Command::Run(options) => Asked::Run(options, input),
-        Command::Replay => unreachable!(),
-        Command::Verify => unreachable!(),
+        _ => unreachable!(),
     }
 }
 

@@ -3,12 +3,13 @@ ghost use Rattle.std.specs.Prelude.{◌≡◌, ◌≢◌, ◌⊎◌, ℕ, List, 
 ghost use Rattle.pat_ports.specs.Causes.{Raised};
 ghost use Rattle.pat_ports.specs.Ends.{EndsOnce, EndsThere};
 ghost use Rattle.pat_front.specs.declared.verdict.Verdict.{Verdict};
-ghost use Rattle.pat_session.specs.Allowed.{IsCommand, HasCommand, HasBounds};
-ghost use Rattle.pat_session.specs.Answers.{Answers, Begins, IsAccepted, AcceptsSafe, ShowsChecked, ShowsDerived, ShowsRun, ShowsTree, ShowsReplay, ShowsVerified, ShowsVerdict};
+ghost use Rattle.pat_session.specs.Allowed.{IsCommand, HasCommand, HasBounds, HasInput, AsksInput};
+ghost use Rattle.pat_session.specs.Answers.{Answers, Begins, IsAccepted, IsHelped, AcceptsSafe, ShowsChecked, ShowsDerived, ShowsLoad, ShowsRun, ShowsTree, ShowsReplay, ShowsVerified, ShowsVerdict};
 ghost use Rattle.pat_options.specs.Options.{IsWithin};
 ghost use Rattle.pat_runners.specs.Runs.{RunGives, IsRunner};
 ghost use Rattle.pat_options.specs.declared.options.RunOptions.{RunOptions};
 ghost use Rattle.pat_session.specs.Ports.{source_state, sink_state};
+ghost use Rattle.pat_session.specs.Asking.{IsAsking};
 ghost use Rattle.pat_session.specs.Calls.{Call, ReadsAll};
 
 use crate::Command;
@@ -48,9 +49,12 @@ pub fn pat<R: Threads + Wait + Sync, S: Source, K: Sink, G: Gate>(
     ensures no_read_fault { result ≢ Status.ReadFault → S.faults source.new ≡ S.faults source.old }
     ensures no_write_fault { result ≢ Status.WriteFault → K.faults sink.new ≡ K.faults sink.old }
 
+    // Words that ask for no input leave the source alone.
+    ensures untouched { (AsksInput (map string_bytes words.now) → ⊥) → source.new ≡ source.old }
+
     // Nothing is read after the end of the input, and all that is before it, unless it is too long.
     ensures one_end { EndsOnce (S.reach source.old) (S.reach source.new) }
-    ensures end { ReadsAll result → EndsThere (S.reach source.old) (S.reach source.new) }
+    ensures end { AsksInput (map string_bytes words.now) → ReadsAll result → EndsThere (S.reach source.old) (S.reach source.new) }
 
     // What was read and what was written, for each answer; the same of what the sink handed over, but that after a write
     // fault this may be all of the text.
@@ -72,6 +76,12 @@ pub fn pat<R: Threads + Wait + Sync, S: Source, K: Sink, G: Gate>(
 
     // What a replay wrote: the output and the standing of just the history that was read, after the program that was read.
     ensures replayed { IsCommand Command.Replay (map string_bytes words.now) → result ≡ Status.Ok → ShowsReplay (S.rest source.old) (S.rest source.new) (K.taken sink.old) (K.taken sink.new) }
+
+    // A run of the generated program, which is safe.
+    ensures loaded { (size : ℕ) (options : RunOptions) → IsCommand (Command.Load size options) (map string_bytes words.now) → IsAccepted result → ShowsLoad size options (K.taken sink.old) (K.taken sink.new) result }
+
+    // Help is the line of usage; it takes no memory.
+    ensures helped { IsCommand Command.Help (map string_bytes words.now) → IsHelped (K.taken sink.old) (K.taken sink.new) result }
 
     // What a refusal says of what was read.
     ensures refused { (v : Verdict) → result ≡ Status.Refused v → ShowsVerdict (map string_bytes words.now) (S.rest source.old) (S.rest source.new) (K.taken sink.old) (K.taken sink.new) v }
@@ -96,9 +106,12 @@ pub fn pat_alone<S: Source, K: Sink>(
     ensures no_read_fault { result ≢ Status.ReadFault → S.faults source.new ≡ S.faults source.old }
     ensures no_write_fault { result ≢ Status.WriteFault → K.faults sink.new ≡ K.faults sink.old }
 
+    // Words that ask for no input leave the source alone.
+    ensures untouched { (AsksInput (map string_bytes words.now) → ⊥) → source.new ≡ source.old }
+
     // Nothing is read after the end of the input, and all that is before it, unless it is too long.
     ensures one_end { EndsOnce (S.reach source.old) (S.reach source.new) }
-    ensures end { ReadsAll result → EndsThere (S.reach source.old) (S.reach source.new) }
+    ensures end { AsksInput (map string_bytes words.now) → ReadsAll result → EndsThere (S.reach source.old) (S.reach source.new) }
 
     // What was read and what was written, for each answer; the same of what the sink handed over, but that after a write
     // fault this may be all of the text.
@@ -121,6 +134,12 @@ pub fn pat_alone<S: Source, K: Sink>(
     // What a replay wrote: the output and the standing of just the history that was read, after the program that was read.
     ensures replayed { IsCommand Command.Replay (map string_bytes words.now) → result ≡ Status.Ok → ShowsReplay (S.rest source.old) (S.rest source.new) (K.taken sink.old) (K.taken sink.new) }
 
+    // A run of the generated program, which is safe.
+    ensures loaded { (size : ℕ) (options : RunOptions) → IsCommand (Command.Load size options) (map string_bytes words.now) → IsAccepted result → ShowsLoad size options (K.taken sink.old) (K.taken sink.new) result }
+
+    // Help is the line of usage; it takes no memory.
+    ensures helped { IsCommand Command.Help (map string_bytes words.now) → IsHelped (K.taken sink.old) (K.taken sink.new) result }
+
     // What a refusal says of what was read.
     ensures refused { (v : Verdict) → result ≡ Status.Refused v → ShowsVerdict (map string_bytes words.now) (S.rest source.old) (S.rest source.new) (K.taken sink.old) (K.taken sink.new) v }
 {
@@ -137,6 +156,8 @@ fn dispatch<R: Threads + Wait + Sync, S: Source, K: Sink, G: Gate>(
     gate: &G,
 ) -> Status
     ensures no_command { (HasCommand (map string_bytes words.now) → ⊥) → ((result ≡ Status.Usage) ⊎ (result ≡ Status.WriteFault)) × (source.new ≡ source.old) }
+    ensures untouched { (AsksInput (map string_bytes words.now) → ⊥) → source.new ≡ source.old }
+    ensures helped { IsCommand Command.Help (map string_bytes words.now) → IsHelped (K.taken sink.old) (K.taken sink.new) result }
     ensures call { Call (map string_bytes words.now) (source_state S.rest S.faults S.reach source.old) (source_state S.rest S.faults S.reach source.new) (sink_state K.taken K.handed K.faults sink.old) (sink_state K.taken K.handed K.faults sink.new) result }
 {
     if !asks_for_several(words) {
@@ -153,6 +174,7 @@ fn dispatch<R: Threads + Wait + Sync, S: Source, K: Sink, G: Gate>(
 fn asks_for_several(words: &[String]) -> bool {
     match command_of(words) {
         Some(Command::Run(options)) => options.workers > 1,
+        Some(Command::Load(_, options)) => options.workers > 1,
         _ => false,
     }
 }
@@ -165,6 +187,8 @@ fn alone<S: Source, K: Sink>(
     sink: &mut K,
 ) -> Status
     ensures no_command { (HasCommand (map string_bytes words.now) → ⊥) → ((result ≡ Status.Usage) ⊎ (result ≡ Status.WriteFault)) × (source.new ≡ source.old) }
+    ensures untouched { (AsksInput (map string_bytes words.now) → ⊥) → source.new ≡ source.old }
+    ensures helped { IsCommand Command.Help (map string_bytes words.now) → IsHelped (K.taken sink.old) (K.taken sink.new) result }
     ensures call { Call (map string_bytes words.now) (source_state S.rest S.faults S.reach source.old) (source_state S.rest S.faults S.reach source.new) (sink_state K.taken K.handed K.faults sink.old) (sink_state K.taken K.handed K.faults sink.new) result }
 {
     let run = |accepted: Accepted, options: RunOptions| -> Result<Finished, AllocError>
@@ -184,6 +208,8 @@ fn respond<F: Fn(Accepted, RunOptions) -> Result<Finished, AllocError>, S: Sourc
 ) -> Status
     requires runner { IsRunner (F.pre run.now) (F.post run.now) }
     ensures no_command { (HasCommand (map string_bytes words.now) → ⊥) → ((result ≡ Status.Usage) ⊎ (result ≡ Status.WriteFault)) × (source.new ≡ source.old) }
+    ensures untouched { (AsksInput (map string_bytes words.now) → ⊥) → source.new ≡ source.old }
+    ensures helped { IsCommand Command.Help (map string_bytes words.now) → IsHelped (K.taken sink.old) (K.taken sink.new) result }
     ensures call { Call (map string_bytes words.now) (source_state S.rest S.faults S.reach source.old) (source_state S.rest S.faults S.reach source.new) (sink_state K.taken K.handed K.faults sink.old) (sink_state K.taken K.handed K.faults sink.new) result }
 {
     match command_of(words) {
@@ -202,7 +228,29 @@ fn obey<F: Fn(Accepted, RunOptions) -> Result<Finished, AllocError>, S: Source, 
 ) -> Status
     requires runner { IsRunner (F.pre run.now) (F.post run.now) }
     requires bounds { HasBounds command }
-    ensures { (words : List (List ℕ)) → IsCommand command words → Call words (source_state S.rest S.faults S.reach source.old) (source_state S.rest S.faults S.reach source.new) (sink_state K.taken K.handed K.faults sink.old) (sink_state K.taken K.handed K.faults sink.new) result }
+    ensures call { (words : List (List ℕ)) → IsCommand command words → Call words (source_state S.rest S.faults S.reach source.old) (source_state S.rest S.faults S.reach source.new) (sink_state K.taken K.handed K.faults sink.old) (sink_state K.taken K.handed K.faults sink.new) result }
+    ensures untouched { (HasInput command → ⊥) → source.new ≡ source.old }
+    ensures helped { command ≡ Command.Help → IsHelped (K.taken sink.old) (K.taken sink.new) result }
+{
+    match command {
+        Command::Help => written(sink, USAGE, Status::Ok),
+        _ => comply(alloc, run, command, source, sink),
+    }
+}
+
+// Does what a command asks, but for help, which asks for nothing.
+fn comply<F: Fn(Accepted, RunOptions) -> Result<Finished, AllocError>, S: Source, K: Sink>(
+    alloc: Global,
+    run: &F,
+    command: Command,
+    source: &mut S,
+    sink: &mut K,
+) -> Status
+    requires runner { IsRunner (F.pre run.now) (F.post run.now) }
+    requires bounds { HasBounds command }
+    requires asking { IsAsking command }
+    ensures call { (words : List (List ℕ)) → IsCommand command words → Call words (source_state S.rest S.faults S.reach source.old) (source_state S.rest S.faults S.reach source.new) (sink_state K.taken K.handed K.faults sink.old) (sink_state K.taken K.handed K.faults sink.new) result }
+    ensures untouched { (HasInput command → ⊥) → source.new ≡ source.old }
 {
     let asked = match read_asked(alloc, command, source) {
         Ok(asked) => asked,

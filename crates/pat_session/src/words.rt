@@ -1,8 +1,9 @@
 // The words of a call.
-ghost use Rattle.std.specs.Prelude.{◌≡◌, ◌∷◌, [], map, string_bytes, IfSome, IfNone, codes};
+ghost use Rattle.std.specs.Prelude.{◌≡◌, ◌≤◌, ◌∷◌, [], map, string_bytes, IfSome, IfNone, codes};
+ghost use Rattle.pat_session.specs.Allowed as allowed;
 ghost use Rattle.pat_session.specs.Allowed.{IsCommand, HasCommand, HasBounds};
 
-use pat_options::{RunOptions, options_of};
+use pat_options::{RunOptions, number_of, options_of};
 
 /// What a call is asked to do.
 #[derive(Clone, Copy, Debug, PartialEq, Eq)]
@@ -19,6 +20,10 @@ pub enum Command {
     Replay,
     /// Judge a derivation of a program.
     Verify,
+    /// Run the generated program of this size.
+    Load(u32, RunOptions),
+    /// Say how a call is written.
+    Help,
 }
 
 /// The command that the words ask for, if they are one.
@@ -43,6 +48,9 @@ fn command_with(word: &[u8], rest: &[String]) -> Option<Command>
     if word == b"run".as_slice() {
         return run_with(rest);
     }
+    if word == b"load".as_slice() {
+        return load_with(rest);
+    }
     if rest.is_empty() {
         return command_alone(word);
     }
@@ -62,10 +70,55 @@ fn run_with(rest: &[String]) -> Option<Command>
     }
 }
 
+// A load with a size and options.
+fn load_with(rest: &[String]) -> Option<Command>
+    ensures some { IfSome result (λ c. IsCommand c (codes "load" ∷ map string_bytes rest.now)) }
+    ensures bounds { IfSome result HasBounds }
+    ensures none { IfNone result (HasCommand (codes "load" ∷ map string_bytes rest.now) → ⊥) }
+{
+    match rest {
+        [] => None,
+        [number, options @ ..] => load_of(number.as_bytes(), options),
+    }
+}
+
+#[tactic(auto, using(crate::proofs::NoCommands::no_size, crate::proofs::NoCommands::no_load_options))]
+fn load_of(number: &[u8], rest: &[String]) -> Option<Command>
+    ensures some { IfSome result (λ c. IsCommand c (codes "load" ∷ number.now ∷ map string_bytes rest.now)) }
+    ensures bounds { IfSome result HasBounds }
+    ensures none { IfNone result (HasCommand (codes "load" ∷ number.now ∷ map string_bytes rest.now) → ⊥) }
+{
+    match size_of(number) {
+        Some(size) => match options_of(rest) {
+            Some(options) => Some(Command::Load(size, options)),
+            None => None,
+        },
+        None => None,
+    }
+}
+
+// The size that a word spells, from 1 to 1,000.
+fn size_of(word: &[u8]) -> Option<u32>
+    ensures spelled { result ≡ allowed.size_of word.now }
+    ensures few { IfSome result (λ size. size ≤ 1000) }
+{
+    match number_of(word) {
+        Some(size) => {
+            if 1 <= size && size <= 1000 {
+                Some(size)
+            } else {
+                None
+            }
+        }
+        None => None,
+    }
+}
+
 // A word alone.
 #[tactic(auto, using(crate::proofs::NoCommands::no_such_word))]
 fn command_alone(word: &[u8]) -> Option<Command>
-    requires { word.now ≡ codes "run" → ⊥ }
+    requires run { word.now ≡ codes "run" → ⊥ }
+    requires load { word.now ≡ codes "load" → ⊥ }
     ensures some { IfSome result (λ c. IsCommand c (word.now ∷ [])) }
     ensures bounds { IfSome result HasBounds }
     ensures none { IfNone result (HasCommand (word.now ∷ []) → ⊥) }
@@ -84,6 +137,9 @@ fn command_alone(word: &[u8]) -> Option<Command>
     }
     if word == b"verify".as_slice() {
         return Some(Command::Verify);
+    }
+    if word == b"help".as_slice() {
+        return Some(Command::Help);
     }
     None
 }

@@ -86,6 +86,20 @@ pub fn two_workers<R: Abort + Threads + Wait + Sync>(rt: &R, alloc: Global) -> R
     Ok(())
 }
 
+// So do two workers of the generated program's run.
+pub fn two_workers_of_a_load<R: Abort + Threads + Wait + Sync>(
+    rt: &R,
+    alloc: Global,
+) -> Result<(), Fail> {
+    let gate = Holding::new();
+    let words = ["load", "2", "--workers", "2"];
+    let (status, text) = answer_past(rt, alloc, &words, b"", &gate)?;
+    assert_eq!(rt; status, Status::Ok);
+    assert_eq!(rt; gate.ended_by_other.load(Ordering::SeqCst), 1);
+    assert_eq!(rt; text.as_slice(), b"out 11\ndone 43\n");
+    Ok(())
+}
+
 // Whether the piece stands in the text.
 fn has(text: &[u8], piece: &[u8]) -> bool {
     for at in 0..text.len() {

@@ -215,7 +215,7 @@ pub fn words_that_are_no_command<R: Abort + Threads + Wait + Sync>(
     rt: &R,
     alloc: Global,
 ) -> Result<(), Fail> {
-    let rows: [&[&str]; 17] = [
+    let rows: [&[&str]; 28] = [
         &[],
         &["run", "run"],
         &["runs"],
@@ -233,6 +233,17 @@ pub fn words_that_are_no_command<R: Abort + Threads + Wait + Sync>(
         &["run", "--workers", "65"],
         &["run", "--workers", "2", "--workers", "2"],
         &["check", "--workers", "2"],
+        &["load"],
+        &["load", "0"],
+        &["load", "1001"],
+        &["load", "one"],
+        &["load", "00000001"],
+        &["load", "--steps", "1"],
+        &["load", "1", "2"],
+        &["load", "1", "--steps"],
+        &["load", "1", "--workers", "0"],
+        &["helps"],
+        &["help", "run"],
     ];
     for words in rows {
         let (came, taken) = answer(rt, alloc, words, FIRST, (8, 8), (0, 0))?;
@@ -242,12 +253,13 @@ pub fn words_that_are_no_command<R: Abort + Threads + Wait + Sync>(
     Ok(())
 }
 
-pub fn runs_with_options<R: Abort + Threads + Wait + Sync>(
+// Of a generated program with n workers the sum of the answers is 3 * n * (n + 1) / 2 + n, after 18 * n + 7 steps.
+pub fn calls_of_several_words<R: Abort + Threads + Wait + Sync>(
     rt: &R,
     alloc: Global,
 ) -> Result<(), Fail> {
     let spent = Status::Budget;
-    let rows: [(&[&str], Status, &[u8]); 7] = [
+    let rows: [(&[&str], Status, &[u8]); 14] = [
         (
             &["run", "--steps", "0"],
             spent,
@@ -275,6 +287,21 @@ pub fn runs_with_options<R: Abort + Threads + Wait + Sync>(
             spent,
             b"%%history\n%%output\nbudget 0\n",
         ),
+        (&["help"], Status::Ok, USAGE),
+        (&["load", "1"], Status::Ok, b"out 4\ndone 25\n"),
+        (&["load", "0000002"], Status::Ok, b"out 11\ndone 43\n"),
+        (
+            &["load", "3", "--workers", "2"],
+            Status::Ok,
+            b"out 21\ndone 61\n",
+        ),
+        (&["load", "100"], Status::Ok, b"out 15250\ndone 1807\n"),
+        (
+            &["load", "1000", "--workers", "4"],
+            Status::Ok,
+            b"out 1502500\ndone 18007\n",
+        ),
+        (&["load", "1000", "--steps", "0"], spent, b"budget 0\n"),
     ];
     for (words, status, text) in rows {
         let (came, taken) = answer(rt, alloc, words, FIRST, (8, 8), (0, 0))?;
@@ -438,8 +465,13 @@ pub fn each_read_and_each_write_fails_in_turn<R: Abort + Threads + Wait + Sync>(
         assert_eq!(rt; status, want, "at write {}", call);
         assert_eq!(rt; taken.as_slice(), &FIRST_TEXT[..count], "at write {}", call);
     }
-    let (status, taken) = answer(rt, alloc, &[], FIRST, (8, 8), (0, 2))?;
-    assert_eq!(rt; status, Status::WriteFault);
-    assert_eq!(rt; taken.as_slice(), &USAGE[..8]);
+    // Nothing is read for words that are no command, for help, or for a generated program.
+    for words in [&[].as_slice(), &["help"]] {
+        let (status, taken) = answer(rt, alloc, words, FIRST, (8, 8), (1, 2))?;
+        assert_eq!(rt; status, Status::WriteFault);
+        assert_eq!(rt; taken.as_slice(), &USAGE[..8]);
+    }
+    let (status, _) = answer(rt, alloc, &["load", "1"], FIRST, (8, 8), (1, 0))?;
+    assert_eq!(rt; status, Status::Ok);
     Ok(())
 }

@@ -1,4 +1,4 @@
-use crate::holding::two_workers;
+use crate::holding::{two_workers, two_workers_of_a_load};
 use crate::rows;
 use std::test::Fail;
 
@@ -9,10 +9,11 @@ fn calls(rt: HostRuntime) -> Result<(), Fail> {
     rows::print_rows(&rt, alloc)?;
     rows::each_rule_where_it_is_first_broken(&rt, alloc)?;
     rows::words_that_are_no_command(&rt, alloc)?;
-    rows::runs_with_options(&rt, alloc)?;
+    rows::calls_of_several_words(&rt, alloc)?;
     rows::replay_rows(&rt, alloc)?;
     rows::an_entry_has_256_steps_at_most(&rt, alloc)?;
     rows::a_program_has_1048576_bytes_at_most(&rt, alloc)?;
     rows::each_read_and_each_write_fails_in_turn(&rt, alloc)?;
-    two_workers(&rt, alloc)
+    two_workers(&rt, alloc)?;
+    two_workers_of_a_load(&rt, alloc)
 }

@@ -11,7 +11,7 @@ run_accepted-requires-clause-typable g c = checked_typable c.in-Accepted.program
 
 pub returns-in-Accepted : goal.returns-in-Accepted
 returns-in-Accepted g c = λ bytes is.
-    accepted_allowed c.args.options bytes c.in-Accepted.program c.in-Accepted.derivation c.run_accepted.result (subst (IsChecked bytes) c.in-Accepted.is is) c.run_accepted.ensures
+    accepted_allowed c.args.detail c.args.options bytes c.in-Accepted.program c.in-Accepted.derivation c.run_accepted.result (subst (IsChecked bytes) c.in-Accepted.is is) c.run_accepted.ensures
 
 pub returns-in-Refused : goal.returns-in-Refused
-returns-in-Refused g c = λ bytes is. refused_allowed c.args.options bytes c.in-Refused.answer (subst (IsChecked bytes) c.in-Refused.is is)
+returns-in-Refused g c = λ bytes is. refused_allowed c.args.detail c.args.options bytes c.in-Refused.answer (subst (IsChecked bytes) c.in-Refused.is is)

@@ -1,6 +1,6 @@
 use Rattle.std.proofs.Common.{sym, subst}
 use Rattle.pat_session.specs.Asking.{Asks, IsAsked}
-use Rattle.pat_session.proofs.Asking.{of_check, of_derive, of_print, of_run, of_replay, check_read, derive_read, print_read, run_read, run_within}
+use Rattle.pat_session.proofs.Asking.{of_check, of_derive, of_print, of_run, of_load, of_replay, check_read, derive_read, print_read, run_read, run_within, load_within}
 use Rattle.pat_session.proofs.commands.answer_to.Goals as goal
 
 pub answer_check-requires : goal.answer_check-requires
@@ -29,3 +29,12 @@ returns-in-Print g c = λ command bytes asks. of_print command bytes c.answer_pr
 
 pub returns-in-Run : goal.returns-in-Run
 returns-in-Run g c = λ command bytes asks. of_run command bytes c.answer_run.result c.in-Run.options c.in-Run.input (subst (Asks command bytes) c.in-Run.is asks) (c.answer_run.ensures bytes)
+
+pub answer_load-requires-clause-few : goal.answer_load-requires-clause-few
+answer_load-requires-clause-few g c = let within = load_within c.in-Load.size c.in-Load.options (subst IsAsked c.in-Load.is c.requires.asked) in within.0
+
+pub answer_load-requires-clause-within : goal.answer_load-requires-clause-within
+answer_load-requires-clause-within g c = let within = load_within c.in-Load.size c.in-Load.options (subst IsAsked c.in-Load.is c.requires.asked) in within.1
+
+pub returns-in-Load : goal.returns-in-Load
+returns-in-Load g c = λ command bytes asks. of_load command bytes c.answer_load.result c.in-Load.size c.in-Load.options (subst (Asks command bytes) c.in-Load.is asks) c.answer_load.ensures
