@@ -96,7 +96,7 @@ pub fn two_workers_of_a_load<R: Abort + Threads + Wait + Sync>(
     let (status, text) = answer_past(rt, alloc, &words, b"", &gate)?;
     assert_eq!(rt; status, Status::Ok);
     assert_eq!(rt; gate.ended_by_other.load(Ordering::SeqCst), 1);
-    assert_eq!(rt; text.as_slice(), b"out 11\ndone 43\n");
+    assert_eq!(rt; text.as_slice(), b"out 11\ndone 43\n".as_slice());
     Ok(())
 }
 
