@@ -296,12 +296,7 @@ pub fn calls_of_several_words<R: Abort + Threads + Wait + Sync>(
             b"out 21\ndone 61\n",
         ),
         (&["load", "100"], Status::Ok, b"out 15250\ndone 1807\n"),
-        (
-            &["load", "1000", "--workers", "4"],
-            Status::Ok,
-            b"out 1502500\ndone 18007\n",
-        ),
-        (&["load", "1000", "--steps", "0"], spent, b"budget 0\n"),
+        (&["load", "2", "--steps", "0"], spent, b"budget 0\n"),
     ];
     for (words, status, text) in rows {
         let (came, taken) = answer(rt, alloc, words, FIRST, (8, 8), (0, 0))?;
