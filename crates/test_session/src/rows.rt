@@ -259,7 +259,7 @@ pub fn calls_of_several_words<R: Abort + Threads + Wait + Sync>(
     alloc: Global,
 ) -> Result<(), Fail> {
     let spent = Status::Budget;
-    let rows: [(&[&str], Status, &[u8]); 14] = [
+    let rows: [(&[&str], Status, &[u8]); 13] = [
         (
             &["run", "--steps", "0"],
             spent,
