@@ -23,7 +23,8 @@ REFUSALS = {
     "print": TEXT,
     "check": TEXT + TYPES,
     "derive": TEXT + TYPES,
-    "run": TEXT + TYPES + ["not yet"],
+    "run": TEXT + TYPES,
+    "load": [],
     "verify": TEXT + [BAD_TEXT, rf"rejected at node \d+: (?:{RULES})"],
     "replay": TEXT + [BAD_TEXT, r"refused at entry \d+"],
 }

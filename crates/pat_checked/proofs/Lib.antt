@@ -3,5 +3,6 @@ mod Told
 mod Worded
 mod Checking
 mod Complete
+mod OneVerdict
 -- for the crates above
 pub mod Statuses

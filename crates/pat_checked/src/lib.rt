@@ -10,4 +10,4 @@ mod words;
 
 pub use accepting::{Unaccepted, accept};
 pub use inputs::{Checked, check_input};
-pub use laws::complete_law;
+pub use laws::{complete_law, one_verdict_law};

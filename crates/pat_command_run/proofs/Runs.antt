@@ -59,14 +59,18 @@ shown_history m h facts same = subst (λ l. IsHistory (map entry_view l)) (sym s
 pub run_shows : (d : Detail) (program : CodeProgram) (o : RunOptions) (f : Finished) (h : List CodeEntry) (c : CodeConfig) (text : List ℕ) (s : Status) → RunGives program o f → IsMachine f.machine → h ≡ f.machine.history → config_view c ≡ f.machine.config → text ≡ told d (map entry_view h) (config_view c) (outcome_view f.outcome) → EndsWith (outcome_view f.outcome) s → RunShows (program_view program) d o text s
 run_shows d program o f h c text s gives facts same config shown ends =
     let own = outcome_view f.outcome in
-    let es = entries_of f.machine in (
+    let es = entries_of f.machine in
+    let budget : f.machine.named.budget ≡ o.steps = ap (λ (n : Named). n.budget) gives.named in
+    let counted = facts.counted in (
       own,
       ends,
       record {
         entries = es;
         config = f.machine.config;
         replayed = subst (λ (n : Named). replay (program_view n.program) es ≡ Some f.machine.config) gives.named facts.replayed;
+        history = facts.history;
         limited = subst (λ (n : Named). StaysWithin (program_view n.program) n.limit es) gives.named facts.limited;
+        within = omega (arith, budget, counted);
         run = gives.run;
         shown = shown ∙ ap (λ l. told d (map entry_view l) (config_view c) own) same ∙ ap (λ k. told d es k own) config;
       },

@@ -1,8 +1,8 @@
 -- What `run` may answer, and whoever else runs a program.
-use Rattle.std.specs.Prelude.{◌≡◌, ℕ, List, Some}
+use Rattle.std.specs.Prelude.{◌≡◌, ◌≤◌, ℕ, List, Some}
 use Rattle.pat_model.specs.Programs.{Program}
 use Rattle.pat_model.specs.Configs.{Config}
-use Rattle.pat_model.specs.Runs.{Entry, Outcome, EndDone, EndWaiting, EndFull, EndBudget, replay}
+use Rattle.pat_model.specs.Runs.{Entry, IsHistory, Outcome, EndDone, EndWaiting, EndFull, EndBudget, step_count, replay}
 use Rattle.pat_commits.specs.Machines.{StaysWithin}
 use Rattle.pat_options.specs.declared.options.RunOptions.{RunOptions}
 use Rattle.pat_runners.specs.Runs.{IsRunWith}
@@ -18,13 +18,15 @@ abbrev pub told : Detail → List Entry → Config → Outcome → List ℕ
 told Whole entries c o = run_text entries c o
 told Summary entries c o = replay_text entries c (Some o)
 
--- the text tells of a history that replays, with at most so many pending messages after each of its entries; it is a run by so many
--- workers within so many steps, and this is how it ended
+-- the text tells of a history that replays, in which a local step is counted and never shown as the shared one, with at most so many
+-- pending messages after each of its entries; it is a run by so many workers within so many steps, and this is how it ended
 pub record RunsTo (p : Program) (d : Detail) (options : RunOptions) (o : Outcome) (text : List ℕ) : Type 0 where
   pub entries : List Entry
   pub config : Config
   pub replayed : replay p entries ≡ Some config
+  pub history : IsHistory entries
   pub limited : StaysWithin p options.messages entries
+  pub within : step_count entries ≤ options.steps
   pub run : IsRunWith p options entries config o
   pub shown : text ≡ told d entries config o
 

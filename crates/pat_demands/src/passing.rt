@@ -14,7 +14,7 @@ ghost use Rattle.pat_demands.specs.Listed.{passes_in, divides_in, theres_in, pas
 use crate::demand::Demand;
 use crate::looking::line_of;
 use pat_derivations::Derivation;
-use pat_environments::{but_not, copy_of, names_of, then_others};
+use pat_environments::{LookUps, but_not, names_of, then_others};
 use pat_sequences::Sequence;
 use pat_types::{MailboxType, TypeOf, Usage};
 use std::alloc::{AllocError, Global};
@@ -29,9 +29,11 @@ pub fn pass_names(
 ) -> Result<(), AllocError>
     ensures { OnOk result (demands_view out.new ≡ demands_view out.old ++ passes_in names.now (needs_view given.now) (needs_view asked.now)) }
 {
+    let from = LookUps::new(given);
+    let to = LookUps::new(asked);
     for name in names {
-        let given = copy_of(alloc, given, *name)?;
-        let asked = copy_of(alloc, asked, *name)?;
+        let given = from.copy_of(alloc, *name)?;
+        let asked = to.copy_of(alloc, *name)?;
         out.push(Demand::Pass { given, asked })?;
     }
     Ok(())
@@ -41,17 +43,17 @@ pub fn pass_names(
 fn copy_but(
     alloc: Global,
     but: Option<u32>,
-    env: &[(u32, MailboxType)],
+    env: &LookUps,
     variable: u32,
 ) -> Result<Option<MailboxType>, AllocError>
-    ensures { IfOk result (λ o. option_map type_view o ≡ without_name but (need_of (needs_view env.now)) variable) }
+    ensures { IfOk result (λ o. option_map type_view o ≡ without_name but (need_of (needs_view env.now.env.now)) variable) }
 {
     match but {
-        None => copy_of(alloc, env, variable),
+        None => env.copy_of(alloc, variable),
         Some(name) => if name == variable {
             Ok(None)
         } else {
-            copy_of(alloc, env, variable)
+            env.copy_of(alloc, variable)
         },
     }
 }
@@ -68,10 +70,13 @@ pub fn divide_names(
 ) -> Result<(), AllocError>
     ensures { OnOk result (demands_view out.new ≡ demands_view out.old ++ divides_in names.now but (needs_view given.now) (needs_view bound.now) (needs_view body.now)) }
 {
+    let whole = LookUps::new(given);
+    let first = LookUps::new(bound);
+    let second = LookUps::new(body);
     for name in names {
-        let given = copy_of(alloc, given, *name)?;
-        let bound = copy_but(alloc, but, bound, *name)?;
-        let body = copy_but(alloc, but, body, *name)?;
+        let given = whole.copy_of(alloc, *name)?;
+        let bound = copy_but(alloc, but, &first, *name)?;
+        let body = copy_but(alloc, but, &second, *name)?;
         out.push(Demand::Divide { given, bound, body })?;
     }
     Ok(())
@@ -101,9 +106,11 @@ fn there_names(
 ) -> Result<(), AllocError>
     ensures { OnOk result (demands_view out.new ≡ demands_view out.old ++ theres_in names.now (needs_view given.now) (needs_view part.now)) }
 {
+    let whole = LookUps::new(given);
+    let own = LookUps::new(part);
     for name in names {
-        let given = copy_of(alloc, given, *name)?;
-        let asked = copy_of(alloc, part, *name)?;
+        let given = whole.copy_of(alloc, *name)?;
+        let asked = own.copy_of(alloc, *name)?;
         out.push(Demand::There { given, asked })?;
     }
     Ok(())

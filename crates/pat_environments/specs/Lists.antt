@@ -1,5 +1,5 @@
 -- Environments and lists of names, where what is looked up stands in lists.
-use Rattle.std.specs.Prelude.{ℕ, not, nat_eq, if◌then◌else◌, List, [], ◌∷◌, ◌++◌, map, filter}
+use Rattle.std.specs.Prelude.{ℕ, ◌≤◌, ◌<◌, length, get_or, not, nat_eq, if◌then◌else◌, List, [], ◌∷◌, ◌++◌, map, filter}
 use Rattle.pat_model.specs.Programs.{is_among}
 use Rattle.pat_typing.specs.Types.{Returnable, mailbox_type}
 use Rattle.pat_open_types.specs.NodeTypes.{Needs}
@@ -21,3 +21,7 @@ others_in xs (y ∷ ys) = if is_among y xs then others_in xs ys else y ∷ other
 -- the names of the first list, and then those of the second that are not in it
 abbrev pub with_others : List ℕ → List ℕ → List ℕ
 with_others xs ys = xs ++ others_in xs ys
+
+-- no number is lower than one before it
+abbrev pub NeverFalls : List ℕ → Type 0
+NeverFalls ks = (i j : ℕ) → i ≤ j → j < length ks → get_or ks i 0 ≤ get_or ks j 0

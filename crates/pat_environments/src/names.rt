@@ -1,8 +1,8 @@
 // Lists of names.
-ghost use Rattle.std.specs.Prelude.{◌≡◌, ◌++◌, IfOk, OnOk};
+ghost use Rattle.std.specs.Prelude.{◌≡◌, ◌++◌, ◌≤◌, length, take, IfOk, OnOk};
 ghost use Rattle.pat_model.specs.Programs.{is_among};
 ghost use Rattle.pat_validity.specs.Conditions.{but_not as all_but};
-ghost use Rattle.pat_environments.specs.Lists.{others_in, with_others};
+ghost use Rattle.pat_environments.specs.Lists.{others_in, with_others, NeverFalls};
 
 use pat_sequences::Sequence;
 use std::alloc::{AllocError, Global};
@@ -19,13 +19,47 @@ pub fn holds(names: &[u32], name: u32) -> bool
     false
 }
 
+/// How many names at the front ascend.
+#[tactic(auto, using(crate::proofs::Rising::none_rise, crate::proofs::Rising::rises_on, crate::proofs::Rising::never_falls))]
+fn rising_front(names: &[u32]) -> usize
+    ensures within { result ≤ length names.now }
+    ensures rising { NeverFalls (take result names.now) }
+{
+    let mut least = 0;
+    for (place, name) in names.iter().enumerate() {
+        if *name < least {
+            return place;
+        }
+        least = *name;
+    }
+    names.len()
+}
+
+/// Whether the name is in the list, which ascends.
+fn holds_rising(names: &[u32], name: u32) -> bool
+    requires { NeverFalls names.now }
+    ensures { result ≡ is_among name names.now }
+{
+    names.binary_search(&name).is_ok()
+}
+
+/// Whether the name is in the list, of which so many at the front ascend.
+fn holds_beyond(names: &[u32], rising: usize, name: u32) -> bool
+    requires within { rising ≤ length names.now }
+    requires rising { NeverFalls (take rising names.now) }
+    ensures { result ≡ is_among name names.now }
+{
+    holds_rising(&names[..rising], name) || holds(&names[rising..], name)
+}
+
 /// Those of the second list that are not in the first.
 pub fn others(alloc: Global, names: &[u32], more: &[u32]) -> Result<Sequence<u32>, AllocError>
     ensures { IfOk result (λ rest. rest ≡ others_in names.now more.now) }
 {
+    let rising = rising_front(names);
     let mut rest = Sequence::new(alloc);
     for name in more {
-        if !holds(names, *name) {
+        if !holds_beyond(names, rising, *name) {
             rest.push(*name)?;
         }
     }

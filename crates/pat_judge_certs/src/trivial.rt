@@ -65,6 +65,9 @@ pub fn is_trivial(
     requires right { IsTrue (has_values (length plain.now) (pattern_view right.now)) }
     ensures { IfOk result (λ yes. (s : Scope) (i : ℕ) → patterns_view plain.now ≡ all_plain s.vars → IsTrue (is_formed s i (pattern_view left.now)) → IsTrue (is_formed s i (pattern_view right.now)) → yes ≡ is_trivial_of s (pattern_view left.now) (pattern_view right.now)) }
 {
+    if same_pattern(left, right) {
+        return Ok(true);
+    }
     let left = subst(alloc, left, plain)?;
     let right = subst(alloc, right, plain)?;
     Ok(is_arm(&left, &right))

@@ -9,6 +9,8 @@ use Rattle.pat_model.specs.Configs.{Thread, Config, thread_at}
 use Rattle.pat_model.specs.Orders.{AscendsFrom, IsOrdered}
 use Rattle.pat_model_laws.proofs.Lists.{clash}
 use Rattle.pat_model_laws.proofs.Inversion.{step_of}
+use Rattle.pat_model.specs.Runs.{can_step_thread}
+use Rattle.pat_model_laws.proofs.Enabled.{thread_exact}
 use Rattle.pat_commits.specs.Opens.{can_go_on}
 use Rattle.pat_commits.specs.Lendings.{Out}
 use Rattle.pat_commits.specs.Turns.{is_above, is_ready, ready_above}
@@ -165,3 +167,17 @@ open_in_list p c limit ts covers =
     ∙ any_same (can_go_on p c limit) (keys_of c.threads) ts
     (λ t at pass. covers t pass)
     (λ t at pass. let s = open_there p c limit t pass in key_among c.threads t s.0 s.1)
+
+-- a thread with an enabled step is there
+pub enabled_there : (p : Program) (c : Config) (t : ℕ) → can_step_thread p c t ≡ true → (s : Thread) × (thread_at c t ≡ Some s)
+enabled_there p c t h =
+    let e = (thread_exact p c t).0 h in
+    let o = step_of p c (record { thread = t; act = e.0 }) e.1.0 e.1.1 in
+    (o.thread, o.there)
+
+pub enabled_in_list : (p : Program) (c : Config) (ts : List ℕ) → ((t : ℕ) → can_step_thread p c t ≡ true → is_among t ts ≡ true) → list_any (λ e. can_step_thread p c e.0) c.threads ≡ list_any (can_step_thread p c) ts
+enabled_in_list p c ts covers =
+    any_key (can_step_thread p c) c.threads
+    ∙ any_same (can_step_thread p c) (keys_of c.threads) ts
+    (λ t at pass. covers t pass)
+    (λ t at pass. let s = enabled_there p c t pass in key_among c.threads t s.0 s.1)

@@ -1,16 +1,16 @@
 -- Laws of what a thread's next step looks at, of the threads that a step of another wakes, and of turns among some of the threads.
-use Rattle.std.specs.Prelude.{◌≡◌, ℕ, Bool, ◌&&◌, List, Option, Some, option_map, find, IsTrue, ◌⊎◌}
+use Rattle.std.specs.Prelude.{◌≡◌, ℕ, Bool, ◌&&◌, List, Option, Some, option_map, find, IsTrue, IsFalse, ◌⊎◌}
 use Rattle.std.specs.List.{list_any}
 use Rattle.pat_model.specs.Programs.{Program, is_among}
 use Rattle.pat_model.specs.Configs.{Thread, Config, thread_at, with_thread, thread_refers}
 use Rattle.pat_model.specs.Orders.{AscendsFrom, IsOrdered}
-use Rattle.pat_model.specs.Steps.{Act}
+use Rattle.pat_model.specs.Steps.{Act, ActSpawn}
 use Rattle.pat_model.specs.Runs.{run_from, shared_step, can_step_thread}
 use Rattle.pat_commits.specs.Opens.{has_space, can_go_on}
 use Rattle.pat_commits.specs.Commits.{locally}
 use Rattle.pat_commits.specs.Lendings.{Out}
 use Rattle.pat_commits.specs.Turns.{is_above, is_ready, ready_above}
-use Rattle.pat_locality_laws.specs.Wakings.{guarded, OffersNoMore, IsWoken, GotSpace}
+use Rattle.pat_locality_laws.specs.Wakings.{guarded, awaited, OffersNoMore, IsWoken, GotSpace, SendsTo}
 
 -- a thread that stands alike in two configurations can step in the first wherever it can in the second, where the second offers its guard no more
 abbrev pub GuardDecides : Type 0
@@ -58,3 +58,21 @@ abbrev pub OpenInList : Type 0
 OpenInList =
     (p : Program) (c : Config) (limit : ℕ) (ts : List ℕ) → ((t : ℕ) → IsTrue (can_go_on p c limit t) → IsTrue (is_among t ts))
     → list_any (λ e. can_go_on p c limit e.0) c.threads ≡ list_any (can_go_on p c limit) ts
+
+-- and a thread has an enabled step where one of those that may have one has
+abbrev pub EnabledInList : Type 0
+EnabledInList =
+    (p : Program) (c : Config) (ts : List ℕ) → ((t : ℕ) → IsTrue (can_step_thread p c t) → IsTrue (is_among t ts))
+    → list_any (λ e. can_step_thread p c e.0) c.threads ≡ list_any (can_step_thread p c) ts
+
+-- another thread than t is what it was, or was spawned
+abbrev pub OthersStay : Type 0
+OthersStay =
+    (p : Program) (c d : Config) (t u : ℕ) (r s q : Thread) (act : Option Act) → IsOrdered c → thread_at c t ≡ Some r → run_from p (with_thread c t s) (shared_step t act) ≡ Some d → (t ≡ u → ⊥)
+    → thread_at d u ≡ Some q → (thread_at c u ≡ Some q) ⊎ ((act ≡ Some ActSpawn) × (u ≡ c.next_thread))
+
+-- and one that waited for nothing but a message can't step, or the message was sent
+abbrev pub MessagesCall : Type 0
+MessagesCall =
+    (p : Program) (c d : Config) (t u : ℕ) (r s q : Thread) (act : Option Act) (a : ℕ) → IsOrdered c → thread_at c t ≡ Some r → run_from p (with_thread c t s) (shared_step t act) ≡ Some d → (t ≡ u → ⊥)
+    → thread_at c u ≡ Some q → thread_at d u ≡ Some q → awaited p q ≡ Some a → IsFalse (can_step_thread p c u) → IsFalse (can_step_thread p d u) ⊎ SendsTo c act d a

@@ -1,7 +1,7 @@
 //! Laws of what a thread's next step looks at, and of the threads that a step wakes. No code of the product.
 #![tactic(auto)]
 
-ghost use Rattle.pat_locality_laws.specs.Laws.{GuardDecides, SpaceDecides, OthersWake, OthersOpen, LocalsNameNoMore, FoundAmongThose, FoundInList, OpenInList};
+ghost use Rattle.pat_locality_laws.specs.Laws.{GuardDecides, SpaceDecides, OthersWake, OthersOpen, LocalsNameNoMore, FoundAmongThose, FoundInList, OpenInList, EnabledInList, OthersStay, MessagesCall};
 
 /// What a thread can do next follows from its own state, from what is pending in its guard's mailbox and who names that one, and from the space left.
 pub fn need_laws()
@@ -21,4 +21,11 @@ pub fn superset_laws()
     ensures those { FoundAmongThose }
     ensures list { FoundInList }
     ensures opens { OpenInList }
+    ensures enabled { EnabledInList }
+{}
+
+/// After steps of one thread the others stand as they did, and of those that wait for nothing but a message only the one can step whose message was sent.
+pub fn message_laws()
+    ensures stay { OthersStay }
+    ensures call { MessagesCall }
 {}

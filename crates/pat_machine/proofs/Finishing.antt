@@ -1,11 +1,12 @@
 -- The end of a commit.
-use Rattle.std.proofs.Common.{◌≡◌, ℕ, ◌<◌, Bool, true, false, cond, nat_eq, List, [], ◌∷◌, ◌++◌, length, map, Option, Some, None, refl, sym, ap, ◌∙◌, subst, arith}
-use Rattle.std.specs.Prelude.{◌↔◌}
-use Rattle.std.proofs.lemmas.Bool.{eqb-true, eqb-false}
+use Rattle.std.proofs.Common.{◌≡◌, ℕ, ◌<◌, ◌≤◌, Bool, true, false, cond, nat_eq, List, [], ◌∷◌, ◌++◌, length, map, Option, Some, None, refl, sym, ap, ◌∙◌, subst, arith, ⊎_elim}
+use Rattle.std.specs.Prelude.{◌↔◌, nat_lt}
+use Rattle.std.proofs.lemmas.Bool.{eqb-true, eqb-false, ltb-true, ltb-false, cases_Bool}
 use Rattle.std.proofs.lemmas.List.{map-append}
 use Rattle.pat_model.specs.Programs.{Program}
 use Rattle.pat_model.specs.Configs.{Config, with_thread}
-use Rattle.pat_model.specs.Runs.{Entry}
+use Rattle.pat_model.specs.Steps.{Act}
+use Rattle.pat_model.specs.Runs.{Entry, run_from, shared_step}
 use Rattle.pat_reduce.specs.declared.history.Entry.{Entry as CodeEntry}
 use Rattle.pat_reduce_threads.specs.ThreadViews.{thread_view}
 use Rattle.pat_reduce.specs.Views.{entry_view}
@@ -16,6 +17,16 @@ use Rattle.pat_machine.specs.declared.committing.Settled.{Settled}
 use Rattle.pat_machine.specs.declared.job.Job.{Job}
 use Rattle.pat_machine.specs.Shown.{steps_in, noted_in, place_of}
 use Rattle.pat_machine.specs.Settling.{IsSettled, Finishes}
+
+-- the end leads from the settled state on
+pub run_of : (p : Program) (allowance limit : ℕ) (half d : Config) (t k : ℕ) (a : Option Act) → Finishes p allowance limit half t k a d → k ≤ allowance → run_from p half (shared_step t a) ≡ Some d
+run_of p allowance limit half d t k a f within = ⊎_elim
+    (λ less. (f.shared (ltb-true k allowance less)).taken)
+    (λ more.
+    let beyond = ltb-false k allowance more in
+    let q = f.spent (omega arith) in
+    ap (λ o. run_from p half (shared_step t o)) q.0 ∙ ap (λ (x : Config). Some x) (sym q.1))
+    (cases_Bool (nat_lt k allowance))
 
 -- the settled state and its end are a commit
 pub commit_of : (p : Program) (limit : ℕ) (c d : Config) (j : Job) (s : Settled) (e : Entry) → IsSettled p c j s → e.thread ≡ j.thread → e.local_steps ≡ s.steps

@@ -2,3 +2,4 @@ mod Lending
 mod Ending
 mod Finishing
 mod Rounds
+mod Stepping

@@ -4,6 +4,7 @@ use Rattle.pat_core.specs.Views.{program_view}
 use Rattle.pat_reduce.specs.Views.{entry_view}
 use Rattle.pat_commits.specs.Lendings.{allowances}
 use Rattle.pat_commits.specs.Machines.{MachineInvariant}
+use Rattle.pat_machine_waits.specs.Noted.{AreNoted}
 use Rattle.pat_machine.specs.declared.parts.Parts.{Parts}
 use Rattle.pat_machine.specs.Shown.{Shown}
 
@@ -21,3 +22,4 @@ shown m = record {
 pub record IsKept (m : Parts) : Type 0 where
   pub stands : MachineInvariant (program_view m.code.program) m.budget m.limit m.state (map entry_view m.history.items) m.left m.out.items
   pub lent : m.lent ≡ allowances m.out.items
+  pub noted : AreNoted (program_view m.code.program) m.state m.waits.awake.items m.waits.sleepers.items

@@ -13,6 +13,7 @@ ghost use Rattle.pat_machine.specs.Settling.{IsSettled, Finishes};
 use crate::entry::{note, steps_of, take_back};
 use crate::job::{CommitRefused, Job, Receipt};
 use crate::parts::Parts;
+use crate::waiting::{Stepped, follow};
 use pat_executable::Executable;
 use pat_machine_states::State;
 use pat_machine_threads::{LocalRun, copy_state, is_same_state, run_locally};
@@ -92,6 +93,8 @@ impl Parts {
     {
         self.history.reserve(1)?;
         self.out.reserve(1)?;
+        self.waits.reserve()?;
+        let newcomer = self.state.threads_made();
         let steps = settled.steps;
         let shared = share(
             self.alloc,
@@ -101,6 +104,12 @@ impl Parts {
             job,
             settled,
         )?;
+        let stepped = Stepped {
+            thread: job.thread,
+            shared,
+            newcomer,
+        };
+        follow(&mut self.waits, &self.code, &self.state, stepped);
         let entry = Entry {
             worker,
             thread: job.thread,

@@ -9,6 +9,7 @@ mod machine;
 mod outcome;
 mod parts;
 mod taking;
+mod waiting;
 
 pub use job::{CommitRefused, Job, Named, Outcome, Receipt, StateRefused, TakeRefused};
 pub use machine::Machine;

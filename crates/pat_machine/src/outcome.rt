@@ -18,7 +18,8 @@ impl Parts {
         if self.lent > 0 {
             return None;
         }
-        match self.state.prospect(&self.code, self.limit) {
+        let candidates = self.waits.awake.as_slice();
+        match self.state.prospect(&self.code, self.limit, candidates) {
             Prospect::Over => Some(Outcome::Done),
             Prospect::Stuck => Some(Outcome::Waiting),
             Prospect::Full => Some(Outcome::Full),

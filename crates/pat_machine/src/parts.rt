@@ -10,6 +10,7 @@ ghost use Rattle.pat_machine.specs.Shown.{IsNew};
 use pat_core::Program;
 use pat_executable::Executable;
 use pat_machine_states::State;
+use pat_machine_waits::Waits;
 use pat_reduce::Entry;
 use std::alloc::{AllocError, Global};
 
@@ -19,6 +20,8 @@ pub struct Parts {
     pub alloc: Global,
     pub code: Executable,
     pub state: State,
+    /// The threads that may go on, and those that sleep.
+    pub waits: Waits,
     pub history: Vec<Entry>,
     pub budget: u64,
     pub limit: u32,
@@ -48,11 +51,13 @@ impl Parts {
     {
         let code = Executable::new(alloc, program)?;
         let state = State::start(alloc, &code)?;
+        let waits = Waits::start(alloc)?;
         let out = nobody_out(alloc, state.threads_made())?;
         Ok(Parts {
             alloc,
             code,
             state,
+            waits,
             history: Vec::new(alloc),
             budget: steps,
             limit: messages,

@@ -2,6 +2,8 @@
 ghost use Rattle.std.specs.Prelude.{◌≡◌, ℕ, ◌<◌, length, Some, None, ◌↔◌, IsTrue};
 ghost use Rattle.pat_model.specs.Configs.{Thread as ThreadOf, thread_at};
 ghost use Rattle.pat_commits.specs.Lendings.{all_in, allowance_of};
+ghost use Rattle.pat_core.specs.Views.{program_view};
+ghost use Rattle.pat_commits.specs.Turns.{ready_above, turn};
 ghost use Rattle.pat_machine.specs.Parted.{shown, IsKept};
 ghost use Rattle.pat_machine.specs.Gives.{IsLent, MayTake, Lends, TakeGives, TakeThreadGives, StateGives, GivesBack, all_back};
 
@@ -23,22 +25,38 @@ impl Parts {
         if self.left == 0 {
             return None;
         }
-        match self
-            .state
-            .next_ready(&self.code, self.limit, self.out.as_slice(), self.last)
-        {
+        match self.next_ready() {
             Some(thread) => Some(self.lend(thread)),
             None => None,
         }
     }
 
     /// Whether a job could be taken.
-    pub fn could_take(&self) -> bool {
-        self.left > 0
-            && self
-                .state
-                .next_ready(&self.code, self.limit, self.out.as_slice(), self.last)
-                .is_some()
+    pub fn could_take(&self) -> bool
+        requires { IsKept self.now }
+    {
+        self.left > 0 && self.next_ready().is_some()
+    }
+
+    // The ready thread whose turn comes first after the one last taken.
+    fn next_ready(&self) -> Option<u32>
+        requires { IsKept self.now }
+        ensures { result ≡ turn (program_view self.now.code.program) self.now.state self.now.limit self.now.out.items self.now.last }
+    {
+        match self.ready_above(self.last) {
+            Some(thread) => Some(thread),
+            None => self.ready_above(None),
+        }
+    }
+
+    // The first ready thread above this one, or of all.
+    fn ready_above(&self, last: Option<u32>) -> Option<u32>
+        requires { IsKept self.now }
+        ensures { result ≡ ready_above (program_view self.now.code.program) self.now.state self.now.limit self.now.out.items last }
+    {
+        let threads = self.waits.above(last);
+        self.state
+            .first_ready(&self.code, self.limit, self.out.as_slice(), threads)
     }
 
     /// The job of a thread.

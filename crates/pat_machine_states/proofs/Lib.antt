@@ -2,3 +2,4 @@ mod Opened
 mod Prospected
 mod Placed
 mod Ascending
+mod Awaiting

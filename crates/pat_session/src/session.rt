@@ -179,7 +179,7 @@ fn asks_for_several(words: &[String]) -> bool {
     }
 }
 
-// One worker takes neither.
+// All but several workers: it starts no thread and waits for none.
 fn alone<S: Source, K: Sink>(
     alloc: Global,
     words: &[String],

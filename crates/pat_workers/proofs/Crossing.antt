@@ -41,6 +41,7 @@ use Rattle.pat_executable.specs.contracts.executable.Executable as executable
 use Rattle.pat_reduce.proofs.history.Entry.TheSendSync as entries
 use Rattle.pat_machine_states.proofs.state.State.TheSendSync as states
 use Rattle.pat_machine_states.specs.contracts.state.State as the_state
+use Rattle.pat_machine_waits.specs.contracts.waits.Waits as waits
 use Rattle.pat_reduce.specs.contracts.history.Entry as entry
 use Rattle.pat_machine.proofs.job.Receipt.TheSendSync as receipts
 use Rattle.pat_machine.specs.contracts.job.Named as named
@@ -101,8 +102,11 @@ executable_send = declared_send executable.the_type (search (crosses, sequence_s
 state_send : IsSend (as_row the_state.the_field)
 state_send = states.the_send
 
+waits_send : IsSend waits.the_row
+waits_send = declared_send waits.the_type (search (crosses, as_row_send, options.the_field_send, options.the_send) depth 20)
+
 parts_send : IsSend parts.the_row
-parts_send = declared_send parts.the_type (search (crosses, as_row_send, options.the_field_send, options.the_send, entries.the_send, state_send, executable_send) depth 20)
+parts_send = declared_send parts.the_type (search (crosses, as_row_send, options.the_field_send, options.the_send, entries.the_send, state_send, waits_send, executable_send) depth 20)
 
 inside_send : IsSend inside.the_row
 inside_send = declared_send inside.the_type (search (crosses, parts_send) depth 20)

@@ -4,16 +4,16 @@ ghost use Rattle.pat_model.specs.Programs.{Let, Call, Send, Guard, MailboxSort a
 ghost use Rattle.pat_core.specs.Views.{clause_view, core_view, expr_view, function_view, interface_view, kind_view, node_view, program_view, sort_view, tag_view};
 ghost use Rattle.pat_model.specs.Values.{MailboxOf, VarExpr};
 ghost use Rattle.pat_primitives.specs.Views.{polarity_view};
-ghost use Rattle.pat_words.specs.Patterns.{One, Tag, Prod};
+ghost use Rattle.pat_words.specs.Patterns.{One, Tag, Prod, Star};
 ghost use Rattle.pat_patterns.specs.Views.{pattern_view};
 ghost use Rattle.pat_examples.specs.Build.{clause, function, tag, receiving, sending_as, unit_node, mailbox_node};
-ghost use Rattle.pat_examples.specs.Safe.{one_message, turned, crossed};
+ghost use Rattle.pat_examples.specs.Safe.{one_message, turned, crossed, pump};
 
 use pat_accepted::Accepted;
 use pat_core::{
     Clause, Core, Expr, Function, Interface, Kind, MailboxSort, Node, Program, Sort, TagDecl,
 };
-use pat_examples::typable_programs;
+use pat_examples::{safe_programs, typable_programs};
 use pat_patterns::Pattern;
 use pat_primitives::{Base, Polarity};
 use pat_sequences::{Sequence, Text};
@@ -21,6 +21,25 @@ use pat_syntax::Span;
 use std::alloc::{AllocError, Global};
 
 const NOWHERE: Span = Span { from: 0, to: 0 };
+
+/// One of the programs.
+#[derive(Clone, Copy)]
+pub enum Example {
+    OneMessage,
+    Turned,
+    Crossed,
+    Pump,
+}
+
+/// The program.
+pub fn accepted(alloc: Global, example: Example) -> Result<Accepted, AllocError> {
+    match example {
+        Example::OneMessage => one_message(alloc),
+        Example::Turned => turned(alloc),
+        Example::Crossed => crossed(alloc),
+        Example::Pump => pump(alloc),
+    }
+}
 
 /// A mailbox is made, sent a message, and received from.
 pub fn one_message(alloc: Global) -> Result<Accepted, AllocError> {
@@ -238,6 +257,106 @@ fn call(alloc: Global, first: u32, second: u32) -> Result<Core, AllocError>
 {
     let args = Sequence::from_vec(vec![in alloc; Expr::Var(first), Expr::Var(second)]?);
     Ok(Core::Call { function: 0, args })
+}
+
+/// One thread sends without end what another one receives.
+pub fn pump(alloc: Global) -> Result<Accepted, AllocError> {
+    safe_programs();
+    Ok(Accepted::of(pump_program(alloc)?))
+}
+
+fn pump_program(alloc: Global) -> Result<Program, AllocError>
+    ensures { IfOk result (λ p. program_view p ≡ pump) }
+{
+    let interfaces = one_tag(alloc)?;
+    let functions = three_functions(alloc)?;
+    let nodes = pump_nodes(alloc)?;
+    Ok(Program {
+        interfaces,
+        functions,
+        main: 2,
+        nodes,
+    })
+}
+
+fn pump_nodes(alloc: Global) -> Result<Sequence<Node>, AllocError>
+    ensures { IfOk result (λ nodes. map node_view nodes ≡ pump.nodes) }
+{
+    let drain = receive_or_free(alloc)?;
+    let sender = call_with(alloc, 0, 0)?;
+    let receiver = call_with(alloc, 1, 1)?;
+    let spawned = call_with(alloc, 1, 0)?;
+    let begun = call_with(alloc, 0, 0)?;
+    let nodes = vec![in alloc;
+        unit_node(0, binding(None, 1, 2)),
+        unit_node(0, send(alloc, 0, 0)),
+        unit_node(0, sender),
+        unit_node(1, drain),
+        unit_node(1, Core::Value(Expr::Unit)),
+        unit_node(1, receiver),
+        unit_node(2, binding(Some(0), 7, 8)),
+        mailbox_node(2, Core::New(0)),
+        unit_node(2, binding(None, 9, 11)),
+        unit_node(2, Core::Spawn(10)),
+        unit_node(2, spawned),
+        unit_node(2, begun),
+    ]?;
+    Ok(Sequence::from_vec(nodes))
+}
+
+fn three_functions(alloc: Global) -> Result<Sequence<Function>, AllocError>
+    ensures { IfOk result (λ fs. map function_view fs ≡ pump.functions) }
+{
+    let pump = pumping(alloc)?;
+    let drain = draining(alloc)?;
+    let vars = vec![in alloc; Kind::Mailbox(0)]?;
+    let name = Text::from_slice(alloc, b"main")?;
+    let main = function(alloc, name, Vec::new(alloc), vars, 6);
+    Ok(Sequence::from_vec(vec![in alloc; pump, drain, main]?))
+}
+
+fn pumping(alloc: Global) -> Result<Function, AllocError>
+    ensures { IfOk result (λ f. function_view f ≡ function (codes "pump") (sending_as 0 (Star (Tag 0)) ∷ []) (MailboxOf 0 ∷ []) 0) }
+{
+    let star = Pattern::Star(Box::new(alloc, Pattern::Tag(0))?);
+    let params = vec![in alloc; mailbox(Polarity::Sending, Some(star))]?;
+    let vars = vec![in alloc; Kind::Mailbox(0)]?;
+    Ok(function(alloc, Text::from_slice(alloc, b"pump")?, params, vars, 0))
+}
+
+fn draining(alloc: Global) -> Result<Function, AllocError>
+    ensures { IfOk result (λ f. function_view f ≡ function (codes "drain") (receiving 0 ∷ []) (MailboxOf 0 ∷ MailboxOf 0 ∷ []) 3) }
+{
+    let params = vec![in alloc; mailbox(Polarity::Receiving, None)]?;
+    let vars = vec![in alloc; Kind::Mailbox(0), Kind::Mailbox(0)]?;
+    Ok(function(alloc, Text::from_slice(alloc, b"drain")?, params, vars, 3))
+}
+
+// A call of a function with one variable.
+fn call_with(alloc: Global, function: u32, first: u32) -> Result<Core, AllocError>
+    ensures { IfOk result (λ core. core_view core ≡ Call function (VarExpr first ∷ [])) }
+{
+    let args = Sequence::from_vec(vec![in alloc; Expr::Var(first)]?);
+    Ok(Core::Call { function, args })
+}
+
+// A guard of any number of messages, which frees or receives.
+fn receive_or_free(alloc: Global) -> Result<Core, AllocError>
+    ensures { IfOk result (λ core. core_view core ≡ Guard 0 (Star (Tag 0)) (Some 4) (clause 0 [] 1 5 ∷ [])) }
+{
+    let pattern = Pattern::Star(Box::new(alloc, Pattern::Tag(0))?);
+    let clause = Clause {
+        tag: 0,
+        vars: Sequence::new(alloc),
+        from: 1,
+        body: 5,
+    };
+    Ok(Core::Guard {
+        var: 0,
+        pattern,
+        free: Some(4),
+        receives: Sequence::from_vec(vec![in alloc; clause]?),
+    })
 }
 
 // The interface I with one tag, and with two.

@@ -1,17 +1,9 @@
 // Drives to an outcome, under budgets and limits.
-use crate::programs::{crossed, one_message, turned};
-use pat_accepted::Accepted;
+use crate::programs::{Example, accepted};
 use pat_machine::{Machine, Outcome};
 use pat_reduce::{Act, Entry};
 use std::alloc::{AllocError, Global};
 use std::process::Abort;
-
-#[derive(Clone, Copy)]
-enum Example {
-    OneMessage,
-    Turned,
-    Crossed,
-}
 
 #[derive(Clone, Copy)]
 struct Row {
@@ -72,14 +64,6 @@ fn expects(
         messages,
         entries,
         outcome,
-    }
-}
-
-fn accepted(alloc: Global, example: Example) -> Result<Accepted, AllocError> {
-    match example {
-        Example::OneMessage => one_message(alloc),
-        Example::Turned => turned(alloc),
-        Example::Crossed => crossed(alloc),
     }
 }
 

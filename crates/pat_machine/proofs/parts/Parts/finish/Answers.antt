@@ -11,9 +11,10 @@ use Rattle.pat_commits.specs.Machines.{MachineInvariant}
 use Rattle.pat_commit_laws.proofs.Runs.{commit_stands}
 use Rattle.pat_commit_laws.proofs.Rooms.{room_of, half_typed}
 use Rattle.pat_commit_laws.proofs.Tables.{allowance_within, allowances_committed}
+use Rattle.pat_machine_waits.specs.Noted.{AreNoted}
 use Rattle.pat_machine.specs.Shown.{Shown, steps_in, noted_in, place_of}
 use Rattle.pat_machine.proofs.Lending.{part_lent}
-use Rattle.pat_machine.proofs.Finishing.{commit_of, noted_view, idle_so}
+use Rattle.pat_machine.proofs.Finishing.{run_of, commit_of, noted_view, idle_so}
 use Rattle.pat_machine.proofs.parts.Parts.finish.Goals as goal
 
 pub share-requires-clause-room : goal.share-requires-clause-room
@@ -26,6 +27,25 @@ share-requires-clause-typed c =
     let m = c.args.self.now in
     let s = c.requires.settled in
     half_typed (program_view m.code.program) m.budget m.limit m.state (map entry_view m.history.items) m.left m.out.items c.requires.kept.stands c.args.job.thread c.args.settled.steps s.kept (thread_view c.args.settled.end) s.there s.local.taken
+
+pub follow-requires-clause-were : goal.follow-requires-clause-were
+follow-requires-clause-were c =
+    let m = c.args.self.now in
+    let p = program_view m.code.program in
+    let s = c.requires.settled in
+    let kept = c.requires.kept in
+    record {
+      before = m.state;
+      kept = s.kept;
+      middle = thread_view c.args.settled.end;
+      noted =
+          subst (λ l. AreNoted p m.state l c.reserve-3.new.self.sleepers.items) (sym c.in_ok-reserve-3.ensures.awake)
+          (subst (λ l. AreNoted p m.state m.waits.awake.items l) (sym c.in_ok-reserve-3.ensures.sleepers) kept.noted);
+      ordered = kept.stands.facts.typed.typed.numbers.ordered;
+      there = s.there;
+      run = run_of p c.args.job.allowance m.limit _ c.share.new.state c.args.job.thread c.args.settled.steps (option_map act_view c.in_ok-shared.shared) c.in_ok-shared.ensures.ok s.local.within;
+      next = c.threads_made-newcomer.ensures;
+    }
 
 pub take_back-requires-clause-there : goal.take_back-requires-clause-there
 take_back-requires-clause-there c =
@@ -56,6 +76,7 @@ returns-clause-kept c =
           subst (λ (h : List Entry). MachineInvariant p m.budget m.limit d h (m.left + (n - c.steps_of.result)) c.take_back.new.out.items) (sym grown)
           (subst (λ k. MachineInvariant p m.budget m.limit d (noted es (entry_view e)) (m.left + (n - k)) c.take_back.new.out.items) (sym c.steps_of.ensures)
           (subst (λ (o : Out). MachineInvariant p m.budget m.limit d (noted es (entry_view e)) (m.left + (n - length (entry_steps (entry_view e)))) o) (sym outs) st));
+      noted = c.follow.ensures;
       lent = lent ∙ ap allowances (sym outs);
     }
 

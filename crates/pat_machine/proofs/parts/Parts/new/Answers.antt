@@ -6,6 +6,8 @@ use Rattle.pat_reduce.specs.Views.{entry_view}
 use Rattle.pat_commits.specs.Lendings.{Out, all_in, allowances}
 use Rattle.pat_commits.specs.Machines.{MachineInvariant}
 use Rattle.pat_commit_laws.proofs.Takings.{start_stands, nothing_lent}
+use Rattle.pat_machine_waits.specs.Noted.{AreNoted}
+use Rattle.pat_machine_waits.proofs.Noting.{start_noted}
 use Rattle.pat_machine.proofs.parts.Parts.new.Goals as goal
 
 pub returns-clause-kept : goal.returns-clause-kept
@@ -22,5 +24,8 @@ returns-clause-kept c =
           (subst (λ (es : List Entry). MachineInvariant p c.args.steps c.args.messages (start p) es c.args.steps c.in_ok-out.out.items) (sym (ap (map entry_view) c.new-2.ensures.items))
           (subst (λ (o : Out). MachineInvariant p c.args.steps c.args.messages (start p) [] c.args.steps o) (sym outs)
           (start_stands p c.args.steps c.args.messages c.requires.well c.requires.typable c.requires.steps c.requires.messages))));
+      noted =
+          subst (λ x. AreNoted (program_view x) c.in_ok-state.state c.in_ok-waits.waits.awake.items c.in_ok-waits.waits.sleepers.items) (sym same)
+          (subst (λ d. AreNoted p d c.in_ok-waits.waits.awake.items c.in_ok-waits.waits.sleepers.items) (sym is) (start_noted p c.in_ok-waits.waits c.in_ok-waits.ensures.0));
       lent = sym (nothing_lent (start p).next_thread) ∙ ap allowances (sym outs);
     }

@@ -1,0 +1,79 @@
+// Look-ups of many variables in one environment.
+ghost use Rattle.std.specs.Prelude.{◌≡◌, ◌≤◌, ℕ, true, length, drop, option_map, option_copied, IfOk};
+ghost use Rattle.pat_open_types.specs.NodeTypes.{need_of};
+ghost use Rattle.pat_types.specs.Views.{type_view, needs_view};
+ghost use Rattle.pat_validity.specs.Derivations.{ascends_from};
+
+use crate::entries::find;
+use pat_types::MailboxType;
+use std::alloc::{AllocError, Global};
+
+/// An environment in which many variables are looked up: by halving where they ascend, which all do but those that a clause puts in
+/// front.
+#[derive(Clone, Copy)]
+pub struct LookUps<'a> {
+    pub env: &'a [(u32, MailboxType)],
+    rising: usize,
+    pub ghost within: { rising ≤ length env.now },
+    pub ghost ascends: { ascends_from 0 (needs_view (drop rising env.now)) ≡ true },
+}
+
+impl<'a> LookUps<'a> {
+    /// For look-ups in this environment.
+    pub fn new(env: &'a [(u32, MailboxType)]) -> Self
+        ensures { result.env.now ≡ env.now }
+    {
+        let rising = rising_end(env);
+        LookUps { env, rising }
+    }
+
+    /// The type of the variable, if it is named.
+    pub fn find(&self, variable: u32) -> Option<&'a MailboxType>
+        ensures { option_map type_view (option_copied result) ≡ need_of (needs_view self.now.env.now) variable }
+    {
+        match find(&self.env[..self.rising], variable) {
+            Some(of) => Some(of),
+            None => find_by_halves(&self.env[self.rising..], variable),
+        }
+    }
+
+    /// A copy of the type of the variable, if it is named.
+    pub fn copy_of(&self, alloc: Global, variable: u32) -> Result<Option<MailboxType>, AllocError>
+        ensures { IfOk result (λ o. option_map type_view o ≡ need_of (needs_view self.now.env.now) variable) }
+    {
+        match self.find(variable) {
+            None => Ok(None),
+            Some(of) => Ok(Some(of.copy(alloc)?)),
+        }
+    }
+}
+
+/// The place behind which the variables ascend.
+#[tactic(auto, using(crate::proofs::Halving::rises_now))]
+fn rising_end(env: &[(u32, MailboxType)]) -> usize
+    ensures within { result ≤ length env.now }
+    ensures ascends { ascends_from 0 (needs_view (drop result env.now)) ≡ true }
+{
+    let mut next = u32::MAX as u64 + 1;
+    let mut rising = env.len();
+    while rising > 0 {
+        let variable = env[rising - 1].0 as u64;
+        if variable >= next {
+            return rising;
+        }
+        next = variable;
+        rising -= 1;
+    }
+    rising
+}
+
+/// The type of the variable, if it is named, where the variables ascend.
+fn find_by_halves(env: &[(u32, MailboxType)], variable: u32) -> Option<&MailboxType>
+    requires { ascends_from 0 (needs_view env.now) ≡ true }
+    ensures { option_map type_view (option_copied result) ≡ need_of (needs_view env.now) variable }
+{
+    match env.binary_search_by_key(&variable, |own| own.0) {
+        Ok(place) => Some(&env[place].1),
+        Err(_) => None,
+    }
+}

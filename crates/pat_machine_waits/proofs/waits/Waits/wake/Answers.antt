@@ -1,0 +1,35 @@
+use Rattle.std.proofs.Common.{◌≡◌, ◌<◌, Some, true, refl, sym, ap, ◌∙◌, subst, inl, inr, ⊎_elim, arith}
+use Rattle.pat_model.specs.Programs.{is_among}
+use Rattle.pat_commit_laws.proofs.Tables.{allowance_within}
+use Rattle.pat_machine_waits.specs.Waits.{sleeper_at, IsAwake, SleepsAt}
+use Rattle.pat_machine_waits.proofs.Slept.{cleared}
+use Rattle.pat_machine_waits.proofs.waits.Waits.wake.Goals as goal
+
+pub returns-in-Some : goal.returns-in-Some
+returns-in-Some c =
+    let w = c.args.self.now in
+    let a = c.args.mailbox in
+    let own : sleeper_at w.sleepers.items a ≡ Some c.in-Some.thread = sym c.sleeper_at.ensures ∙ c.in-Some.is in
+    let k = c.add.ensures in
+    record {
+      order = k.order;
+      others = k.others;
+      woken = λ u s.
+          let both : Some c.in-Some.thread ≡ Some u = sym own ∙ s in
+          let same : c.in-Some.thread ≡ u = cc in
+          subst (IsAwake c.add.new.self) same k.own;
+      asleep = λ b u s. ⊎_elim
+          (λ stays. inl (k.asleep b u stays))
+          (λ same. inr (subst (IsAwake c.add.new.self) (sym same) k.own))
+          (cleared w.sleepers.items a c.in-Some.thread b u own s);
+      space = record { len = k.space.len; capacity = k.space.capacity };
+    }
+
+pub returns-in-None : goal.returns-in-None
+returns-in-None c = record {
+  order = c.requires.order;
+  others = λ u on. on;
+  woken = λ u s. let none = sym c.sleeper_at.ensures ∙ c.in-None.is in cc;
+  asleep = λ b u s. inl s;
+  space = record { len = omega arith; capacity = omega arith };
+}
