@@ -3,10 +3,16 @@ use crate::bound::Bound;
 use pat_bags::Bag;
 
 /// A word that refutes an inclusion, and the tree that shows it for the left side.
-#[derive(Debug, Drop)]
+#[derive(Debug)]
 pub struct Refutation {
     pub word: Bag,
     pub tree: Bound,
+}
+
+impl Drop for Refutation {
+    fn drop(self) {
+        let Refutation { word: _, tree: _ } = self;
+    }
 }
 
 /// What a search for a refutation finds.

@@ -39,14 +39,18 @@ pub struct TagDecl {
 }
 
 /// An interface. A tag's number is its place in `tags`.
-#[derive(Drop)]
 pub struct Interface {
     pub name: Text,
     pub tags: Sequence<TagDecl>,
 }
 
+impl Drop for Interface {
+    fn drop(self) {
+        let Interface { name: _, tags: _ } = self;
+    }
+}
+
 /// A function. A variable's number is its place in `vars`; the parameters come first, in order.
-#[derive(Drop)]
 pub struct Function {
     pub name: Text,
     pub params: Sequence<Sort>,
@@ -56,6 +60,19 @@ pub struct Function {
     pub spans: Sequence<Span>,
     /// The node of its body.
     pub body: u32,
+}
+
+impl Drop for Function {
+    fn drop(self) {
+        let Function {
+            name: _,
+            params: _,
+            result: _,
+            vars: _,
+            spans: _,
+            body: _,
+        } = self;
+    }
 }
 
 /// A receive clause of a guard: the tag, the variables of the payloads and of what is left of the mailbox, and the body.
@@ -105,7 +122,6 @@ pub enum Core {
 }
 
 /// A node: a term of a function, with its kind and its place in the text.
-#[derive(Drop)]
 pub struct Node {
     pub core: Core,
     pub kind: Kind,
@@ -113,12 +129,33 @@ pub struct Node {
     pub span: Span,
 }
 
+impl Drop for Node {
+    fn drop(self) {
+        let Node {
+            core: _,
+            kind: _,
+            function: _,
+            span: _,
+        } = self;
+    }
+}
+
 /// A program. A node's number is its place in `nodes`; parts come after the node that they are parts of.
-#[derive(Drop)]
 pub struct Program {
     pub interfaces: Sequence<Interface>,
     pub functions: Sequence<Function>,
     /// The number of the function that a run starts with.
     pub main: u32,
     pub nodes: Sequence<Node>,
+}
+
+impl Drop for Program {
+    fn drop(self) {
+        let Program {
+            interfaces: _,
+            functions: _,
+            main: _,
+            nodes: _,
+        } = self;
+    }
 }

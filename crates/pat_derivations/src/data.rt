@@ -1,4 +1,6 @@
 // Derivations: their data.
+ghost use Rattle.std.specs.Prelude.{◌≡◌};
+
 use pat_bags::Bag;
 use pat_certs_covers::CoverEntry;
 use pat_patterns::Pattern;
@@ -28,8 +30,24 @@ pub struct DerivedNode {
 
 /// A derivation of a program: an interface and a value for each pattern variable, the variables of signatures first, numbered
 /// from 1; and what stands at each node, numbered from 0.
-#[derive(Drop)]
 pub struct Derivation {
     pub vars: Sequence<(u32, VarValue)>,
     pub nodes: Sequence<DerivedNode>,
+}
+
+impl Derivation {
+    /// The values and what stands at the nodes.
+    pub fn into_parts(self) -> (Sequence<(u32, VarValue)>, Sequence<DerivedNode>)
+        ensures vars { result.0 ≡ self.vars }
+        ensures nodes { result.1 ≡ self.nodes }
+    {
+        let Derivation { vars, nodes } = self;
+        (vars, nodes)
+    }
+}
+
+impl Drop for Derivation {
+    fn drop(self) {
+        let Derivation { vars: _, nodes: _ } = self;
+    }
 }

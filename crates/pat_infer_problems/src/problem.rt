@@ -1,4 +1,6 @@
 // A problem: the constraints of a program, what their variables are, and the types of nodes in which these stand.
+ghost use Rattle.std.specs.Prelude.{◌≡◌};
+
 use pat_patterns::Pattern;
 use pat_primitives::Polarity;
 use pat_sequences::Sequence;
@@ -24,9 +26,32 @@ pub struct Constraint {
 }
 
 /// The variables of patterns, numbered from 1; the constraints in order; and the type of each node, in order of number.
-#[derive(Drop)]
 pub struct Problem {
     pub vars: Sequence<VarDecl>,
     pub constraints: Sequence<Constraint>,
     pub nodes: Sequence<NodeType>,
+}
+
+impl Problem {
+    /// The types of the nodes alone.
+    pub fn into_nodes(self) -> Sequence<NodeType>
+        ensures { result ≡ self.nodes }
+    {
+        let Problem {
+            vars: _,
+            constraints: _,
+            nodes,
+        } = self;
+        nodes
+    }
+}
+
+impl Drop for Problem {
+    fn drop(self) {
+        let Problem {
+            vars: _,
+            constraints: _,
+            nodes: _,
+        } = self;
+    }
 }

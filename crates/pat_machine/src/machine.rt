@@ -19,9 +19,14 @@ use std::alloc::{AllocError, Global};
 use std::marker::Model;
 
 /// A program that runs by jobs and commits.
-#[derive(Drop)]
 pub struct Machine {
     parts: Parts,
+}
+
+impl Drop for Machine {
+    fn drop(self) {
+        let Machine { parts: _ } = self;
+    }
 }
 
 impl Model for Machine {

@@ -12,9 +12,14 @@ use std::alloc::{AllocError, Global};
 use std::marker::Model;
 
 /// A configuration, kept as lists in ascending order of number. Contracts see the configuration of the definitions, however it is kept.
-#[derive(Drop)]
 pub struct State {
     pub(crate) config: Config,
+}
+
+impl Drop for State {
+    fn drop(self) {
+        let State { config: _ } = self;
+    }
 }
 
 impl Model for State {

@@ -12,11 +12,20 @@ use std::marker::Model;
 
 /// Mailboxes by number. Contracts see what is pending in each live one in order of number, and how often threads and
 /// messages name it; how many messages may be pending; and for how many further mailboxes there is room.
-#[derive(Drop)]
 pub struct Mailboxes {
     store: Store,
     spare: u32,
     room: u32,
+}
+
+impl Drop for Mailboxes {
+    fn drop(self) {
+        let Mailboxes {
+            store: _,
+            spare: _,
+            room: _,
+        } = self;
+    }
 }
 
 impl Model for Mailboxes {

@@ -16,8 +16,8 @@ use crate::fault::ParseError;
 use pat_parser_declarations::{decl, first_param, got_name, message, params, want_name};
 use pat_parser_ends::{behind_simple, clause};
 use pat_parser_states::{
-    ClauseControl, Control, DeclControl, ExprControl, Fault, NameControl, PatternControl, Place,
-    State, TermControl, TypeControl, at,
+    ClauseControl, Control, DeclControl, ExprControl, Fault, Frames, NameControl, PatternControl,
+    Place, State, TermControl, TypeControl, at,
 };
 use pat_parser_terms::{
     binders, first_arg, first_binder, free, free_clause, have, named, new, opened, otherwise,
@@ -26,7 +26,7 @@ use pat_parser_terms::{
 use pat_parser_types::{
     first_payload, have_base, have_pattern, polarity, type_named, want_pattern, want_type,
 };
-use pat_sequences::{Sequence, Stack};
+use pat_sequences::Sequence;
 use pat_syntax::{Span, Token, TokenKind};
 use pat_tree::Tree;
 use std::alloc::Global;
@@ -205,7 +205,7 @@ fn begin(alloc: Global) -> State
 {
     at(
         Control::Declaration(DeclControl::AtDecl(true, Sequence::new(alloc))),
-        Stack::new(alloc),
+        Frames::new(alloc),
         0,
         0,
         0,

@@ -7,8 +7,9 @@ ghost use Rattle.pat_parser_states.specs.Views.{before_view, leading_view, namin
 ghost use Rattle.pat_parser_states.specs.Answers.{Gives, Makes, Tops};
 
 use crate::fault::Fault;
+use crate::frames::Frames;
 use crate::state::{
-    Before, Control, Frame, Frames, Leading, NameControl, Naming, Place, State, TermControl,
+    Before, Control, Frame, Leading, NameControl, Naming, Place, State, TermControl,
 };
 use pat_sequences::{Sequence, Text};
 use pat_syntax::Span;

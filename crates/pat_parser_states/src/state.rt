@@ -1,7 +1,8 @@
 // What the machine is in the middle of. A state moves at each token, so what is large stands in boxes, and what counts open
 // tokens has 16 bits: up to 128 bytes, its answer included, a state moves without a call.
+use crate::frames::Frames;
 use pat_primitives::{Base, Op, Polarity};
-use pat_sequences::{Sequence, Stack};
+use pat_sequences::Sequence;
 use pat_syntax::Span;
 use pat_tree::{Decl, Name, Param, Term, TreeClause, TreeExpr, TreeMessage, TreePattern, TreeType};
 
@@ -154,9 +155,6 @@ pub enum Frame {
     Block(BlockFrame),
     Clause(ClauseFrame),
 }
-
-/// The frames, the innermost on top.
-pub type Frames = Stack<Frame>;
 
 /// What may come next among declarations, in an interface, or in the head of a function.
 #[derive(Drop)]

@@ -3,7 +3,6 @@ use pat_reduce_threads::{Message, ThreadState};
 use pat_sequences::{Sequence, Text};
 
 /// A configuration. Threads, messages and live mailboxes stand in ascending order of number.
-#[derive(Drop)]
 pub struct Config {
     pub threads: Sequence<(u32, ThreadState)>,
     pub messages: Sequence<Message>,
@@ -12,4 +11,18 @@ pub struct Config {
     pub next_thread: u32,
     pub next_mailbox: u32,
     pub next_message: u32,
+}
+
+impl Drop for Config {
+    fn drop(self) {
+        let Config {
+            threads: _,
+            messages: _,
+            live: _,
+            printed: _,
+            next_thread: _,
+            next_mailbox: _,
+            next_message: _,
+        } = self;
+    }
 }

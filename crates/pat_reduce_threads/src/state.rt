@@ -21,10 +21,18 @@ pub struct Frame {
 }
 
 /// A thread.
-#[derive(Drop)]
 pub struct ThreadState {
     pub control: Control,
     pub frames: Stack<Frame>,
+}
+
+impl Drop for ThreadState {
+    fn drop(self) {
+        let ThreadState {
+            control: _,
+            frames: _,
+        } = self;
+    }
 }
 
 /// A pending message.

@@ -39,8 +39,8 @@ pub fn derivation_of(
 {
     answer_laws();
     derived_laws();
-    let Problem { nodes, .. } = problem;
-    let Solution { bounds, values } = solution;
+    let nodes = problem.into_nodes();
+    let (bounds, values) = solution.into_parts();
     derived(alloc, program, nodes, values, bounds.as_slice())
 }
 
@@ -72,7 +72,7 @@ fn completed(derivation: Derivation, certs: Sequence<Sequence<Cert>>) -> Derivat
     requires { length certs ≤ length derivation.nodes }
     ensures { derivation_view result ≡ record { vars = vars_view derivation.vars; lines = with_certs (lines_view derivation.nodes) (map certs_view certs) } }
 {
-    let Derivation { vars, nodes } = derivation;
+    let (vars, nodes) = derivation.into_parts();
     let mut lines = nodes.items;
     put_certs(lines.as_mut_slice(), certs);
     Derivation {

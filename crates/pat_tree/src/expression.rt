@@ -4,11 +4,17 @@ use pat_sequences::Text;
 use pat_syntax::Span;
 
 /// An expression. Its span leaves out the brackets round the whole of it.
-#[derive(Drop)]
 #[cycle(expression)]
 pub struct TreeExpr {
     pub form: ExprForm,
     pub span: Span,
+}
+
+impl Drop for TreeExpr {
+    #[cycle(drop_expression)]
+    fn drop(self) {
+        let TreeExpr { form: _, span: _ } = self;
+    }
 }
 
 /// What an expression is made of.

@@ -5,11 +5,17 @@ use pat_sequences::Sequence;
 use pat_syntax::Span;
 
 /// A term. Its span leaves out the braces of its own block; a let or a sequence runs to the end of its body.
-#[derive(Drop)]
 #[cycle(term)]
 pub struct Term {
     pub form: Form,
     pub span: Span,
+}
+
+impl Drop for Term {
+    #[cycle(drop_term)]
+    fn drop(self) {
+        let Term { form: _, span: _ } = self;
+    }
 }
 
 /// What a term is made of. A `Let` without a name is a sequence.

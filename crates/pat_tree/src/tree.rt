@@ -47,7 +47,12 @@ pub enum Decl {
 }
 
 /// A whole text: its declarations in order.
-#[derive(Drop)]
 pub struct Tree {
     pub decls: Sequence<Decl>,
+}
+
+impl Drop for Tree {
+    fn drop(self) {
+        let Tree { decls: _ } = self;
+    }
 }
