@@ -12,20 +12,12 @@ use pat_sequences::Sequence;
 use std::alloc::{AllocError, Global};
 
 /// A program with the free variables of its nodes, each once, which each step looks up.
+#[derive(Drop)]
 pub struct Executable {
     pub program: Program,
     free: Sequence<Variables>,
     ghost listed: { (x n : ℕ) → is_listed free n x ≡ is_free (program_view program) x n },
     ghost small: { (x n : ℕ) → IsTrue (is_free (program_view program) x n) → x < 4294967296 },
-}
-
-impl Drop for Executable {
-    fn drop(self) {
-        let Executable {
-            program: _,
-            free: _,
-        } = self;
-    }
 }
 
 impl Executable {

@@ -15,6 +15,7 @@ use pat_reduce::Entry;
 use std::alloc::{AllocError, Global};
 
 /// The parts of a machine, which a commit changes one after another.
+#[derive(Drop)]
 pub struct Parts {
     pub alloc: Global,
     pub code: Executable,
@@ -31,24 +32,6 @@ pub struct Parts {
     /// The allowances by thread number.
     pub out: Vec<Option<u32>>,
     pub last: Option<u32>,
-}
-
-impl Drop for Parts {
-    fn drop(self) {
-        let Parts {
-            alloc: _,
-            code: _,
-            state: _,
-            waits: _,
-            history: _,
-            budget: _,
-            limit: _,
-            left: _,
-            lent: _,
-            out: _,
-            last: _,
-        } = self;
-    }
 }
 
 impl Parts {
