@@ -1,10 +1,12 @@
 -- What an answer allows, and what follows from it.
-use Rattle.std.proofs.Common.{◌≡◌, ◌≤◌, ℕ, List, [], ◌∷◌, length, Option, Some, refl, sym, ap, ◌∙◌, subst, ⊎_elim, arith}
+use Rattle.std.proofs.Common.{◌≡◌, ◌≤◌, ◌<◌, ◌⊎◌, ℕ, List, [], ◌∷◌, length, Option, Some, refl, sym, ap, ◌∙◌, subst, inl, inr, ⊎_elim, arith}
+use Rattle.std.specs.Prelude.{◌≢◌}
 use Rattle.std.specs.Io.KnownBytes.{Appends}
 use Rattle.pat_ports.specs.Bytes.{AppendsFront}
 use Rattle.pat_input.specs.Inputs.{IsInput, limit, whole_limit}
 use Rattle.pat_load.specs.LoadText.{load_text}
 use Rattle.pat_front.specs.declared.verdict.Verdict.{Verdict}
+use Rattle.pat_front.specs.declared.verdict.Verdict.TheVariants.{TooLong, Syntax, NumberTooWide, TooDeep, Resolve, BadText, Rejected, RefusedAt, Unaccepted}
 use Rattle.pat_answers.specs.declared.status.Status.{Status}
 use Rattle.pat_answers.specs.declared.status.Status.TheVariants.{Ok, Refused, Usage, ReadFault, WriteFault, NoMemory, Budget, Waiting, Full}
 use Rattle.pat_session.specs.declared.words.Command.{Command}
@@ -98,8 +100,35 @@ reads_small most bytes ReadFault small all = absurd small
 reads_small most bytes WriteFault small all = absurd small
 reads_small most bytes NoMemory small all = absurd small
 
+is_too_long : (v : Verdict) → (v ≡ TooLong) ⊎ (v ≢ TooLong)
+is_too_long TooLong = inl refl
+is_too_long (Syntax n) = inr (λ e. let clash : Syntax n ≡ TooLong = e in cc)
+is_too_long (NumberTooWide n) = inr (λ e. let clash : NumberTooWide n ≡ TooLong = e in cc)
+is_too_long (TooDeep n) = inr (λ e. let clash : TooDeep n ≡ TooLong = e in cc)
+is_too_long (Resolve k s) = inr (λ e. let clash : Resolve k s ≡ TooLong = e in cc)
+is_too_long (BadText n) = inr (λ e. let clash : BadText n ≡ TooLong = e in cc)
+is_too_long (Rejected n r) = inr (λ e. let clash : Rejected n r ≡ TooLong = e in cc)
+is_too_long (RefusedAt n) = inr (λ e. let clash : RefusedAt n ≡ TooLong = e in cc)
+is_too_long (Unaccepted r) = inr (λ e. let clash : Unaccepted r ≡ TooLong = e in cc)
+
+-- where the bytes are too many, that is what is answered
+pub says_too_long : (most : ℕ) (bytes : List ℕ) (s : Status) → IsStatusWithin most bytes s → most < length bytes → s ≡ Refused TooLong
+says_too_long most bytes Ok small large = absurd (omega (arith, small, large))
+says_too_long most bytes Budget small large = absurd (omega (arith, small, large))
+says_too_long most bytes Waiting small large = absurd (omega (arith, small, large))
+says_too_long most bytes Full small large = absurd (omega (arith, small, large))
+says_too_long most bytes (Refused v) small large =
+    ⊎_elim
+    (λ (e : v ≡ TooLong). ap (λ (w : Verdict). Refused w) e)
+    (λ (other : v ≢ TooLong). let within = small other in absurd (omega (arith, within, large)))
+    (is_too_long v)
+says_too_long most bytes Usage small large = absurd small
+says_too_long most bytes ReadFault small large = absurd small
+says_too_long most bytes WriteFault small large = absurd small
+says_too_long most bytes NoMemory small large = absurd small
+
 -- what is allowed of a command is allowed of its words
-of_command : (words : List (List ℕ)) (c : Command) (bytes text : List ℕ) (s : Status) → IsCommand c words → AllowedTo c bytes text s → Allowed words bytes text s
+pub of_command : (words : List (List ℕ)) (c : Command) (bytes text : List ℕ) (s : Status) → IsCommand c words → AllowedTo c bytes text s → Allowed words bytes text s
 of_command words c bytes text Ok command a = (c, command, a)
 of_command words c bytes text (Refused v) command a = (c, command, a)
 of_command words c bytes text Usage command a = absurd (command_status c bytes text Usage a)

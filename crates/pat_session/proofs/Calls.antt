@@ -1,20 +1,22 @@
 -- What a call comes to, for each way in which it ends.
-use Rattle.std.proofs.Common.{◌≡◌, ◌≤◌, ℕ, List, [], length, Option, Some, None, refl, sym, ◌∙◌, subst, inl, inr, ⊎_elim}
+use Rattle.std.proofs.Common.{◌≡◌, ◌≤◌, ◌<◌, ℕ, List, [], length, Option, Some, None, refl, sym, ◌∙◌, subst, inl, inr, ⊎_elim}
+use Rattle.std.proofs.lemmas.Bool.{cases_lt}
 use Rattle.std.specs.Prelude.{◌≢◌}
 use Rattle.std.specs.Io.KnownBytes.{Appends, Keeps}
 use Rattle.pat_ports.specs.Causes.{Raised}
 use Rattle.pat_ports.specs.Ends.{EndsOnce, EndsThere}
 use Rattle.pat_ports.specs.declared.reach.Reach.{Reach}
 use Rattle.pat_answers.specs.declared.status.Status.{Status}
-use Rattle.pat_answers.specs.declared.status.Status.TheVariants.{Ok, Usage, ReadFault, WriteFault, NoMemory}
+use Rattle.pat_answers.specs.declared.status.Status.TheVariants.{Ok, Refused, Usage, ReadFault, WriteFault, NoMemory}
+use Rattle.pat_front.specs.declared.verdict.Verdict.TheVariants.{TooLong}
 use Rattle.pat_session.specs.declared.words.Command.{Command}
 use Rattle.pat_session.specs.declared.words.Command.TheVariants.{Help}
 use Rattle.pat_session.specs.Ports.{SourceState, SinkState, IsCutShort, Writes}
 use Rattle.pat_session.specs.Allowed.{IsCommand, HasCommand, HasInput, AsksInput, Takes, AllowedTo, limit_of, usage_line}
 use Rattle.pat_session.specs.Answers.{IsHelped}
-use Rattle.pat_session.specs.Calls.{Call, ReadsAll}
+use Rattle.pat_session.specs.Calls.{Call, ReadsAll, BreaksOffTooLong, EndsOrIsTooLong}
 use Rattle.pat_session.proofs.OneCommand.{asks_of}
-use Rattle.pat_session.proofs.Allows.{input_status, not_a_read_fault, reads_small, answered_command, answered_usage, begun_command, begun_usage}
+use Rattle.pat_session.proofs.Allows.{input_status, not_a_read_fault, not_a_write_fault, reads_small, says_too_long, of_command, answered_command, answered_usage, begun_command, begun_usage}
 
 keeps : (o : Option (List ℕ)) → Keeps o o
 keeps None = tt
@@ -34,6 +36,7 @@ module _ (words : List (List ℕ)) (had left : SourceState) where
     write = record { failed = λ e. let clash : ReadFault ≡ WriteFault = e in cc; unfailed = λ _. refl };
     one_end = once;
     end = λ asks all. absurd all;
+    end_at_fault = λ asks e. let clash : ReadFault ≡ WriteFault = e in cc;
   }
 
   -- want of memory
@@ -46,6 +49,7 @@ module _ (words : List (List ℕ)) (had left : SourceState) where
     write = record { failed = λ e. let clash : NoMemory ≡ WriteFault = e in cc; unfailed = λ _. refl };
     one_end = once;
     end = λ asks all. absurd all;
+    end_at_fault = λ asks e. let clash : NoMemory ≡ WriteFault = e in cc;
   }
 
   module _ (old new : SinkState) (text : List ℕ) (status result : Status) (wrote : Writes old new text status result) where
@@ -63,6 +67,30 @@ module _ (words : List (List ℕ)) (had left : SourceState) where
     reads_as : ReadsAll result → ReadsAll status
     reads_as all = subst ReadsAll (same_status (λ w. let none : ReadsAll WriteFault = subst ReadsAll w all in absurd none)) all
 
+    -- what a failed write broke off
+    cut_short : status ≢ WriteFault → result ≡ WriteFault → IsCutShort old.taken new.taken text
+    cut_short sound e =
+        ⊎_elim
+        (λ (w : (result ≡ status) × Appends old.taken new.taken text). absurd (sound (sym w.0 ∙ e)))
+        (λ (w : (result ≡ WriteFault) × IsCutShort old.taken new.taken text). w.1)
+        wrote.written
+
+    -- the bytes are few enough, so the source was read to its end; or they are too many, and that was to be said
+    ended : (c : Command) (bytes : List ℕ) → AllowedTo c bytes text status → HasInput c → (length bytes ≤ limit_of c → EndsThere had.reach left.reach) → IsCommand c words → result ≡ WriteFault → EndsOrIsTooLong words had.reach left.reach old.taken new.taken
+    ended c bytes allowed has there command e =
+        ⊎_elim
+        (λ (large : limit_of c < length bytes).
+        let is = says_too_long (limit_of c) bytes status (input_status c bytes text status has allowed) large in
+        let broken : BreaksOffTooLong words old.taken new.taken = record {
+          bytes = bytes;
+          text = text;
+          allowed = of_command words c bytes text (Refused TooLong) command (subst (λ k. AllowedTo c bytes text k) is allowed);
+          cut = cut_short (not_a_write_fault c bytes text status allowed) e;
+        } in
+        inr broken)
+        (λ (small : length bytes ≤ limit_of c). inl (there small))
+        (cases_lt (limit_of c) (length bytes))
+
     -- what a command answers
     pub call_command : (c : Command) (bytes : List ℕ) → Takes c had.rest left.rest bytes → AllowedTo c bytes text status → left.faults ≡ had.faults → EndsOnce had.reach left.reach → (HasInput c → length bytes ≤ limit_of c → EndsThere had.reach left.reach) → IsCommand c words → Call words had left old new result
     call_command c bytes input allowed same once there command = record {
@@ -75,6 +103,7 @@ module _ (words : List (List ℕ)) (had left : SourceState) where
       end = λ asks all.
           let has = asks_of words c command asks in
           there has (reads_small (limit_of c) bytes status (input_status c bytes text status has allowed) (reads_as all));
+      end_at_fault = λ asks e. let has = asks_of words c command asks in ended c bytes allowed has (there has) command e;
     }
 
 -- usage
@@ -87,6 +116,7 @@ call_usage words source old new result none wrote = record {
   write = wrote.faults;
   one_end = none_read source.reach;
   end = λ asks all. let usage : ReadsAll Usage = reads_as words source source old new usage_line Usage result wrote all in absurd usage;
+  end_at_fault = λ asks e. absurd (none (asks.0, asks.1));
 }
 
 -- help

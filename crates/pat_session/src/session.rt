@@ -10,7 +10,7 @@ ghost use Rattle.pat_runners.specs.Runs.{RunGives, IsRunner};
 ghost use Rattle.pat_options.specs.declared.options.RunOptions.{RunOptions};
 ghost use Rattle.pat_session.specs.Ports.{source_state, sink_state};
 ghost use Rattle.pat_session.specs.Asking.{IsAsking};
-ghost use Rattle.pat_session.specs.Calls.{Call, ReadsAll};
+ghost use Rattle.pat_session.specs.Calls.{Call, ReadsAll, EndsOrIsTooLong};
 
 use crate::Command;
 use crate::commands::{answer_to, read_asked};
@@ -52,9 +52,10 @@ pub fn pat<R: Threads + Wait + Sync, S: Source, K: Sink, G: Gate>(
     // Words that ask for no input leave the source alone.
     ensures untouched { (AsksInput (map string_bytes words.now) → ⊥) → source.new ≡ source.old }
 
-    // Nothing is read after the end of the input, and all that is before it, unless it is too long.
+    // Nothing is read after the end of the input, and all that is before it, unless it is too long; after a write fault too.
     ensures one_end { EndsOnce (S.reach source.old) (S.reach source.new) }
     ensures end { AsksInput (map string_bytes words.now) → ReadsAll result → EndsThere (S.reach source.old) (S.reach source.new) }
+    ensures end_at_fault { AsksInput (map string_bytes words.now) → result ≡ Status.WriteFault → EndsOrIsTooLong (map string_bytes words.now) (S.reach source.old) (S.reach source.new) (K.taken sink.old) (K.taken sink.new) }
 
     // What was read and what was written, for each answer; the same of what the sink handed over, but that after a write
     // fault this may be all of the text.
@@ -109,9 +110,10 @@ pub fn pat_alone<S: Source, K: Sink>(
     // Words that ask for no input leave the source alone.
     ensures untouched { (AsksInput (map string_bytes words.now) → ⊥) → source.new ≡ source.old }
 
-    // Nothing is read after the end of the input, and all that is before it, unless it is too long.
+    // Nothing is read after the end of the input, and all that is before it, unless it is too long; after a write fault too.
     ensures one_end { EndsOnce (S.reach source.old) (S.reach source.new) }
     ensures end { AsksInput (map string_bytes words.now) → ReadsAll result → EndsThere (S.reach source.old) (S.reach source.new) }
+    ensures end_at_fault { AsksInput (map string_bytes words.now) → result ≡ Status.WriteFault → EndsOrIsTooLong (map string_bytes words.now) (S.reach source.old) (S.reach source.new) (K.taken sink.old) (K.taken sink.new) }
 
     // What was read and what was written, for each answer; the same of what the sink handed over, but that after a write
     // fault this may be all of the text.

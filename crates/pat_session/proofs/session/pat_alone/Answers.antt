@@ -11,6 +11,9 @@ returns-clause-write_fault g c = λ e. c.alone.ensures.call.write.failed e
 pub returns-clause-begun : goal.returns-clause-begun
 returns-clause-begun g c = λ e. c.alone.ensures.call.begun e
 
+pub returns-clause-end_at_fault : goal.returns-clause-end_at_fault
+returns-clause-end_at_fault g c = λ asks e. c.alone.ensures.call.end_at_fault asks e
+
 pub returns-clause-usage : goal.returns-clause-usage
 returns-clause-usage g c = usage_only (map string_bytes c.args.words.now) (g.S.Source.rest c.args.source.now) (g.S.Source.rest c.alone.new.source) (g.K.Sink.taken c.args.sink.now) (g.K.Sink.taken c.alone.new.sink) c.alone.result c.alone.ensures.call.output
 
