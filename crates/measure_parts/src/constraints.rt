@@ -1,15 +1,14 @@
-//! Measures how fast the constraints of programs are found, and how the time grows with their size.
-#![tactic(auto)]
-
+// How fast the constraints of programs are found.
 ghost use Rattle.pat_model.specs.WellFormed.{WellFormed};
 ghost use Rattle.pat_core.specs.Views.{program_view};
 
+use crate::rounds_for;
 use pat_core::Program;
 use pat_infer::constraints;
 use std::alloc::{AllocError, Global};
+use std::io::{self, Eprint, Print};
 use std::rt::Clock;
 use std::time::Instant;
-use std::{env, io};
 use test_inference::program_of_text;
 
 /// What texts are of: what stands before, what is repeated, with a number for each `#`, and what stands behind.
@@ -160,11 +159,6 @@ fn measure(rt: &impl Clock, alloc: Global, program: &Program, rounds: usize) -> 
     Ok(best)
 }
 
-/// More rounds for smaller texts.
-fn rounds_for(rounds: usize, bytes: usize) -> usize {
-    (rounds.saturating_mul(1_000_000) / bytes.max(1)).max(1)
-}
-
 fn found(rt: &impl Clock, alloc: Global, text: &str, rounds: usize) -> io::Result<Best> {
     let bytes = Vec::from_slice(alloc, text.as_bytes())?;
     match program_of_text(alloc, bytes) {
@@ -177,43 +171,43 @@ fn found(rt: &impl Clock, alloc: Global, text: &str, rounds: usize) -> io::Resul
     }
 }
 
-fn main(rt: HostRuntime) -> io::Result<()> {
-    let mut rounds = 1;
-    for word in env::args(&rt)?.skip(1) {
-        if let Ok(number) = word.as_str().parse::<usize>() {
-            rounds = number.min(1_000_000);
-        }
-    }
+fn show(
+    rt: &(impl Clock + Print + Eprint),
+    alloc: Global,
+    name: &str,
+    text: &str,
+    rounds: usize,
+) -> io::Result<()> {
+    let best = found(rt, alloc, text, rounds)?;
+    println!(rt;
+        "{name} {} bytes: {} variables, {} constraints",
+        text.len(),
+        best.variables,
+        best.constraints
+    )?;
+    eprintln!(rt; "{name} {} bytes: {} ns", text.len(), best.nanos)
+}
+
+fn show_shapes(rt: &(impl Clock + Print + Eprint), alloc: Global, rounds: usize) -> io::Result<()> {
     for (name, parts) in SHAPES {
         for bytes in [10_000, 100_000, 1_000_000] {
-            let text = text_of(rt.alloc(), *parts, bytes)?;
-            let best = found(&rt, rt.alloc(), text.as_str(), rounds)?;
-            println!(rt;
-                "{} {} bytes: {} variables, {} constraints",
-                *name,
-                text.len(),
-                best.variables,
-                best.constraints
-            )?;
-            eprintln!(rt; "{} {} bytes: {} ns", *name, text.len(), best.nanos)?;
+            let text = text_of(alloc, *parts, bytes)?;
+            show(rt, alloc, name, text.as_str(), rounds)?;
         }
     }
+    Ok(())
+}
+
+pub fn show_all(
+    rt: &(impl Clock + Print + Eprint),
+    alloc: Global,
+    rounds: usize,
+) -> io::Result<()> {
+    show_shapes(rt, alloc, rounds)?;
     for count in SCOPES {
-        let text = scope_of(rt.alloc(), *count)?;
-        let best = found(&rt, rt.alloc(), text.as_str(), rounds)?;
-        println!(rt;
-            "{} mailboxes in {} bytes: {} variables, {} constraints",
-            *count,
-            text.len(),
-            best.variables,
-            best.constraints
-        )?;
-        eprintln!(rt;
-            "{} mailboxes in {} bytes: {} ns",
-            *count,
-            text.len(),
-            best.nanos
-        )?;
+        let text = scope_of(alloc, *count)?;
+        let name = format!(in alloc; "{} mailboxes in", *count)?;
+        show(rt, alloc, name.as_str(), text.as_str(), rounds)?;
     }
     Ok(())
 }

@@ -1,14 +1,14 @@
-//! Measures how fast programs are read and printed, and how the time grows with their size.
-#![tactic(auto)]
+// How fast programs are read and printed.
 
+use crate::rounds_for;
 use pat_parser::parse;
 use pat_print::print;
 use pat_syntax::Token;
 use pat_tree::Tree;
 use std::alloc::{AllocError, Global};
+use std::io::{self, Eprint, Print};
 use std::rt::Clock;
 use std::time::Instant;
-use std::{env, io};
 use test_lexer::tokens_of;
 use test_parser::{CELL, grow};
 
@@ -110,37 +110,38 @@ fn measure(rt: &impl Clock, alloc: Global, text: &[u8], rounds: usize) -> io::Re
     Ok(best)
 }
 
-/// More rounds for smaller texts.
-fn rounds_for(rounds: usize, bytes: usize) -> usize {
-    (rounds.saturating_mul(1_000_000) / bytes.max(1)).max(1)
+fn show(
+    rt: &(impl Clock + Print + Eprint),
+    alloc: Global,
+    name: &str,
+    text: &[u8],
+    rounds: usize,
+) -> io::Result<()> {
+    let best = measure(rt, alloc, text, rounds_for(rounds, text.len()))?;
+    println!(rt;
+        "{name}: {} declarations in {} bytes, printed in {}",
+        best.declarations,
+        text.len(),
+        best.printed
+    )?;
+    eprintln!(rt;
+        "{name} {} bytes: lexer {} ns, with the parser {} ns, print {} ns",
+        text.len(),
+        best.lexer,
+        best.both,
+        best.print
+    )
 }
 
-fn main(rt: HostRuntime) -> io::Result<()> {
-    let mut rounds = 1;
-    for word in env::args(&rt)?.skip(1) {
-        if let Ok(number) = word.as_str().parse::<usize>() {
-            rounds = number.min(1_000_000);
-        }
-    }
+pub fn show_all(
+    rt: &(impl Clock + Print + Eprint),
+    alloc: Global,
+    rounds: usize,
+) -> io::Result<()> {
     for (name, parts, most) in SHAPES {
         for bytes in [1_000, 10_000, 100_000, 1_000_000] {
-            let text = text_of(rt.alloc(), *parts, *most, bytes)?;
-            let best = measure(&rt, rt.alloc(), text.as_slice(), rounds_for(rounds, bytes))?;
-            println!(rt;
-                "{}: {} declarations in {} bytes, printed in {}",
-                *name,
-                best.declarations,
-                text.len(),
-                best.printed
-            )?;
-            eprintln!(rt;
-                "{} {} bytes: lexer {} ns, with the parser {} ns, print {} ns",
-                *name,
-                text.len(),
-                best.lexer,
-                best.both,
-                best.print
-            )?;
+            let text = text_of(alloc, *parts, *most, bytes)?;
+            show(rt, alloc, name, text.as_slice(), rounds)?;
         }
     }
     Ok(())
