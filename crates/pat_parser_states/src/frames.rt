@@ -20,8 +20,15 @@ impl Drop for Frames {
 impl Model for Frames {
     ghost use Rattle.std.specs.Prelude.{List};
     ghost use Rattle.pat_parser_states.specs.declared.state.Frame.{Frame};
+    ghost use Rattle.std.specs.Coded.{codes};
+    ghost use Rattle.pat_tree.specs.contracts.pattern.TreePattern as the_pattern;
+    ghost use Rattle.pat_tree.specs.contracts.expression.TreeExpr as the_expression;
+    ghost use Rattle.pat_tree.specs.contracts.term.Term as the_term;
+    ghost use Rattle.pat_tree.specs.contracts.term.TreeClause as the_clause;
 
     ghost Value = { List Frame };
+
+    ghost coded = { Prim.hlevel (codes, the_pattern.the_row.coded, the_expression.the_row.coded, the_term.the_row.coded, the_clause.the_row.coded) };
 
     ghost view = { λ s. s.stack };
 }
