@@ -1,0 +1,1 @@
+-- Proofs name the types of the tests by these.
