@@ -1,1 +1,0 @@
--- Proofs name the types of the tests by these.
