@@ -64,7 +64,8 @@ def call(program, words, given, seconds=20, environment=None):
 
 def has(program, command):
     """Whether the program has this command."""
-    return call(program, [command], b"def main(): Unit { () }\n").status != USAGE
+    words = ["load", "1"] if command == "load" else [command]
+    return call(program, words, b"def main(): Unit { () }\n").status != USAGE
 
 
 def wrong(answer):
