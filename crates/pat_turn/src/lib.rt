@@ -3,6 +3,7 @@
 
 mod bells;
 mod law;
+mod naps;
 mod plays;
 mod turn;
 mod view;

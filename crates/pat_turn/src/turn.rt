@@ -9,6 +9,7 @@ ghost use Rattle.pat_turn.specs.Passes.{IsIdle, IsHolding, IsTable, known, with_
 
 use crate::bells::{Bells, is_near};
 use crate::law::{About, Law};
+use crate::naps::Naps;
 use crate::plays::{Another, Draw, Fold, Look, PassOn};
 use crate::view::View;
 use atomic_table::{Refused, Seat, Shared, Table};
@@ -33,6 +34,7 @@ pub struct Turn<V: Kept> {
     news: AtomicU64,
     /// How many passes rest.
     resting: AtomicU64,
+    naps: Naps,
 }
 
 /// What the passes that rest are told when the value is put back.
@@ -41,6 +43,8 @@ pub enum News {
     Nothing,
     /// There may be something to do, and this pass looks for it next. Who is about to rest looks again; who sleeps isn't woken.
     Soon,
+    /// The same, and there is so much to do at once that one of those that nap is woken.
+    Much,
     /// There is something to do for one of them.
     ForOne,
     ForAll,
@@ -67,6 +71,8 @@ pub struct Pass<V: Kept> {
     number: u32,
     /// The turn's count of news when this pass last held the value.
     news: u64,
+    /// How often those that nap had been called then.
+    calls: u64,
 }
 
 impl<V: Kept> Model for Pass<V> {
@@ -158,6 +164,7 @@ fn add_passes<V: Kept>(
             seat,
             number,
             news: 0,
+            calls: 0,
         })?;
     }
     Ok(())
@@ -176,6 +183,7 @@ fn join_all<V: Kept>(top: &Top<V>, first: &mut Place<V>, others: Vec<Pass<V>>)
             seat,
             number: _,
             news: _,
+            calls: _,
         } = pass;
         top.join_seat::<Fold>(first, seat);
     }
@@ -202,6 +210,7 @@ impl<V: Kept> Turn<V> {
     {
         let value = take(rt, &self.table.shared, &self.bells, &mut pass.seat);
         pass.news = self.news.load(Ordering::SeqCst);
+        pass.calls = self.naps.keep_watch(pass.number);
         value
     }
 
@@ -226,19 +235,37 @@ impl<V: Kept> Turn<V> {
         ensures { pass.new ≡ record pass.old { seen = V.log value; holds = false } }
     {
         // Before the value is back: who holds it later has seen this.
-        if news != News::Nothing {
-            self.news.fetch_add(1, Ordering::SeqCst);
-        }
+        self.count(news);
         give(&self.table.shared, &self.bells, &mut pass.seat, value);
         self.tell(news);
     }
 
-    // Who begins to rest later sees the count.
+    // Counts the news while the value is held.
+    fn count(&self, news: News) {
+        if news != News::Nothing {
+            self.news.fetch_add(1, Ordering::SeqCst);
+        }
+        match news {
+            News::Much if self.naps.has_napping() => self.naps.call(),
+            // A pass may end behind these news, and another one has to keep watch.
+            News::ForAll => {
+                self.naps.end_watch();
+                self.naps.call();
+            }
+            News::Nothing | News::Soon | News::Much | News::ForOne => {}
+        }
+    }
+
+    // Who begins to rest or to nap later sees the counts.
     fn tell(&self, news: News) {
         match news {
+            News::Much if self.naps.has_napping() => self.naps.wake_one(),
             News::ForOne if self.has_resting() => self.news.wake_one(),
-            News::ForAll if self.has_resting() => self.news.wake_all(),
-            News::Nothing | News::Soon | News::ForOne | News::ForAll => {}
+            News::ForAll => {
+                self.news.wake_all();
+                self.naps.wake_all();
+            }
+            News::Nothing | News::Soon | News::Much | News::ForOne => {}
         }
     }
 
@@ -258,6 +285,18 @@ impl<V: Kept> Turn<V> {
             self.news.park(rt, (pass.news % (1 << 32)) as u32);
         }
         self.resting.fetch_sub(1, Ordering::SeqCst);
+    }
+
+    /// May wait until another pass has put the value back with much news or news for all, since this one last held it. It waits only
+    /// while another pass keeps watch, so never all of them do. As this pass won't look for what it left, one of those that rest does.
+    pub fn nap<R: Wait>(&self, rt: &R, pass: &mut Pass<V>)
+        requires turn { pass.old.turn ≡ self.now.id }
+        requires free { pass.old.holds ≡ false }
+        ensures { pass.new ≡ pass.old }
+    {
+        self.news.fetch_add(1, Ordering::SeqCst);
+        self.tell(News::ForOne);
+        self.naps.nap(rt, pass.number, pass.calls);
     }
 }
 
@@ -287,6 +326,7 @@ impl<V: Kept> Turn<V> {
                 seat: first,
                 number: 0,
                 news: 0,
+                calls: 0,
             },
         )?;
         let bells = Bells::new(alloc)?;
@@ -296,6 +336,7 @@ impl<V: Kept> Turn<V> {
                 bells,
                 news: AtomicU64::new(0),
                 resting: AtomicU64::new(0),
+                naps: Naps::new(),
             },
             others,
         ))
@@ -314,6 +355,7 @@ impl<V: Kept> Turn<V> {
             seat: mut first,
             number: _,
             news: _,
+            calls: _,
         } = passes.remove(0);
         join_all(&table.shared, &mut first, passes);
         let mut closed = table.close_with(first);

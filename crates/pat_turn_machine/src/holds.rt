@@ -39,12 +39,20 @@ fn news_of(turn: &Turn<Machine>, machine: &Machine, taken: &Taken) -> News {
 }
 
 // Who committed looks for the next job itself. Mostly there is no other one, and then nobody is woken in vain.
-fn news_of_commit(committed: &Result<Receipt, CommitRefused>) -> News {
+fn news_of_commit(committed: &Result<Receipt, CommitRefused>, is_long: bool) -> News {
     match committed {
+        Ok(_) if is_long => News::Much,
         Ok(_) => News::Soon,
         Err(_) => News::ForAll,
     }
 }
+
+/// A job with so many local steps takes longer than to hand the turn to another thread.
+pub fn is_long(run: &LocalRun) -> bool {
+    run.steps >= LONG
+}
+
+const LONG: u32 = 64;
 
 /// Commits a job under the number of the pass. Where memory runs out the job goes back in the same hold.
 pub fn commit_in_turn<R: Wait>(
@@ -61,9 +69,10 @@ pub fn commit_in_turn<R: Wait>(
     ensures committed { (found left : Shown) × IsHold pass.old pass.new.seen found left × CommittingGives found pass.old.number job result left }
 {
     let worker = pass.number();
+    let is_long = is_long(&run);
     let mut machine = turn.hold(rt, pass);
     let result = commit(&mut machine, worker, job, run);
-    turn.put_back(pass, machine, news_of_commit(&result));
+    turn.put_back(pass, machine, news_of_commit(&result, is_long));
     result
 }
 

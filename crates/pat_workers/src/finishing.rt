@@ -31,6 +31,7 @@ pub fn part(
         let Worker {
             pass,
             receipts: row,
+            short_jobs: _,
         } = worker;
         passes.push(pass)?;
         receipts.push(row)?;

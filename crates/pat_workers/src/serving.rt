@@ -11,15 +11,16 @@ use pat_machine_threads::{LocalRun, local_run};
 use pat_ports::Gate;
 use pat_reduce::ThreadState;
 use pat_turn::{Pass, Turn};
-use pat_turn_machine::{commit_in_turn, give_back_in_turn};
+use pat_turn_machine::{commit_in_turn, give_back_in_turn, is_long};
 use std::alloc::{AllocError, Global};
 use std::sync::Wait;
 
-/// A worker: its pass, and its receipts in order.
+/// A worker: its pass, its receipts in order, and how many of its last jobs were short.
 #[derive(Drop)]
 pub struct Worker {
     pub pass: Pass<Machine>,
     pub receipts: Vec<Receipt>,
+    pub short_jobs: u32,
 }
 
 /// A job that was taken, and the state that it begins with.
@@ -95,6 +96,7 @@ fn commit<R: Wait, G: Gate>(
 {
     let number = worker.pass.number();
     let call = worker.receipts.len() as u64 + 1;
+    worker.short_jobs = if is_long(&run) { 0 } else { worker.short_jobs.saturating_add(1) };
     gate.before(number, call);
     let result = commit_in_turn(rt, turn, &mut worker.pass, job, run);
     gate.after(number, call);

@@ -30,6 +30,7 @@ fn work<R: Wait, G: Gate>(
     let mut worker = Worker {
         pass,
         receipts: Vec::new(alloc),
+        short_jobs: 0,
     };
     for _ in rt.forever() {
         if !work_once(rt, alloc, turn, code, gate, &mut worker) {
@@ -38,6 +39,10 @@ fn work<R: Wait, G: Gate>(
     }
     worker
 }
+
+// So many short jobs one behind the other, and the worker naps: with more than one at work each of them would wait longer for the
+// turn than work.
+const ENOUGH: u32 = 8;
 
 // Serves one job, if there is one; rests, where jobs are out and nothing can be taken. Whether the worker goes on.
 fn work_once<R: Wait, G: Gate>(
@@ -58,7 +63,12 @@ fn work_once<R: Wait, G: Gate>(
     match take(rt, turn, worker) {
         Taken::Job(job, state) => {
             let task = Task { job, state };
-            serve(rt, alloc, turn, code, gate, worker, task).is_ok()
+            let is_served = serve(rt, alloc, turn, code, gate, worker, task).is_ok();
+            if is_served && worker.short_jobs >= ENOUGH {
+                worker.short_jobs = 0;
+                turn.nap(rt, &mut worker.pass);
+            }
+            is_served
         }
         Taken::Nothing => {
             turn.rest(rt, &mut worker.pass);
