@@ -96,7 +96,11 @@ fn commit<R: Wait, G: Gate>(
 {
     let number = worker.pass.number();
     let call = worker.receipts.len() as u64 + 1;
-    worker.short_jobs = if is_long(&run) { 0 } else { worker.short_jobs.saturating_add(1) };
+    worker.short_jobs = if is_long(&run) {
+        0
+    } else {
+        worker.short_jobs.saturating_add(1)
+    };
     gate.before(number, call);
     let result = commit_in_turn(rt, turn, &mut worker.pass, job, run);
     gate.after(number, call);
