@@ -1,5 +1,5 @@
 -- Threads that are noted, after one of them changed.
-use Rattle.std.proofs.Common.{◌≡◌, ℕ, Bool, true, false, cond, ◌||◌, not, nat_eq, List, [], ◌∷◌, ◌++◌, Option, Some, None, refl, sym, ap, ◌∙◌, subst, ◌⊎◌, inl, inr, ⊎_elim, arith}
+use Rattle.std.proofs.Common.{◌≡◌, ℕ, true, false, cond, ◌||◌, not, nat_eq, List, [], ◌∷◌, ◌++◌, Option, Some, None, refl, sym, ap, ◌∙◌, subst, ◌⊎◌, inl, inr, ⊎_elim, arith}
 use Rattle.std.specs.Prelude.{find, filter}
 use Rattle.std.proofs.lemmas.Bool.{cases_Bool, and_parts, eqb-true, eqb-false}
 use Rattle.pat_model.specs.Programs.{Program, Function, function_at, is_among}
@@ -15,9 +15,10 @@ use Rattle.pat_locality_laws.specs.Wakings.{IsWaiting, SendsTo}
 use Rattle.pat_locality_laws.proofs.Calls.{others_stay, messages_call}
 use Rattle.pat_locality_laws.proofs.Supersets.{enabled_there, found_in_list}
 use Rattle.pat_machine_waits.specs.declared.waits.Waits.{Waits}
-use Rattle.pat_machine_waits.specs.Waits.{IsAwake, SleepsAt, IsInOrder, Adds, Removes, PutsToSleep, AddsMailbox, TakesOne}
+use Rattle.pat_machine_waits.specs.Waits.{sleeper_at, IsAwake, SleepsAt, Adds, Removes, PutsToSleep, AddsMailbox}
 use Rattle.pat_machine_waits.specs.Noted.{IsAsleep, IsNoted, AreNoted, WereNoted, Settles}
 use Rattle.pat_machine_waits.proofs.Sorted.{find_filtered}
+use Rattle.pat_machine_waits.proofs.Slept.{appended}
 
 -- ---- one thread, as it stands now
 
@@ -26,6 +27,10 @@ noted_on p d w v u awake asleep noted q there = ⊎_elim
     (λ on. inl (awake on))
     (λ (s : IsAsleep p d w.sleepers.items u). inr (record { mailbox = s.mailbox; waiting = s.waiting; asleep = asleep s.mailbox s.asleep }))
     (noted q there)
+
+-- who sleeps is as it was
+slept_on : (w v : Waits) (u : ℕ) → v.sleepers.items ≡ w.sleepers.items → (a : ℕ) → SleepsAt w a u → SleepsAt v a u
+slept_on w v u same a = subst (λ l. sleeper_at l a ≡ Some u) (sym same)
 
 module _ (p : Program) (d : Config) (w v : Waits) (t : ℕ) where
   pub settled_asleep : (a : ℕ) → IsWaiting p d t a → PutsToSleep w t a v → Settles p d w t v
@@ -40,7 +45,7 @@ module _ (p : Program) (d : Config) (w v : Waits) (t : ℕ) where
   settled_awake s = record {
     order = s.order;
     own = λ q there. inl s.own;
-    others = λ u other. noted_on p d w v u (s.others u) (λ b. s.asleep b u);
+    others = λ u other. noted_on p d w v u (s.others u) (slept_on w v u s.asleep);
     space = s.space;
   }
 
@@ -48,7 +53,7 @@ module _ (p : Program) (d : Config) (w v : Waits) (t : ℕ) where
   settled_gone none s = record {
     order = s.order;
     own = λ q there. let no = none in cc;
-    others = λ u other. noted_on p d w v u (s.others u other) (λ b. s.asleep b u);
+    others = λ u other. noted_on p d w v u (s.others u other) (slept_on w v u s.asleep);
     space = s.space;
   }
 
@@ -92,7 +97,7 @@ kept_as_is c d act w none = record {
 pub kept_with_more : (c d : Config) (w v : Waits) → AddsMailbox w v → Keeps c (Some ActNew) d w v
 kept_with_more c d w v more = record {
   awake = λ u on. subst (λ l. is_among u l ≡ true) (sym more.awake) on;
-  asleep = λ a u s. inl (more.asleep a u s);
+  asleep = λ a u s. inl (subst (λ l. sleeper_at l a ≡ Some u) (sym more.asleep) (appended w.sleepers.items a u s));
   called = λ a u sent s. let no = sent.sent in cc;
 }
 

@@ -1,8 +1,8 @@
 -- The table of those that sleep, changed at one mailbox.
-use Rattle.std.proofs.Common.{◌≡◌, ℕ, zero, suc, ◌<◌, nat_eq, List, [], ◌∷◌, ◌++◌, length, Option, Some, None, refl, sym, ap, ◌∙◌, slice_get, slice_set, ◌⊎◌, inl, inr, ⊎_elim, arith}
+use Rattle.std.proofs.Common.{◌≡◌, ℕ, zero, suc, ◌<◌, nat_eq, List, [], ◌∷◌, ◌++◌, length, Option, Some, None, sym, ap, ◌∙◌, slice_get, slice_set, ◌⊎◌, inl, inr, ⊎_elim, arith}
 use Rattle.std.proofs.lemmas.Bool.{cases_Bool, eqb-true, eqb-false}
 use Rattle.pat_commits.specs.Lendings.{flat}
-use Rattle.pat_commit_laws.proofs.Tables.{set_here, set_elsewhere}
+use Rattle.pat_commit_laws.proofs.Tables.{set_elsewhere}
 use Rattle.pat_machine_waits.specs.Waits.{sleeper_at}
 
 -- where a thread sleeps, none sleeps but that
@@ -28,3 +28,9 @@ pub appended : (ss : List (Option ℕ)) (a u : ℕ) → sleeper_at ss a ≡ Some
 appended [] a u h = cc
 appended (s ∷ ss) zero u h = h
 appended (s ∷ ss) (suc a) u h = appended ss a u h
+
+-- where a thread sleeps, there is a mailbox
+pub slept_there : (ss : List (Option ℕ)) (a t : ℕ) → sleeper_at ss a ≡ Some t → slice_get ss a ≡ Some (Some t)
+slept_there [] a t h = cc
+slept_there (s ∷ ss) zero t h = ap (λ (o : Option ℕ). Some o) h
+slept_there (s ∷ ss) (suc a) t h = slept_there ss a t h

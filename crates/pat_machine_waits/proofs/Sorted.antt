@@ -1,5 +1,5 @@
 -- Numbers in ascending order: where one stands, and one more or less of them.
-use Rattle.std.proofs.Common.{◌≡◌, ℕ, zero, suc, ◌+◌, ◌<◌, ◌≤◌, Bool, true, false, cond, ◌&&◌, nat_eq, List, [], ◌∷◌, length, get_or, ◌-◌, take, drop, take_all, length-drop, filter, Result, Ok, Err, IfOk, IfErr, refl, sym, ap, ◌∙◌, ⊎_elim, eq-eqb, arith}
+use Rattle.std.proofs.Common.{◌≡◌, ℕ, zero, suc, ◌+◌, ◌<◌, ◌≤◌, Bool, true, false, cond, ◌&&◌, nat_eq, List, [], ◌∷◌, length, get_or, ◌-◌, take, drop, take_all, length-drop, filter, Result, Ok, Err, IfOk, IfErr, refl, sym, ap, ◌∙◌, ◌⊎◌, inl, inr, ⊎_elim, eq-eqb, arith}
 use Rattle.std.specs.Prelude.{Some, None, find, insert, remove}
 use Rattle.std.specs.List.Sorted.{IsSearchInRange, IsBinarySearchResult, IsNonDecreasingBy}
 use Rattle.std.specs.Ordering.{nat_cmp, ordering_index}
@@ -76,6 +76,20 @@ more_kept (x ∷ xs) t (suc i) u h at =
     (λ rest. or_right (nat_eq u x) (is_among u (insert xs i t)) (more_kept xs t i u (omega arith) rest))
     (or_cases (nat_eq u x) (is_among u xs) at)
 
+-- what is among them then was, or is that one
+pub more_only : (ts : List ℕ) (t i u : ℕ) → i ≤ length ts → is_among u (insert ts i t) ≡ true → (is_among u ts ≡ true) ⊎ (u ≡ t)
+more_only ts t zero u h at =
+    ⊎_elim
+    (λ here. inr (eqb-true u t here))
+    (λ rest. inl rest)
+    (or_cases (nat_eq u t) (is_among u ts) at)
+more_only [] t (suc i) u h at = absurd (omega arith)
+more_only (x ∷ xs) t (suc i) u h at =
+    ⊎_elim
+    (λ here. inl (or_left (nat_eq u x) (is_among u xs) here))
+    (λ rest. ⊎_elim (λ was. inl (or_right (nat_eq u x) (is_among u xs) was)) (λ same. inr same) (more_only xs t i u (omega arith) rest))
+    (or_cases (nat_eq u x) (is_among u (insert xs i t)) at)
+
 -- where it stands, it is among them
 pub stands_among : (ts : List ℕ) (t i : ℕ) → StandsAt ts t i → is_among t ts ≡ true
 stands_among [] t i s = let within = s.0 in absurd (omega arith)
@@ -105,6 +119,58 @@ less_kept (x ∷ xs) t (suc i) u s other at =
     (λ here. or_left (nat_eq u x) (is_among u (remove xs i)) here)
     (λ rest. or_right (nat_eq u x) (is_among u (remove xs i)) (less_kept xs t i u (omega arith, λ d. s.1 d) other rest))
     (or_cases (nat_eq u x) (is_among u xs) at)
+
+pub less_only : (ts : List ℕ) (i u : ℕ) → is_among u (remove ts i) ≡ true → is_among u ts ≡ true
+less_only [] zero u at = at
+less_only [] (suc i) u at = at
+less_only (x ∷ xs) zero u at = or_right (nat_eq u x) (is_among u xs) at
+less_only (x ∷ xs) (suc i) u at =
+    ⊎_elim
+    (λ here. or_left (nat_eq u x) (is_among u xs) here)
+    (λ rest. or_right (nat_eq u x) (is_among u xs) (less_only xs i u rest))
+    (or_cases (nat_eq u x) (is_among u (remove xs i)) at)
+
+-- none is less than where they begin
+not_below : (n : ℕ) (ts : List ℕ) (u : ℕ) → AscendsFrom n ts → is_among u ts ≡ true → n ≤ u
+not_below n [] u a at = cc
+not_below n (x ∷ xs) u a at =
+    ⊎_elim
+    (λ here. let same = eqb-true u x here in let first : n ≤ x = a.0 in omega arith)
+    (λ rest. let first : n ≤ x = a.0 in let more = not_below (suc x) xs u a.1 rest in omega arith)
+    (or_cases (nat_eq u x) (is_among u xs) at)
+
+gone_from : (n : ℕ) (ts : List ℕ) (t i : ℕ) → AscendsFrom n ts → StandsAt ts t i → is_among t (remove ts i) ≡ true → ⊥
+gone_from n [] t i a s at = let within = s.0 in absurd (omega arith)
+gone_from n (x ∷ xs) t zero a s at = let own : x ≡ t = s.1 x in let more = not_below (suc x) xs t a.1 at in omega arith
+gone_from n (x ∷ xs) t (suc i) a s at =
+    let within = s.0 in
+    ⊎_elim
+    (λ here.
+    let same = eqb-true t x here in
+    let own : get_or xs i 0 ≡ t = s.1 0 in
+    let more = above (suc x) xs i 0 a.1 (omega arith) in
+    omega arith)
+    (λ rest. gone_from (suc x) xs t i a.1 (omega arith, λ d. s.1 d) rest)
+    (or_cases (nat_eq t x) (is_among t (remove xs i)) at)
+
+-- it stood there alone
+pub less_gone : (ts : List ℕ) (t i : ℕ) → AscendsFrom 0 ts → StandsAt ts t i → is_among t (remove ts i) ≡ true → ⊥
+less_gone ts t i a s = gone_from 0 ts t i a s
+
+-- where a number belongs, it isn't among them
+pub fits_absent : (ts : List ℕ) (t i : ℕ) → FitsAt ts t i → is_among t ts ≡ true → ⊥
+fits_absent [] t i f at = cc
+fits_absent (x ∷ xs) t zero f at =
+    ⊎_elim
+    (λ here. let same = eqb-true t x here in let next = f.behind zero x (omega arith) (omega arith) in omega arith)
+    (λ rest. fits_absent xs t zero (record { within = omega arith; front = λ k d less front. absurd (omega arith); behind = λ k d less behind. f.behind (suc k) d (omega arith) (omega arith) }) rest)
+    (or_cases (nat_eq t x) (is_among t xs) at)
+fits_absent (x ∷ xs) t (suc i) f at =
+    let within = f.within in
+    ⊎_elim
+    (λ here. let same = eqb-true t x here in let first = f.front zero x (omega arith) (omega arith) in omega arith)
+    (λ rest. fits_absent xs t i (record { within = omega arith; front = λ k d less front. f.front (suc k) d (omega arith) (omega arith); behind = λ k d less behind. f.behind (suc k) d (omega arith) (omega arith) }) rest)
+    (or_cases (nat_eq t x) (is_among t xs) at)
 
 -- ---- those above a number
 

@@ -1,5 +1,5 @@
 -- Which threads may go on, which sleep until a message comes, and what changes that.
-use Rattle.std.specs.Prelude.{◌≡◌, ℕ, suc, ◌+◌, ◌<◌, ◌≤◌, List, [], ◌∷◌, ◌++◌, length, get_or, Option, Some, IsTrue, slice_get, vec_len, vec_capacity, ◌⊎◌}
+use Rattle.std.specs.Prelude.{◌≡◌, ℕ, ◌+◌, ◌<◌, ◌≤◌, List, [], ◌∷◌, ◌++◌, length, get_or, Option, Some, None, IsTrue, slice_get, vec_len, vec_capacity, ◌⊎◌}
 use Rattle.pat_model.specs.Programs.{is_among}
 use Rattle.pat_model.specs.Configs.{Message, Config}
 use Rattle.pat_model.specs.Orders.{AscendsFrom}
@@ -47,26 +47,31 @@ pub record TakesOne (w v : Waits) : Type 0 where
   pub len : vec_len v.awake ≤ vec_len w.awake + 1
   pub capacity : vec_capacity w.awake ≤ vec_capacity v.awake
 
--- thread t may go on, as all do that might
+-- thread t may go on, and just those that might; who sleeps is as it was
 pub record Adds (w : Waits) (t : ℕ) (v : Waits) : Type 0 where
   pub order : IsInOrder v
   pub own : IsAwake v t
   pub others : (u : ℕ) → IsAwake w u → IsAwake v u
-  pub asleep : (a u : ℕ) → SleepsAt w a u → SleepsAt v a u
+  pub only : (u : ℕ) → IsAwake v u → IsAwake w u ⊎ (u ≡ t)
+  pub asleep : v.sleepers.items ≡ w.sleepers.items
   pub space : TakesOne w v
 
--- thread t can't go on, and others may that might
+-- thread t can't go on, and just those others may that might; who sleeps is as it was
 pub record Removes (w : Waits) (t : ℕ) (v : Waits) : Type 0 where
   pub order : IsInOrder v
+  pub own : IsAwake v t → ⊥
   pub others : (u : ℕ) → (u ≡ t → ⊥) → IsAwake w u → IsAwake v u
-  pub asleep : (a u : ℕ) → SleepsAt w a u → SleepsAt v a u
+  pub only : (u : ℕ) → IsAwake v u → IsAwake w u
+  pub asleep : v.sleepers.items ≡ w.sleepers.items
   pub space : TakesOne w v
 
--- who slept at mailbox a may go on, as all do that might
+-- who slept at mailbox a may go on, and just those that might; nobody sleeps there any more
 pub record Wakes (w : Waits) (a : ℕ) (v : Waits) : Type 0 where
   pub order : IsInOrder v
   pub others : (u : ℕ) → IsAwake w u → IsAwake v u
+  pub only : (u : ℕ) → IsAwake v u → IsAwake w u ⊎ SleepsAt w a u
   pub woken : (u : ℕ) → SleepsAt w a u → IsAwake v u
+  pub empty : sleeper_at v.sleepers.items a ≡ None
   pub asleep : (b u : ℕ) → SleepsAt w b u → SleepsAt v b u ⊎ IsAwake v u
   pub space : TakesOne w v
 
@@ -78,16 +83,18 @@ pub record WakesReceiver (d : Config) (w v : Waits) : Type 0 where
   pub asleep : (b u : ℕ) → SleepsAt w b u → SleepsAt v b u ⊎ IsAwake v u
   pub space : TakesOne w v
 
--- thread t sleeps at mailbox a
+-- thread t sleeps at mailbox a and can't go on, and just those others may that might
 pub record PutsToSleep (w : Waits) (t a : ℕ) (v : Waits) : Type 0 where
   pub order : IsInOrder v
   pub own : SleepsAt v a t
+  pub gone : IsAwake v t → ⊥
   pub others : (u : ℕ) → (u ≡ t → ⊥) → IsAwake w u → IsAwake v u
+  pub only : (u : ℕ) → IsAwake v u → IsAwake w u
   pub asleep : (b u : ℕ) → SleepsAt w b u → SleepsAt v b u
   pub space : TakesOne w v
 
--- a further mailbox
+-- a further mailbox, where nobody sleeps
 pub record AddsMailbox (w v : Waits) : Type 0 where
   pub awake : v.awake.items ≡ w.awake.items
-  pub asleep : (a u : ℕ) → SleepsAt w a u → SleepsAt v a u
+  pub asleep : v.sleepers.items ≡ w.sleepers.items ++ None ∷ []
   pub space : TakesOne w v

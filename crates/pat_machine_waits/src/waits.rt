@@ -1,5 +1,5 @@
 // The threads that may go on, and those that sleep.
-ghost use Rattle.std.specs.Prelude.{◌≡◌, ◌+◌, ◌<◌, ◌≤◌, [], ◌∷◌, length, insert, filter, slice_get, Some, None, IfOk, IfErr, OnOk, IsTrue, vec_len, vec_capacity};
+ghost use Rattle.std.specs.Prelude.{◌≡◌, ◌+◌, ◌<◌, ◌≤◌, [], ◌∷◌, length, insert, filter, slice_get, Some, None, IfOk, IfErr, OnOk, IsTrue, vec_len, vec_capacity, ◌↔◌};
 ghost use Rattle.pat_model.specs.Orders.{AscendsFrom};
 ghost use Rattle.pat_commits.specs.Turns.{is_above};
 ghost use Rattle.pat_machine_waits.specs.Waits.{sleeper_at, IsInOrder, HasSpace, StandsAt, FitsAt, IsPlaceAbove, Adds, Removes, Wakes, PutsToSleep, AddsMailbox};
@@ -100,7 +100,7 @@ impl Waits {
 
     /// Whether a thread may sleep at the mailbox: it is known, and none does.
     pub fn is_free(&self, mailbox: u32) -> bool
-        ensures { IsTrue result → slice_get self.now.sleepers.items mailbox ≡ Some None }
+        ensures { IsTrue result ↔ slice_get self.now.sleepers.items mailbox ≡ Some None }
     {
         match self.sleepers.as_slice().get(mailbox as usize) {
             Some(Some(_)) => false,

@@ -1,8 +1,8 @@
-use Rattle.std.proofs.Common.{◌≡◌, ◌<◌, true, ap, sym, ◌∙◌, subst, arith}
+use Rattle.std.proofs.Common.{ℕ, List, Option, ◌≡◌, true, refl, sym, subst, inl, arith}
 use Rattle.pat_model.specs.Programs.{is_among}
 use Rattle.pat_model.specs.Orders.{AscendsFrom}
 use Rattle.pat_machine_waits.specs.Waits.{StandsAt, FitsAt}
-use Rattle.pat_machine_waits.proofs.Sorted.{more_in_order, more_own, more_kept, stands_among}
+use Rattle.pat_machine_waits.proofs.Sorted.{more_in_order, more_own, more_kept, more_only, stands_among}
 use Rattle.pat_machine_waits.proofs.waits.Waits.add.Goals as goal
 
 pub place_of-requires : goal.place_of-requires
@@ -21,7 +21,8 @@ returns-in-Ok c =
       order = c.requires.order;
       own = stands_among c.args.self.now.awake.items c.args.thread c.in-Ok.field-0 stands;
       others = λ u on. on;
-      asleep = λ a u s. s;
+      only = λ u on. inl on;
+      asleep = refl;
       space = record { len = omega arith; capacity = omega arith };
     }
 
@@ -37,6 +38,7 @@ returns-in-Err c =
       order = subst (AscendsFrom 0) is (more_in_order ts t i c.requires.order fits);
       own = subst (λ l. is_among t l ≡ true) is (more_own ts t i fits.within);
       others = λ u on. subst (λ l. is_among u l ≡ true) is (more_kept ts t i u fits.within on);
-      asleep = λ a u s. s;
+      only = λ u on. more_only ts t i u fits.within (subst (λ l. is_among u l ≡ true) c.insert_at.ensures.items on);
+      asleep = refl {A = List (Option ℕ)};
       space = record { len = omega arith; capacity = c.insert_at.ensures.capacity };
     }

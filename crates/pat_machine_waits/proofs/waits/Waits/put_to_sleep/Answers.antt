@@ -1,4 +1,5 @@
-use Rattle.std.proofs.Common.{Some}
+use Rattle.std.proofs.Common.{◌≡◌, Some, sym, subst}
+use Rattle.pat_machine_waits.specs.Waits.{sleeper_at}
 use Rattle.pat_commit_laws.proofs.Tables.{set_here}
 use Rattle.pat_machine_waits.proofs.Slept.{filled, within}
 use Rattle.pat_machine_waits.proofs.waits.Waits.put_to_sleep.Goals as goal
@@ -12,8 +13,10 @@ returns c =
     let k = c.remove.ensures in
     record {
       order = k.order;
-      own = k.asleep a t (set_here ss a (Some t) (within ss a _ c.requires.free));
+      own = subst (λ l. sleeper_at l a ≡ Some t) (sym k.asleep) (set_here ss a (Some t) (within ss a _ c.requires.free));
+      gone = k.own;
       others = k.others;
-      asleep = λ b u s. k.asleep b u (filled ss a t b u c.requires.free s);
+      only = k.only;
+      asleep = λ b u s. subst (λ l. sleeper_at l b ≡ Some u) (sym k.asleep) (filled ss a t b u c.requires.free s);
       space = record { len = k.space.len; capacity = k.space.capacity };
     }
