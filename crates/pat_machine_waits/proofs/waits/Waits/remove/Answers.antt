@@ -1,4 +1,4 @@
-use Rattle.std.proofs.Common.{◌≡◌, true, refl, sym, subst, arith}
+use Rattle.std.proofs.Common.{ℕ, List, Option, ◌≡◌, true, refl, sym, subst, arith}
 use Rattle.pat_model.specs.Programs.{is_among}
 use Rattle.pat_model.specs.Orders.{AscendsFrom}
 use Rattle.pat_machine_waits.specs.Waits.{StandsAt, FitsAt}
@@ -19,7 +19,7 @@ returns-in-Ok c =
       own = λ on. less_gone ts t i c.requires stands (subst (λ l. is_among t l ≡ true) c.remove.ensures.items on);
       others = λ u other on. subst (λ l. is_among u l ≡ true) is (less_kept ts t i u stands other on);
       only = λ u on. less_only ts i u (subst (λ l. is_among u l ≡ true) c.remove.ensures.items on);
-      asleep = refl;
+      asleep = refl {A = List (Option ℕ)};
       space = record { len = omega arith; capacity = omega arith };
     }
 
