@@ -8,9 +8,14 @@ use std::alloc::{AllocError, Global};
 use std::marker::Model;
 
 /// Names that differ, the last first. To add one is one look-up in a hash table, which copies no name.
-#[derive(Drop)]
 pub struct EarlierNames<'a> {
     names: IndexSet<&'a [u8]>,
+}
+
+impl<'a> Drop for EarlierNames<'a> {
+    fn drop(self) {
+        let EarlierNames { names: _ } = self;
+    }
 }
 
 impl<'a> Model for EarlierNames<'a> {

@@ -10,10 +10,18 @@ use std::alloc::{AllocError, Global};
 use std::marker::Model;
 
 /// Names in order. A name that stands more than once is found at its first place. A look-up is one of a hash table, which copies no name.
-#[derive(Drop)]
 pub struct NameTable<'a> {
     names: Sequence<&'a Text>,
     places: IndexMap<&'a [u8], usize>,
+}
+
+impl<'a> Drop for NameTable<'a> {
+    fn drop(self) {
+        let NameTable {
+            names: _,
+            places: _,
+        } = self;
+    }
 }
 
 impl<'a> Model for NameTable<'a> {

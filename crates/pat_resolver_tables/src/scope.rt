@@ -31,10 +31,18 @@ struct Entry<'a> {
 /// The variables in scope, the innermost first. A name stands for the innermost variable that has it. A look-up is one of a
 /// hash table, which copies no name and keeps each that it had once, with the place of its innermost variable while there is
 /// one. Places are counted from the outermost.
-#[derive(Drop)]
 pub struct ScopeTable<'a> {
     entries: Stack<Entry<'a>>,
     places: IndexMap<&'a [u8], Option<usize>>,
+}
+
+impl<'a> Drop for ScopeTable<'a> {
+    fn drop(self) {
+        let ScopeTable {
+            entries: _,
+            places: _,
+        } = self;
+    }
 }
 
 impl<'a> Model for ScopeTable<'a> {
