@@ -18,9 +18,9 @@ use pat_sequences::Text;
 use std::alloc::{AllocError, Global};
 use std::marker::Model;
 
-/// A program that runs by jobs and commits.
+/// A program that runs by jobs and commits. Its parts stand in a box, since a turn moves it at each hold.
 pub struct Machine {
-    parts: Parts,
+    parts: Box<Parts>,
 }
 
 impl Drop for Machine {
@@ -71,7 +71,9 @@ impl Machine {
         ensures { IfOk result (IsNew accepted steps messages) }
     {
         let parts = Parts::new(alloc, accepted.into_program(), steps, messages)?;
-        Ok(Machine { parts })
+        Ok(Machine {
+            parts: Box::new(alloc, parts)?,
+        })
     }
 
     /// The job of the ready thread whose turn comes first. It takes no memory.

@@ -43,10 +43,10 @@ pub enum News {
     Nothing,
     /// There may be something to do, and this pass looks for it next. Who is about to rest looks again; who sleeps isn't woken.
     Soon,
-    /// The same, and there is so much to do at once that one of those that nap is woken.
-    Much,
     /// There is something to do for one of them.
     ForOne,
+    /// There is something to do for one of those that nap.
+    ForOneNapping,
     ForAll,
 }
 
@@ -71,8 +71,8 @@ pub struct Pass<V: Kept> {
     number: u32,
     /// The turn's count of news when this pass last held the value.
     news: u64,
-    /// How often those that nap had been called then.
-    calls: u64,
+    /// The count of alarms for those that nap, then.
+    alarms: u64,
 }
 
 impl<V: Kept> Model for Pass<V> {
@@ -164,7 +164,7 @@ fn add_passes<V: Kept>(
             seat,
             number,
             news: 0,
-            calls: 0,
+            alarms: 0,
         })?;
     }
     Ok(())
@@ -183,7 +183,7 @@ fn join_all<V: Kept>(top: &Top<V>, first: &mut Place<V>, others: Vec<Pass<V>>)
             seat,
             number: _,
             news: _,
-            calls: _,
+            alarms: _,
         } = pass;
         top.join_seat::<Fold>(first, seat);
     }
@@ -210,7 +210,7 @@ impl<V: Kept> Turn<V> {
     {
         let value = take(rt, &self.table.shared, &self.bells, &mut pass.seat);
         pass.news = self.news.load(Ordering::SeqCst);
-        pass.calls = self.naps.keep_watch(pass.number);
+        pass.alarms = self.naps.keep_watch(pass.number);
         value
     }
 
@@ -246,32 +246,44 @@ impl<V: Kept> Turn<V> {
             self.news.fetch_add(1, Ordering::SeqCst);
         }
         match news {
-            News::Much if self.naps.has_napping() => self.naps.call(),
+            News::ForOneNapping => self.naps.raise_alarm(),
             // A pass may end behind these news, and another one has to keep watch.
             News::ForAll => {
                 self.naps.end_watch();
-                self.naps.call();
+                self.naps.raise_alarm();
             }
-            News::Nothing | News::Soon | News::Much | News::ForOne => {}
+            News::Nothing | News::Soon | News::ForOne => {}
         }
     }
 
     // Who begins to rest or to nap later sees the counts.
     fn tell(&self, news: News) {
         match news {
-            News::Much if self.naps.has_napping() => self.naps.wake_one(),
-            News::ForOne if self.has_resting() => self.news.wake_one(),
+            News::ForOne => self.wake_resting(),
+            News::ForOneNapping if self.has_napping() => self.naps.wake_one(),
             News::ForAll => {
                 self.news.wake_all();
                 self.naps.wake_all();
             }
-            News::Nothing | News::Soon | News::Much | News::ForOne => {}
+            News::Nothing | News::Soon | News::ForOneNapping => {}
+        }
+    }
+
+    // Wakes one of those that rest.
+    fn wake_resting(&self) {
+        if self.has_resting() {
+            self.news.wake_one();
         }
     }
 
     /// Whether a pass rests just now.
     pub fn has_resting(&self) -> bool {
         self.resting.load(Ordering::SeqCst) > 0
+    }
+
+    /// Whether a pass naps just now.
+    pub fn has_napping(&self) -> bool {
+        self.naps.has_napping()
     }
 
     /// May wait until another pass has put the value back with news, since this one last held it.
@@ -287,16 +299,18 @@ impl<V: Kept> Turn<V> {
         self.resting.fetch_sub(1, Ordering::SeqCst);
     }
 
-    /// May wait until another pass has put the value back with much news or news for all, since this one last held it. It waits only
-    /// while another pass keeps watch, so never all of them do. As this pass won't look for what it left, one of those that rest does.
+    /// May wait until another pass has put the value back with news for those that nap, or for all. It waits only where another pass
+    /// keeps watch, which is one that held the value, has not ended, and doesn't nap. As this pass doesn't look for what there is to
+    /// do, one of those that rest is woken to look.
     pub fn nap<R: Wait>(&self, rt: &R, pass: &mut Pass<V>)
         requires turn { pass.old.turn ≡ self.now.id }
         requires free { pass.old.holds ≡ false }
         ensures { pass.new ≡ pass.old }
     {
-        self.news.fetch_add(1, Ordering::SeqCst);
-        self.tell(News::ForOne);
-        self.naps.nap(rt, pass.number, pass.calls);
+        if self.naps.is_watched(pass.number) {
+            self.wake_resting();
+            self.naps.sleep(rt, pass.alarms);
+        }
     }
 }
 
@@ -326,7 +340,7 @@ impl<V: Kept> Turn<V> {
                 seat: first,
                 number: 0,
                 news: 0,
-                calls: 0,
+                alarms: 0,
             },
         )?;
         let bells = Bells::new(alloc)?;
@@ -355,7 +369,7 @@ impl<V: Kept> Turn<V> {
             seat: mut first,
             number: _,
             news: _,
-            calls: _,
+            alarms: _,
         } = passes.remove(0);
         join_all(&table.shared, &mut first, passes);
         let mut closed = table.close_with(first);

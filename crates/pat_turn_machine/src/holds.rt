@@ -14,8 +14,13 @@ use pat_machine_threads::LocalRun;
 use pat_turn::{News, Pass, Turn};
 use std::sync::Wait;
 
-/// Takes a job and its state. Nothing is added to the history.
-pub fn take_in_turn<R: Wait>(rt: &R, turn: &Turn<Machine>, pass: &mut Pass<Machine>) -> Taken
+/// Takes a job and its state. Nothing is added to the history. A busy worker wakes one that naps, if it leaves a job.
+pub fn take_in_turn<R: Wait>(
+    rt: &R,
+    turn: &Turn<Machine>,
+    pass: &mut Pass<Machine>,
+    is_busy: bool,
+) -> Taken
     requires turn { pass.old.turn ≡ turn.now.id }
     requires free { pass.old.holds ≡ false }
     ensures pass { pass.new ≡ record pass.old { seen = pass.new.seen } }
@@ -23,36 +28,32 @@ pub fn take_in_turn<R: Wait>(rt: &R, turn: &Turn<Machine>, pass: &mut Pass<Machi
 {
     let mut machine = turn.hold(rt, pass);
     let taken = take(&mut machine);
-    let news = news_of(turn, &machine, &taken);
+    let news = news_of(turn, &machine, &taken, is_busy);
     turn.put_back(pass, machine, news);
     taken
 }
 
 // Who took a job wakes one of those that rest where it leaves another one; who is woken does the same. A job that went back may be
 // taken by any of them, and where the run is over all of them end.
-fn news_of(turn: &Turn<Machine>, machine: &Machine, taken: &Taken) -> News {
+fn news_of(turn: &Turn<Machine>, machine: &Machine, taken: &Taken, is_busy: bool) -> News {
     match taken {
         Taken::Job(_, _) if turn.has_resting() && machine.could_take() => News::ForOne,
+        Taken::Job(_, _) if is_busy && turn.has_napping() && machine.could_take() => {
+            News::ForOneNapping
+        }
         Taken::Job(_, _) | Taken::Nothing => News::Nothing,
         Taken::Over | Taken::NoMemory => News::ForAll,
     }
 }
 
-// Who committed looks for the next job itself. Mostly there is no other one, and then nobody is woken in vain.
-fn news_of_commit(committed: &Result<Receipt, CommitRefused>, is_long: bool) -> News {
+// Who committed looks for the next job itself, or sees to it that another one does. Mostly there is no other job, and then nobody is
+// woken in vain.
+fn news_of_commit(committed: &Result<Receipt, CommitRefused>) -> News {
     match committed {
-        Ok(_) if is_long => News::Much,
         Ok(_) => News::Soon,
         Err(_) => News::ForAll,
     }
 }
-
-/// A job with so many local steps takes longer than to hand the turn to another thread.
-pub fn is_long(run: &LocalRun) -> bool {
-    run.steps >= LONG
-}
-
-const LONG: u32 = 64;
 
 /// Commits a job under the number of the pass. Where memory runs out the job goes back in the same hold.
 pub fn commit_in_turn<R: Wait>(
@@ -69,10 +70,9 @@ pub fn commit_in_turn<R: Wait>(
     ensures committed { (found left : Shown) × IsHold pass.old pass.new.seen found left × CommittingGives found pass.old.number job result left }
 {
     let worker = pass.number();
-    let is_long = is_long(&run);
     let mut machine = turn.hold(rt, pass);
     let result = commit(&mut machine, worker, job, run);
-    turn.put_back(pass, machine, news_of_commit(&result, is_long));
+    turn.put_back(pass, machine, news_of_commit(&result));
     result
 }
 

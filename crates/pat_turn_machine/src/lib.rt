@@ -4,5 +4,5 @@
 mod holds;
 mod machines;
 
-pub use holds::{commit_in_turn, give_back_in_turn, is_long, take_in_turn};
+pub use holds::{commit_in_turn, give_back_in_turn, take_in_turn};
 pub use machines::Taken;

@@ -11,11 +11,14 @@ use pat_machine_threads::{LocalRun, local_run};
 use pat_ports::Gate;
 use pat_reduce::ThreadState;
 use pat_turn::{Pass, Turn};
-use pat_turn_machine::{commit_in_turn, give_back_in_turn, is_long};
+use pat_turn_machine::{commit_in_turn, give_back_in_turn};
 use std::alloc::{AllocError, Global};
 use std::sync::Wait;
 
-/// A worker: its pass, its receipts in order, and how many of its last jobs were short.
+// The least number of local steps of a long job: they take longer than to hand the turn to another thread.
+const LONG: u32 = 64;
+
+/// A worker: its pass, its receipts in order, and how many jobs it has served since the last that was long.
 #[derive(Drop)]
 pub struct Worker {
     pub pass: Pass<Machine>,
@@ -96,10 +99,10 @@ fn commit<R: Wait, G: Gate>(
 {
     let number = worker.pass.number();
     let call = worker.receipts.len() as u64 + 1;
-    worker.short_jobs = if is_long(&run) {
-        0
-    } else {
+    worker.short_jobs = if run.steps < LONG {
         worker.short_jobs.saturating_add(1)
+    } else {
+        0
     };
     gate.before(number, call);
     let result = commit_in_turn(rt, turn, &mut worker.pass, job, run);

@@ -40,11 +40,12 @@ fn work<R: Wait, G: Gate>(
     worker
 }
 
-// So many short jobs one behind the other, and the worker naps: with more than one at work each of them would wait longer for the
-// turn than work.
+// So many short jobs one behind the other, and the worker naps: where jobs are short, each of several workers would wait longer for
+// the turn than work.
 const ENOUGH: u32 = 8;
 
-// Serves one job, if there is one; rests, where jobs are out and nothing can be taken. Whether the worker goes on.
+// Serves one job, if there is one, and naps where jobs are short; rests, where jobs are out and nothing can be taken. Whether the worker
+// goes on.
 fn work_once<R: Wait, G: Gate>(
     rt: &R,
     alloc: Global,
@@ -63,12 +64,13 @@ fn work_once<R: Wait, G: Gate>(
     match take(rt, turn, worker) {
         Taken::Job(job, state) => {
             let task = Task { job, state };
-            let is_served = serve(rt, alloc, turn, code, gate, worker, task).is_ok();
-            if is_served && worker.short_jobs >= ENOUGH {
-                worker.short_jobs = 0;
+            if serve(rt, alloc, turn, code, gate, worker, task).is_err() {
+                return false;
+            }
+            if worker.short_jobs >= ENOUGH {
                 turn.nap(rt, &mut worker.pass);
             }
-            is_served
+            true
         }
         Taken::Nothing => {
             turn.rest(rt, &mut worker.pass);
@@ -78,7 +80,7 @@ fn work_once<R: Wait, G: Gate>(
     }
 }
 
-// Takes a job. Nothing is added to the history.
+// Takes a job. Nothing is added to the history. The worker is busy where its last job was long.
 fn take<R: Wait>(rt: &R, turn: &Turn<Machine>, worker: &mut Worker) -> Taken
     requires turn { worker.old.pass.turn ≡ turn.now.id }
     requires free { worker.old.pass.holds ≡ false }
@@ -86,7 +88,8 @@ fn take<R: Wait>(rt: &R, turn: &Turn<Machine>, worker: &mut Worker) -> Taken
     ensures pass { worker.new.pass ≡ record worker.old.pass { seen = worker.new.pass.seen } }
     ensures receipts { HasReceipts worker.new }
 {
-    take_in_turn(rt, turn, &mut worker.pass)
+    let is_busy = worker.short_jobs == 0;
+    take_in_turn(rt, turn, &mut worker.pass, is_busy)
 }
 
 /// Each pass in a thread of its own; where none can be made, one after another.
