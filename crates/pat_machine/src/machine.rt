@@ -41,9 +41,9 @@ impl Model for Machine {
 
     ghost use Rattle.pat_machine.specs.Parted.{shown, IsKept};
 
-    ghost view = { λ m. shown m.parts };
+    ghost view = { λ m. shown m.parts.value };
 
-    ghost invariant = { λ m. IsKept m.parts };
+    ghost invariant = { λ m. IsKept m.parts.value };
 }
 
 impl Kept for Machine {

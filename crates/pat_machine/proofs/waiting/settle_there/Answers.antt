@@ -3,7 +3,7 @@ use Rattle.pat_machine_waits.proofs.Noting.{settled_asleep, settled_awake}
 use Rattle.pat_machine.proofs.waiting.settle_there.Goals as goal
 
 pub put_to_sleep-requires-clause-free : goal.put_to_sleep-requires-clause-free
-put_to_sleep-requires-clause-free c = c.is_free.ensures c.if-is_free.true
+put_to_sleep-requires-clause-free c = c.is_free.ensures.0 c.if-is_free.true
 
 pub returns-in-Some : goal.returns-in-Some
 returns-in-Some c =
