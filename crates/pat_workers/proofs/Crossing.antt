@@ -118,7 +118,7 @@ pub pass_send : IsSend (the_pass.the_row machine.the_row named.the_row entry.the
 pass_send = passes.the_send machine.the_row named.the_row entry.the_row ghosts machine_send
 
 pub worker_send : IsSend worker.the_row
-worker_send = declared_send worker.the_type (pass_send, (search (crosses, receipts.the_send) depth 20, tt))
+worker_send = declared_send worker.the_type (pass_send, (search (crosses, receipts.the_send) depth 20, (search (crosses, as_row_send) depth 20, tt)))
 
 turn_sync : IsSync (the_turn.the_row machine.the_row named.the_row entry.the_row ghosts)
 turn_sync = turns.the_sync machine.the_row named.the_row entry.the_row ghosts machine_send
