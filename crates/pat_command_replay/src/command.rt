@@ -18,6 +18,7 @@ use pat_marked::place_of_mark;
 use pat_marked_programs::program_before;
 use pat_reduce::{Config, Entry};
 use pat_replay::{ReplayError, replay};
+use pat_sequences::let_go;
 use std::alloc::{AllocError, Global};
 
 /// What `replay` answers on these bytes.
@@ -107,6 +108,3 @@ fn shown(
         status: Status::Ok,
     })
 }
-
-// Lets a value go. As a call it keeps the drop of a configuration out of its caller.
-fn let_go<T: Drop>(_value: T) {}

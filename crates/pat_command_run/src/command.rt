@@ -24,6 +24,7 @@ use pat_machine::Outcome;
 use pat_options::RunOptions;
 use pat_reduce::{Config, Entry};
 use pat_run::Finished;
+use pat_sequences::let_go;
 use std::alloc::{AllocError, Global};
 
 /// How much of a run is told.
@@ -90,8 +91,6 @@ fn run_accepted<F: Fn(Accepted, RunOptions) -> Result<Finished, AllocError>>(
     let_go(derivation);
     run_program(alloc, run, detail, options, Accepted::of(program))
 }
-
-fn let_go(_derivation: Derivation) {}
 
 // The text of an accepted program's run, and its status.
 fn run_program<F: Fn(Accepted, RunOptions) -> Result<Finished, AllocError>>(

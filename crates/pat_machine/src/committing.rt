@@ -18,6 +18,7 @@ use pat_executable::Executable;
 use pat_machine_states::State;
 use pat_machine_threads::{LocalRun, copy_state, is_same_state, run_locally};
 use pat_reduce::{Act, Entry, ThreadState};
+use pat_sequences::let_go;
 use std::alloc::{AllocError, Global};
 
 /// A thread's state after its local steps, and how many they were.
@@ -168,6 +169,3 @@ fn share(
     state.put(job.thread, end);
     Ok(None)
 }
-
-// Lets a value go. As a call it keeps the drop of a state out of its caller.
-fn let_go<T: Drop>(_value: T) {}

@@ -46,6 +46,3 @@ pub fn swap_at(
 {
     mem::replace(&mut threads.items[place].1, state)
 }
-
-/// Lets a value go. As a call it keeps the drop of a state out of its caller.
-pub fn let_go<T: Drop>(_value: T) {}

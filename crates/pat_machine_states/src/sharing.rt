@@ -11,9 +11,10 @@ ghost use Rattle.pat_commits.specs.Commits.{Shares};
 ghost use Rattle.pat_commits.specs.Machines.{HasRoom, IsTypedBySome};
 
 use crate::State;
-use crate::places::{let_go, place_of};
+use crate::places::place_of;
 use pat_executable::Executable;
 use pat_reduce::{Act, Step, StepError, ThreadState};
+use pat_sequences::let_go;
 use std::alloc::{AllocError, Global};
 
 impl State {

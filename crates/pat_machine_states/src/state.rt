@@ -4,10 +4,10 @@ ghost use Rattle.pat_model.specs.Configs.{Thread as ThreadOf, start, thread_at, 
 ghost use Rattle.pat_core.specs.Views.{program_view};
 ghost use Rattle.pat_reduce_threads.specs.ThreadViews.{thread_view};
 
-use crate::places::{let_go, place_of, state_of, swap_at};
+use crate::places::{place_of, state_of, swap_at};
 use pat_executable::Executable;
 use pat_reduce::{Config, ThreadState};
-use pat_sequences::Text;
+use pat_sequences::{Text, let_go};
 use std::alloc::{AllocError, Global};
 use std::marker::Model;
 

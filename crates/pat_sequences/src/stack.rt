@@ -7,7 +7,7 @@ use std::marker::Model;
 /// A stack, seen from the top down.
 #[derive(Drop)]
 pub struct Stack<T> {
-    items: Vec<T>,
+    pub(crate) items: Vec<T>,
 }
 
 impl<T> Model for Stack<T> {

@@ -6,7 +6,7 @@ ghost use Rattle.pat_solve.specs.Steps.{IsBegun, TookIn, IsTooLargeBy, SolvesMor
 use pat_derivations::VarValue;
 use pat_infer_problems::Problem;
 use pat_patterns::Pattern;
-use pat_sequences::Sequence;
+use pat_sequences::{Sequence, let_go};
 use pat_solve_answers::{Solution, SolveError};
 use pat_solve_forms::{InterfaceForm, Unshown};
 use std::alloc::{AllocError, Global};
@@ -109,8 +109,6 @@ fn put_value(values: &mut Sequence<(u32, VarValue)>, interface: u32, variable: u
         let_go(values.replace(place, (interface, value)));
     }
 }
-
-fn let_go<T: Drop>(_gone: T) {}
 
 /// With a constraint that isn't shown.
 fn met(state: State, unshown: Unshown) -> State

@@ -6,7 +6,7 @@ ghost use Rattle.pat_derivations.specs.Views.{certs_view, lines_view};
 ghost use Rattle.pat_solve_derivation.specs.Lines.{bare_lines as bare_lines_of, with_certs, line_with};
 
 use pat_derivations::{Cert, DerivedNode};
-use pat_sequences::Sequence;
+use pat_sequences::{Sequence, let_go};
 use pat_types::NodeType;
 use std::alloc::{AllocError, Global};
 use std::mem;
@@ -27,8 +27,6 @@ pub fn bare_lines(
     }
     Ok(lines)
 }
-
-fn let_go<T: Drop>(_value: T) {}
 
 /// Puts certificates in the place of those of the line at this place.
 fn put_at(lines: &mut [DerivedNode], place: usize, certs: Sequence<Cert>)
