@@ -1,5 +1,5 @@
 // Sets of variables.
-ghost use Rattle.std.specs.Prelude.{◌≡◌, ◌≤◌, ◌<◌, ◌||◌, ℕ, false, nat_eq, IsTrue, OnOk};
+ghost use Rattle.std.specs.Prelude.{◌≡◌, ◌≤◌, ◌<◌, ◌||◌, ℕ, false, nat_eq, IsTrue, OnOk, OnErr};
 ghost use Rattle.pat_model.specs.Programs.{is_among};
 ghost use Rattle.pat_model.specs.WellFormed.{count_among};
 
@@ -26,7 +26,8 @@ impl Variables {
 
     /// Adds a variable. An error adds none.
     pub fn add(&mut self, variable: u32) -> Result<(), AllocError>
-        ensures { OnOk result ((x : ℕ) → is_among x self.new.listed ≡ (is_among x self.old.listed || nat_eq x variable)) }
+        ensures ok { OnOk result ((x : ℕ) → is_among x self.new.listed ≡ (is_among x self.old.listed || nat_eq x variable)) }
+        ensures err { OnErr result (self.new.listed ≡ self.old.listed) }
     {
         if self.contains(variable) {
             return Ok(());
