@@ -2,10 +2,11 @@
 //
 // A pattern may be many thousand levels deep, so what makes patterns along one keeps them on a
 // stack of its own: a call then takes about a hundred bytes of the thread's stack a level.
-ghost use Rattle.std.specs.Prelude.{◌≡◌, ◌∷◌, ◌≤◌, length, IfOk, OnOk, IsTrue, ◌↔◌};
-ghost use Rattle.pat_words.specs.Patterns.{Sum, Prod, Star, is_zero, is_one};
-ghost use Rattle.pat_patterns.specs.Views.{pattern_view, patterns_view, joined, joined_one};
+ghost use Rattle.std.specs.Prelude.{◌≡◌, ◌∷◌, IfOk, OnOk, IsTrue, ◌↔◌};
+ghost use Rattle.pat_words.specs.Patterns.{is_zero, is_one};
+ghost use Rattle.pat_patterns.specs.Views.{pattern_view, patterns_view};
 
+use crate::joining::{join_product, join_star, join_sum, take_one};
 use pat_sequences::Stack;
 use std::alloc::{AllocError, Global};
 
@@ -96,55 +97,4 @@ pub fn copy_onto(alloc: Global, p: &Pattern, done: &mut Stack<Pattern>) -> Resul
             join_star(alloc, done)
         }
     }
-}
-
-/// Takes the pattern on top.
-pub fn take_one(done: &mut Stack<Pattern>) -> Pattern
-    requires { 1 ≤ length (patterns_view done.old) }
-    ensures { patterns_view done.old ≡ pattern_view result ∷ patterns_view done.new }
-{
-    match done.pop() {
-        Some(top) => top,
-        None => unreachable!(),
-    }
-}
-
-/// Takes the two patterns on top, the lower one first.
-pub fn take_two(done: &mut Stack<Pattern>) -> (Pattern, Pattern)
-    requires { 2 ≤ length (patterns_view done.old) }
-    ensures { patterns_view done.old ≡ pattern_view result.1 ∷ pattern_view result.0 ∷ patterns_view done.new }
-{
-    let right = take_one(done);
-    let left = take_one(done);
-    (left, right)
-}
-
-#[inline(never)]
-fn join_sum(alloc: Global, done: &mut Stack<Pattern>) -> Result<(), AllocError>
-    requires { 2 ≤ length (patterns_view done.old) }
-    ensures { OnOk result (patterns_view done.new ≡ joined Sum (patterns_view done.old)) }
-{
-    let (left, right) = take_two(done);
-    let node = Pattern::Sum(Box::new(alloc, left)?, Box::new(alloc, right)?);
-    done.push(node)
-}
-
-#[inline(never)]
-fn join_product(alloc: Global, done: &mut Stack<Pattern>) -> Result<(), AllocError>
-    requires { 2 ≤ length (patterns_view done.old) }
-    ensures { OnOk result (patterns_view done.new ≡ joined Prod (patterns_view done.old)) }
-{
-    let (left, right) = take_two(done);
-    let node = Pattern::Prod(Box::new(alloc, left)?, Box::new(alloc, right)?);
-    done.push(node)
-}
-
-#[inline(never)]
-fn join_star(alloc: Global, done: &mut Stack<Pattern>) -> Result<(), AllocError>
-    requires { 1 ≤ length (patterns_view done.old) }
-    ensures { OnOk result (patterns_view done.new ≡ joined_one Star (patterns_view done.old)) }
-{
-    let part = take_one(done);
-    let node = Pattern::Star(Box::new(alloc, part)?);
-    done.push(node)
 }

@@ -6,7 +6,8 @@ ghost use Rattle.pat_words.specs.Substitutions.{InWith, has_values};
 ghost use Rattle.pat_patterns.specs.Views.{pattern_view, patterns_view, joined, joined_one, value_at};
 
 use crate::building::{product, star, sum};
-use crate::pattern::{Pattern, copy_onto, take_one, take_two};
+use crate::joining::{take_one, take_two};
+use crate::pattern::{Pattern, copy_onto};
 use pat_sequences::Stack;
 use std::alloc::{AllocError, Global};
 
