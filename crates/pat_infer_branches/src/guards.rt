@@ -1,11 +1,11 @@
 // Guards: their rules, their names, and what they need.
-ghost use Rattle.std.specs.Prelude.{◌≡◌, ◌+◌, ◌++◌, Some, not, is_none, is_some, length, map, option_map, IfOk, OnOk};
+ghost use Rattle.std.specs.Prelude.{◌≡◌, ◌+◌, ◌++◌, Some, not, is_none, length, map, option_map, IfOk, OnOk};
 ghost use Rattle.std.specs.List.{list_any};
 ghost use Rattle.std.specs.Map.{keys_of};
 ghost use Rattle.pat_model.specs.Programs.{is_among, tag_at};
 ghost use Rattle.pat_model.specs.Faults.{payloads_of};
 ghost use Rattle.pat_words.specs.Patterns.{covers as covers_of};
-ghost use Rattle.pat_typing.specs.Typings.{payload_sort, is_received};
+ghost use Rattle.pat_typing.specs.Typings.{is_received};
 ghost use Rattle.pat_typing.specs.Holdings.{declared_types};
 ghost use Rattle.pat_inference.specs.Binders.{names_bound};
 ghost use Rattle.pat_open_types.specs.NodeTypes.{need_of};
@@ -30,7 +30,7 @@ use pat_patterns::Pattern;
 use pat_primitives::Polarity;
 use pat_residuals::residual;
 use pat_sequences::Sequence;
-use pat_types::{MailboxType, Usage};
+use pat_types::{MailboxType, Usage, is_mailbox};
 use std::alloc::{AllocError, Global};
 
 /// A guard of a pattern on a variable: its function, its node, and the interface of the variable.
@@ -199,18 +199,6 @@ fn some_mailbox(payloads: &[Sort]) -> bool
         }
     }
     false
-}
-
-fn is_mailbox(sort: &Sort) -> bool
-    ensures { result ≡ is_some (payload_sort (sort_view sort.now)) }
-{
-    match sort {
-        Sort::Base(_) => false,
-        Sort::Mailbox(mailbox) => match &mailbox.pattern {
-            Some(_) => true,
-            None => false,
-        },
-    }
 }
 
 /// The names that the branches bind, with their types and what is needed of them.

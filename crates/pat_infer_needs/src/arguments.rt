@@ -1,17 +1,17 @@
 // What arguments and payloads need.
 ghost use Rattle.std.specs.Prelude.{◌≡◌, ◌||◌, map, option_map, is_some, IfOk, OnOk};
-ghost use Rattle.pat_typing.specs.Typings.{payload_sort, mailbox_args};
+ghost use Rattle.pat_typing.specs.Typings.{mailbox_args};
 ghost use Rattle.pat_open_types.specs.NodeTypes.{need_of};
 ghost use Rattle.pat_inference.specs.Needs.{args_needs as needs_of_args, put as put_need};
 ghost use Rattle.pat_inference.specs.Walk.{has_twice};
-ghost use Rattle.pat_core.specs.Views.{expr_view, sort_view};
+ghost use Rattle.pat_core.specs.Views.{expr_view};
 ghost use Rattle.pat_types.specs.Views.{type_view, needs_view};
 ghost use Rattle.pat_infer_needs.specs.Types.{types_at, with_argument, twice_with};
 
 use crate::needs::{find, put};
-use pat_core::{Expr, Sort};
+use pat_core::Expr;
 use pat_sequences::Sequence;
-use pat_types::{MailboxType, Usage};
+use pat_types::MailboxType;
 use std::alloc::{AllocError, Global};
 
 /// What arguments need, and whether a mailbox variable stands twice among them.
@@ -81,39 +81,4 @@ fn add_variable(
     let copy = of.copy(alloc)?;
     all.has_twice = find(all.needs.as_slice(), variable as usize).is_some() || all.has_twice;
     put(&mut all.needs, variable, copy)
-}
-
-/// The types of payloads that are mailboxes, by their places.
-pub fn payload_types(
-    alloc: Global,
-    payloads: &[Sort],
-) -> Result<Sequence<Option<MailboxType>>, AllocError>
-    ensures { IfOk result (λ os. map (option_map type_view) os ≡ map payload_sort (map sort_view payloads.now)) }
-{
-    let mut types = Sequence::new(alloc);
-    for sort in payloads {
-        let of = payload_type(alloc, sort)?;
-        types.push(of)?;
-    }
-    Ok(types)
-}
-
-fn payload_type(alloc: Global, sort: &Sort) -> Result<Option<MailboxType>, AllocError>
-    ensures { IfOk result (λ o. option_map type_view o ≡ payload_sort (sort_view sort.now)) }
-{
-    match sort {
-        Sort::Base(_) => Ok(None),
-        Sort::Mailbox(mailbox) => match &mailbox.pattern {
-            None => Ok(None),
-            Some(pattern) => {
-                let pattern = pattern.copy(alloc)?;
-                Ok(Some(MailboxType {
-                    interface: mailbox.interface,
-                    polarity: mailbox.polarity,
-                    pattern,
-                    usage: Usage::Second,
-                }))
-            }
-        },
-    }
 }

@@ -9,7 +9,7 @@ mod kinds;
 mod looking;
 mod needs;
 
-pub use arguments::{Arguments, args_needs, payload_types, type_at};
+pub use arguments::{Arguments, args_needs, type_at};
 pub use branching::do_agree;
 pub use gathering::{gather_branches, gather_parts};
 pub use kinds::{is_receiver, is_second};

@@ -21,13 +21,13 @@ ghost use Rattle.pat_infer_terms.specs.Calls.{signed_call, directed};
 
 use crate::names::same_polarity;
 use pat_core::{Expr, Program, TagDecl};
-use pat_infer_needs::{Arguments, args_needs, find, payload_types, put};
+use pat_infer_needs::{Arguments, args_needs, find, put};
 use pat_infer_problems::{InferError, Problem, Rule, add_constraint, check_node, node_span};
 use pat_infer_signatures::Signature;
 use pat_patterns::Pattern;
 use pat_primitives::Polarity;
 use pat_sequences::Sequence;
-use pat_types::{MailboxType, TypeOf, Usage};
+use pat_types::{MailboxType, TypeOf, Usage, payload_types};
 use std::alloc::{AllocError, Global};
 
 /// An expression that is asked for a mailbox is a variable, and needs it so.
