@@ -1,0 +1,6 @@
+-- the crate's own
+mod Tells
+mod Alone
+mod Joined
+mod Changed
+mod Live

@@ -1,0 +1,34 @@
+//! Laws of how often a configuration names a mailbox. No code of the product.
+#![tactic(auto)]
+
+ghost use Rattle.pat_naming_laws.specs.Laws.{ThreadRefersIsNamed, MessageRefersIsNamed, ReachedAloneIsCounted, ExchangedThreadCounts, OverCounts, TopCounts, ExchangedTopCounts, AppendedMessageCounts, TakenMessageCounts, AppendedThreadCounts, TakenThreadCounts, StartNamesNone, NamedIsLive, NextIsNotNamed};
+
+/// How often a mailbox is named decides who refers to it, and whether one thread alone reaches it.
+pub fn test_laws()
+    ensures threads { ThreadRefersIsNamed }
+    ensures messages { MessageRefersIsNamed }
+    ensures alone { ReachedAloneIsCounted }
+{}
+
+/// What is named after one thread was exchanged, or its top.
+pub fn exchange_laws()
+    ensures threads { ExchangedThreadCounts }
+    ensures over { OverCounts }
+    ensures top { TopCounts }
+    ensures tops { ExchangedTopCounts }
+{}
+
+/// What is named once a message or a thread came or went.
+pub fn change_laws()
+    ensures appended_message { AppendedMessageCounts }
+    ensures taken_message { TakenMessageCounts }
+    ensures appended_thread { AppendedThreadCounts }
+    ensures taken_thread { TakenThreadCounts }
+{}
+
+/// A typed configuration names live mailboxes alone, and a start names none.
+pub fn live_laws()
+    ensures start { StartNamesNone }
+    ensures live { NamedIsLive }
+    ensures next { NextIsNotNamed }
+{}
