@@ -2,13 +2,13 @@
 use Rattle.std.proofs.Common.{◌≡◌, ℕ, suc, ◌<◌, true, false, cond, ◌&&◌, ◌||◌, not, nat_eq, List, [], ◌∷◌, Some, refl, sym, ap, subst, arith, ◌↔◌}
 use Rattle.std.specs.List.{list_any}
 use Rattle.std.specs.Map.{keys_of, remove_entry}
-use Rattle.std.proofs.lemmas.Bool.{eqb-true, eqb-false, eq-eqb, ne_eqb, and_from, and_parts}
+use Rattle.std.proofs.lemmas.Bool.{eqb-true, eqb-false, eq-eqb, ne_eqb, and_from, and_parts, false_from_ne_true}
 use Rattle.pat_model.specs.Configs.{Thread, Config, thread_at, thread_refers, message_refers, other_refers, is_reached_by_none_but}
 use Rattle.pat_model.specs.Orders.{AscendsFrom, IsOrdered}
 use Rattle.pat_model_laws.proofs.Lists.{not_true}
 use Rattle.pat_naming_laws.specs.Naming.{times_in_thread, times_in_threads, times_in_messages, times_in}
 use Rattle.pat_naming_laws.proofs.Tells.{Tells, tells_false, tells_nothing, tells_or, thread_tells, messages_tell}
-use Rattle.pat_naming_laws.proofs.Changed.{remove_counts}
+use Rattle.pat_naming_laws.proofs.Sums.{remove_sum}
 
 module _ (a t : ℕ) where
   -- a thread with another number
@@ -45,13 +45,21 @@ module _ (c : Config) (a t : ℕ) (s : Thread) (ordered : IsOrdered c) (there : 
       let no = and_parts (not (other_refers a t c.threads)) (not (list_any (message_refers a) c.messages)) h in
       let threads = others.none (not_true (other_refers a t c.threads) no.0) in
       let payloads = messages.none (not_true (list_any (message_refers a) c.messages) no.1) in
-      let split = remove_counts a t c.threads s there in
+      let split = remove_sum (times_in_thread a) t c.threads s there in
       omega arith
 
   reached : times_in a c ≡ times_in_thread a s → is_reached_by_none_but c a t ≡ true
   reached h =
-      let split = remove_counts a t c.threads s there in
+      let split = remove_sum (times_in_thread a) t c.threads s there in
       and_from (not (other_refers a t c.threads)) (not (list_any (message_refers a) c.messages)) (ap not (tells_false others (omega arith))) (ap not (tells_false messages (omega arith)))
 
   pub alone_counts : (is_reached_by_none_but c a t ≡ true) ↔ (times_in a c ≡ times_in_thread a s)
   alone_counts = (counted, reached)
+
+  -- as one test for the other
+  pub alone_test : is_reached_by_none_but c a t ≡ nat_eq (times_in a c) (times_in_thread a s)
+  alone_test =
+      (elim (nat_eq (times_in a c) (times_in_thread a s)) as (λ b. nat_eq (times_in a c) (times_in_thread a s) ≡ b → is_reached_by_none_but c a t ≡ b) [
+        | true ↦ λ q. reached (eqb-true (times_in a c) (times_in_thread a s) q)
+        | false ↦ λ q. false_from_ne_true (is_reached_by_none_but c a t) (λ h. eqb-false (times_in a c) (times_in_thread a s) q (counted h))
+      ]) refl

@@ -1,31 +1,15 @@
 -- How often a mailbox is named once a thread or a message was exchanged, appended or taken out.
 use Rattle.std.proofs.Common.{◌≡◌, ℕ, suc, ◌+◌, ◌<◌, true, false, cond, not, nat_eq, List, [], ◌∷◌, ◌++◌, map, filter, Some, refl, sym, ap, ◌∙◌, arith}
 use Rattle.std.specs.Prelude.{find}
-use Rattle.std.specs.Map.{lookup, set_value, remove_entry}
 use Rattle.std.proofs.lemmas.Bool.{eqb-true, eq-eqb, ne_eqb}
 use Rattle.pat_model.specs.Configs.{Thread, Message, Config, thread_at, with_thread}
 use Rattle.pat_model.specs.Orders.{AscendsFrom, IsOrdered}
 use Rattle.pat_model.specs.Steps.{message_at, without_message, without_thread}
 use Rattle.pat_model_laws.proofs.Lists.{ne_turn}
 use Rattle.pat_commits.specs.Tops.{top_of, below, over}
-use Rattle.pat_naming_laws.specs.Naming.{times_in_thread, times_in_message, times_in_threads, times_in_messages, times_in}
-use Rattle.pat_naming_laws.proofs.Joined.{threads_join, messages_join, over_counts, top_counts}
-
-pub set_counts : (a t : ℕ) (ts : List (ℕ × Thread)) (s r : Thread) → lookup (nat_eq t) ts ≡ Some s → times_in_threads a (set_value (nat_eq t) ts r) + times_in_thread a s ≡ times_in_threads a ts + times_in_thread a r
-set_counts a t [] s r h = cc
-set_counts a t (e ∷ es) s r h =
-    (elim (nat_eq t e.0) as (λ v. cond v (Some e.1) (lookup (nat_eq t) es) ≡ Some s → times_in_threads a (cond v ((e.0, r) ∷ es) (e ∷ set_value (nat_eq t) es r)) + times_in_thread a s ≡ times_in_threads a (e ∷ es) + times_in_thread a r) [
-      | true ↦ λ k. let same : e.1 ≡ s = cc in let number = ap (times_in_thread a) same in omega arith
-      | false ↦ λ k. let rest = set_counts a t es s r k in omega arith
-    ]) h
-
-pub remove_counts : (a t : ℕ) (ts : List (ℕ × Thread)) (s : Thread) → lookup (nat_eq t) ts ≡ Some s → times_in_threads a (remove_entry (nat_eq t) ts) + times_in_thread a s ≡ times_in_threads a ts
-remove_counts a t [] s h = cc
-remove_counts a t (e ∷ es) s h =
-    (elim (nat_eq t e.0) as (λ v. cond v (Some e.1) (lookup (nat_eq t) es) ≡ Some s → times_in_threads a (cond v es (e ∷ remove_entry (nat_eq t) es)) + times_in_thread a s ≡ times_in_threads a (e ∷ es)) [
-      | true ↦ λ k. let same : e.1 ≡ s = cc in let number = ap (times_in_thread a) same in omega arith
-      | false ↦ λ k. let rest = remove_counts a t es s k in omega arith
-    ]) h
+use Rattle.pat_naming_laws.specs.Naming.{times_in_thread, times_in_message, times_in_messages, times_in}
+use Rattle.pat_naming_laws.proofs.Sums.{set_sum, remove_sum, join_sums}
+use Rattle.pat_naming_laws.proofs.Joined.{messages_join, over_counts, top_counts}
 
 -- messages without number k
 abbrev others : ℕ → List Message → List Message
@@ -60,13 +44,13 @@ others_count a k n (l ∷ ls) m up h =
 
 module _ (c : Config) (a t : ℕ) where
   pub exchanged_thread : (s r : Thread) → thread_at c t ≡ Some s → times_in a (with_thread c t r) + times_in_thread a s ≡ times_in a c + times_in_thread a r
-  exchanged_thread s r h = let threads = set_counts a t c.threads s r h in omega arith
+  exchanged_thread s r h = let threads = set_sum (times_in_thread a) t c.threads s r h in omega arith
 
   pub taken_thread : (s : Thread) → thread_at c t ≡ Some s → times_in a (without_thread c t) + times_in_thread a s ≡ times_in a c
-  taken_thread s h = let threads = remove_counts a t c.threads s h in omega arith
+  taken_thread s h = let threads = remove_sum (times_in_thread a) t c.threads s h in omega arith
 
   pub appended_thread : (s : Thread) → times_in a (record c { threads = c.threads ++ (t, s) ∷ [] }) ≡ times_in a c + times_in_thread a s
-  appended_thread s = let threads = threads_join a c.threads ((t, s) ∷ []) in omega arith
+  appended_thread s = let threads = join_sums (times_in_thread a) c.threads ((t, s) ∷ []) in omega arith
 
 pub exchanged_top : (c : Config) (a t n : ℕ) (s r : Thread) → thread_at c t ≡ Some s → times_in a (with_thread c t (over r (below n s))) + times_in_thread a (top_of n s) ≡ times_in a c + times_in_thread a r
 exchanged_top c a t n s r h =

@@ -5,7 +5,7 @@ use Rattle.pat_model.specs.Values.{Value, Env}
 use Rattle.pat_model.specs.Configs.{Frame, Thread, Message}
 use Rattle.pat_model.specs.Steps.{thread_of}
 use Rattle.pat_commits.specs.Tops.{top_of, below, over}
-use Rattle.pat_naming_laws.specs.Naming.{times_in_values, times_in_env, times_in_frames, times_in_thread, times_in_threads, times_in_messages}
+use Rattle.pat_naming_laws.specs.Naming.{times_in_values, times_in_env, times_in_frames, times_in_thread, times_in_messages}
 
 pub values_join : (a : ℕ) (vs ws : List Value) → times_in_values a (vs ++ ws) ≡ times_in_values a vs + times_in_values a ws
 values_join a [] ws = omega arith
@@ -18,10 +18,6 @@ envs_join a (b ∷ env) more = let rest = envs_join a env more in omega arith
 pub frames_join : (a : ℕ) (fs gs : List Frame) → times_in_frames a (fs ++ gs) ≡ times_in_frames a fs + times_in_frames a gs
 frames_join a [] gs = omega arith
 frames_join a (f ∷ fs) gs = let rest = frames_join a fs gs in omega arith
-
-pub threads_join : (a : ℕ) (ts us : List (ℕ × Thread)) → times_in_threads a (ts ++ us) ≡ times_in_threads a ts + times_in_threads a us
-threads_join a [] us = omega arith
-threads_join a (e ∷ es) us = let rest = threads_join a es us in omega arith
 
 pub messages_join : (a : ℕ) (ms ns : List Message) → times_in_messages a (ms ++ ns) ≡ times_in_messages a ms + times_in_messages a ns
 messages_join a [] ns = omega arith

@@ -1,6 +1,9 @@
 -- the crate's own
 mod Tells
-mod Alone
+mod Sums
 mod Joined
 mod Changed
+mod Alone
 mod Live
+mod Once
+mod Parts

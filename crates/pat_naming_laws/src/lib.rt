@@ -1,13 +1,21 @@
 //! Laws of how often a configuration names a mailbox. No code of the product.
 #![tactic(auto)]
 
-ghost use Rattle.pat_naming_laws.specs.Laws.{ThreadRefersIsNamed, MessageRefersIsNamed, ReachedAloneIsCounted, ExchangedThreadCounts, OverCounts, TopCounts, ExchangedTopCounts, AppendedMessageCounts, TakenMessageCounts, AppendedThreadCounts, TakenThreadCounts, StartNamesNone, NamedIsLive, NextIsNotNamed};
+ghost use Rattle.pat_naming_laws.specs.Laws.{ThreadRefersIsNamed, MessageRefersIsNamed, ReachedAloneIsCounted, ReachedAloneTest, ExchangedThreadCounts, JoinedValuesCount, JoinedEnvsCount, JoinedFramesCount, OverCounts, TopCounts, ExchangedTopCounts, AppendedMessageCounts, TakenMessageCounts, AppendedThreadCounts, TakenThreadCounts, StartNamesNone, NamedIsLive, NextIsNotNamed, TypedNamesOnce, RunAddsParts, ReplayHasParts, MachineNamesFew};
 
 /// How often a mailbox is named decides who refers to it, and whether one thread alone reaches it.
 pub fn test_laws()
     ensures threads { ThreadRefersIsNamed }
     ensures messages { MessageRefersIsNamed }
     ensures alone { ReachedAloneIsCounted }
+    ensures test { ReachedAloneTest }
+{}
+
+/// Of what is joined, both parts are named.
+pub fn join_laws()
+    ensures values { JoinedValuesCount }
+    ensures environments { JoinedEnvsCount }
+    ensures frames { JoinedFramesCount }
 {}
 
 /// What is named after one thread was exchanged, or its top.
@@ -31,4 +39,12 @@ pub fn live_laws()
     ensures start { StartNamesNone }
     ensures live { NamedIsLive }
     ensures next { NextIsNotNamed }
+{}
+
+/// A typed configuration names a mailbox at most once for each part that keeps values, and a machine's budget bounds these.
+pub fn few_laws()
+    ensures once { TypedNamesOnce }
+    ensures runs { RunAddsParts }
+    ensures replays { ReplayHasParts }
+    ensures machine { MachineNamesFew }
 {}
