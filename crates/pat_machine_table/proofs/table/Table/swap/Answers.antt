@@ -1,0 +1,26 @@
+use Rattle.std.proofs.Common.{sym, ◌∙◌}
+use Rattle.pat_machine_table.proofs.Slots.{there, has_slot, stood, set_there, counted_set}
+use Rattle.pat_machine_table.proofs.table.Table.swap.Goals as goal
+
+pub replace_at-requires : goal.replace_at-requires
+replace_at-requires c = has_slot c.self.inside.slots.items c.args.self.now c.args.thread c.self.view_is c.requires
+
+pub unreachable-requires : goal.unreachable-requires
+unreachable-requires c =
+    let own = there c.self.inside.slots.items c.args.self.now c.args.thread c.self.view_is c.requires in
+    let none = sym c.in-None.is ∙ c.replace_at.ensures.before ∙ own.1 in
+    cc
+
+pub invariant_of-self : goal.invariant_of-self
+invariant_of-self c =
+    counted_set c.self.inside.slots.items c.args.self.now c.args.thread c.self.view_is c.in-Some.kept (sym c.replace_at.ensures.before ∙ c.in-Some.is)
+    c.args.state c.replace_at.new.slots.items c.replace_at.ensures.after c.self.inside.present c.self.invariant
+
+pub returns-clause-before : goal.returns-clause-before
+returns-clause-before c =
+    stood c.self.inside.slots.items c.args.self.now c.args.thread c.self.view_is c.in-Some.kept (sym c.replace_at.ensures.before ∙ c.in-Some.is)
+
+pub returns-clause-after : goal.returns-clause-after
+returns-clause-after c =
+    set_there c.self.inside.slots.items c.args.self.now c.args.thread c.self.view_is c.in-Some.kept (sym c.replace_at.ensures.before ∙ c.in-Some.is)
+    c.args.state c.replace_at.new.slots.items c.replace_at.ensures.after
