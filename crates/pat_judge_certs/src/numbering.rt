@@ -1,8 +1,7 @@
 // Variables of a pattern, numbered from 0, and their values.
-ghost use Rattle.std.specs.Prelude.{◌≡◌, ◌∷◌, ◌≤◌, length, IfOk, OnOk};
-ghost use Rattle.pat_words.specs.Patterns.{Sum, Prod, Star};
+ghost use Rattle.std.specs.Prelude.{◌≡◌, ◌∷◌, IfOk, OnOk};
 ghost use Rattle.pat_inclusions.specs.Values.{var_at};
-ghost use Rattle.pat_patterns.specs.Views.{pattern_view, patterns_view, joined, joined_one};
+ghost use Rattle.pat_patterns.specs.Views.{pattern_view, patterns_view};
 ghost use Rattle.pat_certs_grids.specs.Views.{values_view, value_view, right_view};
 ghost use Rattle.pat_derivations.specs.Views.{value_view as own_value_view, vars_view};
 ghost use Rattle.pat_judge_certs.specs.Numbering.{with_name, with_names, place_of as place_in, renumbered as renumbered_of, right_in, or_none, values_of as values_in};
@@ -12,7 +11,7 @@ use pat_certs_grids::{Right, VarValue};
 use pat_derivations as derivations;
 use pat_environments::holds;
 use pat_judge_values::var_of;
-use pat_patterns::{Pattern, take_one, take_two};
+use pat_patterns::{Pattern, join_product, join_star, join_sum, take_one};
 use pat_sequences::{Sequence, Stack};
 use std::alloc::{AllocError, Global};
 
@@ -98,36 +97,6 @@ fn renumber_onto(
             join_star(alloc, done)
         }
     }
-}
-
-#[inline(never)]
-fn join_sum(alloc: Global, done: &mut Stack<Pattern>) -> Result<(), AllocError>
-    requires { 2 ≤ length (patterns_view done.old) }
-    ensures { OnOk result (patterns_view done.new ≡ joined Sum (patterns_view done.old)) }
-{
-    let (left, right) = take_two(done);
-    let node = Pattern::Sum(Box::new(alloc, left)?, Box::new(alloc, right)?);
-    done.push(node)
-}
-
-#[inline(never)]
-fn join_product(alloc: Global, done: &mut Stack<Pattern>) -> Result<(), AllocError>
-    requires { 2 ≤ length (patterns_view done.old) }
-    ensures { OnOk result (patterns_view done.new ≡ joined Prod (patterns_view done.old)) }
-{
-    let (left, right) = take_two(done);
-    let node = Pattern::Prod(Box::new(alloc, left)?, Box::new(alloc, right)?);
-    done.push(node)
-}
-
-#[inline(never)]
-fn join_star(alloc: Global, done: &mut Stack<Pattern>) -> Result<(), AllocError>
-    requires { 1 ≤ length (patterns_view done.old) }
-    ensures { OnOk result (patterns_view done.new ≡ joined_one Star (patterns_view done.old)) }
-{
-    let part = take_one(done);
-    let node = Pattern::Star(Box::new(alloc, part)?);
-    done.push(node)
 }
 
 /// The pattern as a right side.

@@ -2,14 +2,13 @@
 //
 // These calls go as deep as the pattern, the left side of a constraint. Inference makes none deeper than statements, brackets and
 // operators nest in a text, which is some 17,000 levels.
-ghost use Rattle.std.specs.Prelude.{◌≡◌, ◌∷◌, ◌≤◌, length, IfOk, OnOk};
-ghost use Rattle.pat_words.specs.Patterns.{Sum, Prod, Star};
-ghost use Rattle.pat_patterns.specs.Views.{pattern_view, patterns_view, joined, joined_one};
+ghost use Rattle.std.specs.Prelude.{◌≡◌, ◌∷◌, IfOk, OnOk};
+ghost use Rattle.pat_patterns.specs.Views.{pattern_view, patterns_view};
 ghost use Rattle.pat_solve_replacing.specs.Ascending.{IsAscending};
 ghost use Rattle.pat_solve_renaming.specs.Renaming.{place_in, renamed as renamed_by};
 
 use crate::places::place_of;
-use pat_patterns::{Pattern, take_one, take_two};
+use pat_patterns::{Pattern, join_product, join_star, join_sum, take_one};
 use pat_sequences::Stack;
 use std::alloc::{AllocError, Global};
 
@@ -56,34 +55,4 @@ fn rename_onto(
             join_star(alloc, done)
         }
     }
-}
-
-#[inline(never)]
-fn join_sum(alloc: Global, done: &mut Stack<Pattern>) -> Result<(), AllocError>
-    requires { 2 ≤ length (patterns_view done.old) }
-    ensures { OnOk result (patterns_view done.new ≡ joined Sum (patterns_view done.old)) }
-{
-    let (left, right) = take_two(done);
-    let node = Pattern::Sum(Box::new(alloc, left)?, Box::new(alloc, right)?);
-    done.push(node)
-}
-
-#[inline(never)]
-fn join_product(alloc: Global, done: &mut Stack<Pattern>) -> Result<(), AllocError>
-    requires { 2 ≤ length (patterns_view done.old) }
-    ensures { OnOk result (patterns_view done.new ≡ joined Prod (patterns_view done.old)) }
-{
-    let (left, right) = take_two(done);
-    let node = Pattern::Prod(Box::new(alloc, left)?, Box::new(alloc, right)?);
-    done.push(node)
-}
-
-#[inline(never)]
-fn join_star(alloc: Global, done: &mut Stack<Pattern>) -> Result<(), AllocError>
-    requires { 1 ≤ length (patterns_view done.old) }
-    ensures { OnOk result (patterns_view done.new ≡ joined_one Star (patterns_view done.old)) }
-{
-    let part = take_one(done);
-    let node = Pattern::Star(Box::new(alloc, part)?);
-    done.push(node)
 }
