@@ -1,7 +1,6 @@
 // What terms ask of variables.
 ghost use Rattle.std.specs.Prelude.{◌≡◌, ◌++◌, [], map, option_map, IfOk, OnOk};
 ghost use Rattle.pat_patterns.specs.Views.{pattern_view};
-ghost use Rattle.pat_typing.specs.Typings.{payload_sort};
 ghost use Rattle.pat_core.specs.Views.{expr_view, sort_view, tag_view, clause_view};
 ghost use Rattle.pat_types.specs.Views.{type_view, result_view, needs_view};
 ghost use Rattle.pat_demands.specs.Listed.{asked_args, asked_arg, asked_value, named_payloads, clause_entries, param_entries, entry_before};
@@ -13,7 +12,7 @@ use pat_patterns::Pattern;
 use pat_primitives::Polarity;
 use pat_residuals::residual;
 use pat_sequences::Sequence;
-use pat_types::{MailboxType, TypeOf, Usage};
+use pat_types::{MailboxType, TypeOf, Usage, payload_type};
 use std::alloc::{AllocError, Global};
 
 /// A copy of the type, if there is one.
@@ -98,42 +97,6 @@ pub fn value_asked(
         }
         _ => Ok(asked),
     }
-}
-
-/// The type of a payload, if it is a mailbox: second-class.
-pub fn payload_type(alloc: Global, sort: &Sort) -> Result<Option<MailboxType>, AllocError>
-    ensures { IfOk result (λ o. option_map type_view o ≡ payload_sort (sort_view sort.now)) }
-{
-    match sort {
-        Sort::Base(_) => Ok(None),
-        Sort::Mailbox(mailbox) => match &mailbox.pattern {
-            None => Ok(None),
-            Some(pattern) => {
-                let pattern = pattern.copy(alloc)?;
-                Ok(Some(MailboxType {
-                    interface: mailbox.interface,
-                    polarity: mailbox.polarity,
-                    pattern,
-                    usage: Usage::Second,
-                }))
-            }
-        },
-    }
-}
-
-/// The types of payloads.
-pub fn payload_types(
-    alloc: Global,
-    sorts: &[Sort],
-) -> Result<Sequence<Option<MailboxType>>, AllocError>
-    ensures { IfOk result (λ types. map (option_map type_view) types ≡ map payload_sort (map sort_view sorts.now)) }
-{
-    let mut types = Sequence::new(alloc);
-    for sort in sorts {
-        let of = payload_type(alloc, sort)?;
-        types.push(of)?;
-    }
-    Ok(types)
 }
 
 /// The names with the types of payloads.

@@ -6,9 +6,7 @@ mod demand;
 mod looking;
 mod passing;
 
-pub use asking::{
-    clause_given, params_given, payload_type, payload_types, push_arguments, value_asked,
-};
+pub use asking::{clause_given, params_given, push_arguments, value_asked};
 pub use demand::{Demand, Signature};
 pub use looking::{kind_of, line_of, signature_of, tag_of};
 pub use passing::{

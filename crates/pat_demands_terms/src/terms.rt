@@ -16,15 +16,15 @@ ghost use Rattle.pat_demands.specs.Listed.{listed_name, listed_named, listed_cal
 use pat_core::{Clause, Expr, Kind, Program, TagDecl};
 use pat_demands::{
     Demand, Signature, clause_given, divide_names, drop_all, kind_of, line_of, names_but,
-    params_given, part_there, pass_asked, pass_names, pass_result, pass_to_part, payload_types,
-    push_arguments, signature_of, tag_of, value_asked,
+    params_given, part_there, pass_asked, pass_names, pass_result, pass_to_part, push_arguments,
+    signature_of, tag_of, value_asked,
 };
 use pat_derivations::{Derivation, DerivedNode};
 use pat_environments::{but_not, copy_of, names_of, then_others, without};
 use pat_patterns::Pattern;
 use pat_primitives::Polarity;
 use pat_sequences::Sequence;
-use pat_types::{MailboxType, TypeOf, Usage};
+use pat_types::{MailboxType, TypeOf, Usage, payload_types};
 use std::alloc::{AllocError, Global};
 
 /// A call of a function, if it is there.

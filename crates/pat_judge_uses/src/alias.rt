@@ -15,11 +15,11 @@ ghost use Rattle.pat_demands_terms.specs.Opened.{opened_from};
 ghost use Rattle.pat_judge_uses.specs.Arguments.{call_differs, send_differs};
 
 use pat_core::{Core, Expr, Function, Kind, Node, Program, TagDecl};
-use pat_demands::{Signature, kind_of, payload_types, push_arguments, signature_of, tag_of};
+use pat_demands::{Signature, kind_of, push_arguments, signature_of, tag_of};
 use pat_derivations::{Derivation, DerivedNode};
 use pat_environments::{holds, names_of};
 use pat_sequences::Sequence;
-use pat_types::MailboxType;
+use pat_types::{MailboxType, payload_types};
 use std::alloc::{AllocError, Global};
 
 /// Whether the mailbox variables of a call are different, and so those of a send with its target. The signatures are those of

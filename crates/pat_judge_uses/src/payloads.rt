@@ -15,7 +15,7 @@ use pat_core::{Clause, Core, Function, Kind, Node, Program, Sort, TagDecl};
 use pat_demands::{kind_of, line_of};
 use pat_derivations::{Derivation, DerivedNode};
 use pat_environments::holds;
-use pat_types::MailboxType;
+use pat_types::{MailboxType, is_mailbox};
 
 /// Whether each clause of a guard that receives a mailbox as a payload has a body that names the clause's own names alone.
 pub fn payloads_stand_apart(
@@ -90,15 +90,6 @@ fn some_is_mailbox(sorts: &[Sort]) -> bool
         }
     }
     false
-}
-
-fn is_mailbox(sort: &Sort) -> bool
-    ensures { result ≡ is_some (payload_sort (sort_view sort.now)) }
-{
-    match sort {
-        Sort::Base(_) => false,
-        Sort::Mailbox(mailbox) => mailbox.pattern.is_some(),
-    }
 }
 
 fn names_only(clause: &Clause, line: Option<&DerivedNode>) -> bool
