@@ -5,7 +5,6 @@ ghost use Rattle.pat_primitives.specs.Views.{base_view, polarity_view};
 ghost use Rattle.pat_types.specs.Views.{usage_view, type_view, result_view, need_view, needs_view};
 ghost use Rattle.pat_derivation_text.specs.LineReading as reading;
 ghost use Rattle.pat_derivation_text.specs.Joined.{pieces, read_each, then_read};
-ghost use Rattle.pat_validity.specs.Derivations.{ascends_from};
 ghost use Rattle.pat_deriv_patterns.specs.Answers.{Gives};
 ghost use Rattle.pat_deriv_patterns.specs.Views.{names_of};
 ghost use Rattle.pat_deriv_lines.specs.Views.{mailbox_view, cut_view, used_view, found_view, pieces_left};
@@ -14,6 +13,7 @@ use crate::certificates::number_of;
 use crate::cutting::{before, behind, cut, first_piece};
 use pat_core::{Interface, Program};
 use pat_deriv_patterns::{Unread, read_pattern};
+use pat_environments::ascends;
 use pat_patterns::Pattern;
 use pat_primitives::{Base, Polarity};
 use pat_sequences::Sequence;
@@ -221,20 +221,6 @@ fn read_others(
         rest = others;
     }
     Ok(needs)
-}
-
-/// Whether the variables ascend.
-fn ascends(needs: &[(u32, MailboxType)]) -> bool
-    ensures { result ≡ ascends_from 0 (needs_view needs.now) }
-{
-    let mut least: u64 = 0;
-    for (variable, _) in needs {
-        if (*variable as u64) < least {
-            return false;
-        }
-        least = *variable as u64 + 1;
-    }
-    true
 }
 
 /// The types of variables, with a comma and a space between, in ascending order of variable.

@@ -2,6 +2,7 @@
 ghost use Rattle.std.specs.Prelude.{◌≡◌, ◌++◌, option_map, option_copied, IfOk, OnOk};
 ghost use Rattle.std.specs.Map.{keys_of};
 ghost use Rattle.pat_open_types.specs.NodeTypes.{need_of};
+ghost use Rattle.pat_validity.specs.Derivations.{ascends_from};
 ghost use Rattle.pat_types.specs.Views.{type_view, needs_view};
 ghost use Rattle.pat_environments.specs.Lists.{without_entry, returnable_entries};
 
@@ -33,6 +34,20 @@ pub fn copy_of(
         None => Ok(None),
         Some(of) => Ok(Some(of.copy(alloc)?)),
     }
+}
+
+/// Whether the variables are in ascending order.
+pub fn ascends(env: &[(u32, MailboxType)]) -> bool
+    ensures { result ≡ ascends_from 0 (needs_view env.now) }
+{
+    let mut least: u64 = 0;
+    for (variable, _) in env {
+        if least > *variable as u64 {
+            return false;
+        }
+        least = *variable as u64 + 1;
+    }
+    true
 }
 
 /// The variables that are named, in order.

@@ -5,6 +5,6 @@ mod entries;
 mod lookups;
 mod names;
 
-pub use entries::{copy_of, find, made_returnable, names_of, push_without, without};
+pub use entries::{ascends, copy_of, find, made_returnable, names_of, push_without, without};
 pub use lookups::LookUps;
 pub use names::{but_not, holds, others, then_others};

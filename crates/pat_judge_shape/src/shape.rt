@@ -6,7 +6,7 @@ ghost use Rattle.pat_typing.specs.Types.{kind_of_type};
 ghost use Rattle.pat_inclusions.specs.Values.{is_formed as is_formed_of};
 ghost use Rattle.pat_judge_shape.specs.Words.{agrees_with};
 ghost use Rattle.pat_validity.specs.Same.{is_same_kind, is_mailbox_of};
-ghost use Rattle.pat_validity.specs.Derivations.{line_at, ascends_from, scope_of};
+ghost use Rattle.pat_validity.specs.Derivations.{line_at, scope_of};
 ghost use Rattle.pat_validity.specs.Scopes.{is_in_scope};
 ghost use Rattle.pat_validity.specs.Truth.{place};
 ghost use Rattle.pat_validity.specs.Rules.{type_is_formed as type_is_formed_of, gives as gives_of, gives_too as gives_too_of, tails_agree as tails_agree_of, first_agrees as first_agrees_of, is_named_well, has_values, has_shape as has_shape_of};
@@ -20,6 +20,7 @@ use crate::starting::both;
 use pat_core::{Clause, Core, Function, Kind, Node, Program};
 use pat_demands::{Signature, kind_of, line_of, signature_of};
 use pat_derivations::{Derivation, DerivedNode};
+use pat_environments::ascends;
 use pat_judge_types::{same_base, same_kind, same_type};
 use pat_judge_values::is_formed;
 use pat_primitives::Base;
@@ -43,20 +44,6 @@ fn has_kind(of: &TypeOf, kind: Kind) -> bool
             pattern: _,
         } => same_kind(Kind::Mailbox(*interface), kind),
     }
-}
-
-/// Whether the variables are in ascending order.
-fn ascends(env: &[(u32, MailboxType)]) -> bool
-    ensures { result ≡ ascends_from 0 (needs_view env.now) }
-{
-    let mut least: u64 = 0;
-    for (variable, _) in env {
-        if least > *variable as u64 {
-            return false;
-        }
-        least = *variable as u64 + 1;
-    }
-    true
 }
 
 /// Whether the variable is there, and names a mailbox of the interface.
