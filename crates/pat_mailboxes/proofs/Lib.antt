@@ -1,3 +1,4 @@
 mod Messages
 mod Keeping
 mod Seeing
+mod Firsts

@@ -1,7 +1,9 @@
 -- Live mailboxes with their pending messages.
-use Rattle.std.specs.Prelude.{◌≡◌, ℕ, ◌+◌, ◌/◌, ◌%◌, ◌^◌, ◌<◌, ◌==◌, ◌&&◌, nat_lt, Bool, List, [], ◌∷◌, length, Option, Some, None, slice_get}
+use Rattle.std.specs.Prelude.{◌≡◌, ℕ, ◌+◌, ◌/◌, ◌%◌, ◌^◌, ◌<◌, ◌==◌, ◌&&◌, ◌||◌, nat_lt, Bool, false, List, [], ◌∷◌, length, Option, Some, None, slice_get}
 use Rattle.std.specs.Option.{unwrap_or}
-use Rattle.std.specs.List.{AllByRecursion}
+use Rattle.std.specs.List.{AllByRecursion, list_any}
+use Rattle.pat_model.specs.Configs.{message_refers}
+use Rattle.pat_reduce_threads.specs.ThreadViews.{message_view}
 use Rattle.pat_reduce_threads.specs.declared.state.Message.{Message}
 
 -- the messages that are pending in a mailbox, and how often threads and messages name it
@@ -59,3 +61,12 @@ AreInOrder ms = (b : ℕ) → IsInOrder b (pending_at ms b)
 -- whether a message's tag is among those received, where tag t is bit t
 abbrev pub is_received : ℕ → Message → Bool
 is_received received m = nat_lt m.tag 32 && ((received / 2 ^ m.tag) % 2 == 1)
+
+-- whether a message has the mailbox among its values
+abbrev pub refers_to : ℕ → Message → Bool
+refers_to a m = message_refers a (message_view m)
+
+-- whether a pending message passes a test
+abbrev pub some_pending : (Message → Bool) → List (Option Mailbox) → Bool
+some_pending test [] = false
+some_pending test (o ∷ ms) = list_any test (pending_in o) || some_pending test ms

@@ -2,9 +2,11 @@
 #![tactic(auto)]
 
 mod mailboxes;
+mod references;
 mod store;
 mod tags;
 
 pub use mailboxes::Mailboxes;
+pub use references::Refers;
 pub use store::{Entry, Store};
 pub use tags::Tags;

@@ -2,10 +2,12 @@
 ghost use Rattle.std.specs.Prelude.{◌≡◌, ℕ, ◌+◌, ◌-◌, ◌<◌, ◌≤◌, max, [], ◌∷◌, ◌++◌, length, Some, None, IfOk, OnOk, OnErr, slice_get, slice_set, remove, is_some};
 ghost use Rattle.std.specs.List.{AllByRecursion};
 ghost use Rattle.pat_pool.specs.Queues.{IsFirst};
-ghost use Rattle.pat_mailboxes.specs.Mailboxes.{AreInOrder, IsLive, Mailbox, all_pending, is_received, mailbox_at, named_at, pending_at};
+ghost use Rattle.pat_mailboxes.specs.Mailboxes.{AreInOrder, IsLive, Mailbox, all_pending, is_received, mailbox_at, named_at, pending_at, refers_to, some_pending};
 
 use crate::Tags;
+use crate::references::{Refers, has_passing};
 use crate::store::{Entry, Store, entry_of};
+use pat_pool::Test;
 use pat_reduce_threads::Message;
 use std::alloc::{AllocError, Global};
 use std::marker::Model;
@@ -68,6 +70,25 @@ impl Mailboxes {
         Ok(())
     }
 
+    /// Makes room for one more pending message at least. An error changes nothing.
+    pub fn make_room(&mut self) -> Result<(), AllocError>
+        ensures same { (self.new.mailboxes ≡ self.old.mailboxes) × (self.new.spare ≡ self.old.spare) }
+        ensures ok { OnOk result (all_pending self.new.mailboxes < self.new.room) }
+        ensures err { OnErr result (self.new.room ≡ self.old.room) }
+    {
+        if self.store.pool.spare() > 0 {
+            return Ok(());
+        }
+        // Twice the room, so that messages move seldom.
+        let more = self.room.max(16);
+        if self.room > 4294967295 - more {
+            return Err(AllocError);
+        }
+        self.store.pool.reserve(more)?;
+        self.room += more;
+        Ok(())
+    }
+
     /// A further mailbox, whose number is the next one. It takes no memory.
     pub fn create(&mut self, mailbox: u32)
         requires room { 0 < self.old.spare }
@@ -105,10 +126,30 @@ impl Mailboxes {
         ensures first { IsFirst (is_received received) (pending_at self.now.mailboxes mailbox) result }
         ensures order { AreInOrder self.now.mailboxes }
     {
+        self.position(mailbox, &Tags { bits: received })
+    }
+
+    /// The place of the message of the least number that passes a test. It takes no memory.
+    pub fn position<P: Test<Message>>(&self, mailbox: u32, test: &P) -> Option<u32>
+        requires { IsLive self.now.mailboxes mailbox }
+        ensures first { IsFirst (P.passes test.now) (pending_at self.now.mailboxes mailbox) result }
+        ensures order { AreInOrder self.now.mailboxes }
+    {
         let entry = entry_of(self.store.entries.as_slice(), mailbox);
-        self.store
-            .pool
-            .position(entry.queue, &Tags { bits: received })
+        self.store.pool.position(entry.queue, test)
+    }
+
+    /// Whether a pending message has the mailbox among its values. It takes no memory.
+    pub fn refers(&self, mailbox: u32) -> bool
+        ensures { result ≡ some_pending (refers_to mailbox) self.now.mailboxes }
+    {
+        let test = Refers { mailbox };
+        for entry in self.store.entries.as_slice() {
+            if has_passing(&self.store.pool, entry, &test) {
+                return true;
+            }
+        }
+        false
     }
 
     /// Takes out the message at a place of those that are pending in a mailbox. It takes no memory.

@@ -90,8 +90,8 @@ impl Config {
     }
 }
 
-// The act of a thread that stands at no guard, where it is enabled.
-fn plain_act(code: &Executable, state: &ThreadState) -> Option<Act>
+/// The act of a thread that stands at no guard, where it is enabled.
+pub fn plain_act(code: &Executable, state: &ThreadState) -> Option<Act>
     ensures { option_map act_view result ≡ plain_act (program_view code.now.program) (redex (program_view code.now.program) (control_view state.now.control)) (map frame_view state.now.frames) }
 {
     let is_last = state.frames.is_empty();

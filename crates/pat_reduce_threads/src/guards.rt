@@ -93,7 +93,8 @@ fn takes_number(guard: &GuardRef<'_>, messages: &[Message], number: u32) -> bool
     }
 }
 
-fn takes(guard: &GuardRef<'_>, message: &Message) -> bool
+/// Whether the guard takes the message.
+pub fn takes(guard: &GuardRef<'_>, message: &Message) -> bool
     ensures { result ≡ takes (guard_view guard.now) (message_view message.now) }
 {
     match clause_for(guard.receives, message.tag) {
@@ -150,7 +151,8 @@ pub fn after_receive(
     }
 }
 
-fn go_on_with(
+/// The control that goes on with this message.
+pub fn go_on_with(
     alloc: Global,
     code: &Executable,
     guard: &GuardRef<'_>,

@@ -8,7 +8,7 @@ mod sending;
 mod state;
 mod threads;
 
-pub use guards::{GuardRef, after_receive, first_message, guard_of};
+pub use guards::{GuardRef, after_receive, first_message, go_on_with, guard_of, takes};
 pub use nodes::{core_of, function_of, node_with};
 pub use references::{message_refers, thread_refers};
 pub use sending::{makes_mailbox, next_message, next_thread};
