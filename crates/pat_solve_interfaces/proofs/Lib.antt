@@ -2,3 +2,4 @@ mod Rounding
 mod Steps
 mod Tagged
 mod Meaning
+mod Reflexive

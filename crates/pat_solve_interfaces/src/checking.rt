@@ -15,8 +15,10 @@ ghost use Rattle.pat_solve_interfaces.specs.Forms.{side_sets, values_by, IsAssig
 ghost use Rattle.pat_solve_interfaces.specs.Findings.{Follows, Finds};
 
 use crate::forms::{Assignment, SideForm, left_form, right_form, value_forms};
+use crate::same::sides_are_same;
 use pat_infer_problems::Constraint;
 use pat_linear::LinearSet;
+use pat_patterns::Pattern;
 use pat_solve_covers::is_covered;
 use pat_solve_sizes::Measured;
 use std::alloc::{AllocError, Global};
@@ -111,11 +113,36 @@ fn find_one(
     if let Finding::TooLarge = before {
         return Ok(Finding::TooLarge);
     }
-    let left = left_form(alloc, &constraint.left, by)?;
     let right = right_form(alloc, &constraint.right, by)?;
-    match (left, right) {
-        (Some(left), Some(right)) => find_covering(alloc, before, number, left, right),
-        _ => Ok(Finding::TooLarge),
+    match right {
+        Some(form) => {
+            let same = sides_are_same(alloc, &constraint.left, &constraint.right, by)?;
+            if same {
+                return Ok(before);
+            }
+            find_against(alloc, before, number, &constraint.left, form, by)
+        }
+        None => Ok(Finding::TooLarge),
+    }
+}
+
+/// The same by the left side and the closed form of the right one.
+fn find_against(
+    alloc: Global,
+    before: Finding,
+    number: usize,
+    left: &Pattern,
+    right: SideForm,
+    by: &Assignment,
+) -> Result<Finding, AllocError>
+    requires by { IsAssignment by.now }
+    requires left { IsTrue (tags_below most_tags (subst_of (values_by by.now) (pattern_view left.now))) }
+    requires right { length (side_sets right) < 2 ^ 32 }
+    ensures { (f : Pat) → Some (side_sets right.entry) ≡ closed_form most_tags f → IfOk result (Follows number (subst_of (values_by by.now) (pattern_view left.now)) f before) }
+{
+    match left_form(alloc, left, by)? {
+        Some(form) => find_covering(alloc, before, number, form, right),
+        None => Ok(Finding::TooLarge),
     }
 }
 

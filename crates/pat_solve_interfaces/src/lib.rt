@@ -5,6 +5,7 @@
 mod checking;
 mod forms;
 mod lowers;
+mod same;
 mod values;
 
 pub use values::{ClosedValues, interface_values};
