@@ -10,7 +10,9 @@ pub mod Endings
 pub mod Idle
 pub mod Rooms
 pub mod LookUps
+pub mod Tops
+pub mod Belows
+pub mod Exchanges
 -- the crate's own
 mod Moves
 mod Refused
-mod Tops

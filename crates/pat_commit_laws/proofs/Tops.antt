@@ -1,5 +1,5 @@
 -- Local steps of a thread with further frames below its own: each looks at the frame on top alone.
-use Rattle.std.proofs.Common.{◌≡◌, ℕ, zero, suc, ◌+◌, ◌<◌, ◌≤◌, List, [], ◌∷◌, ◌++◌, length, Option, Some, None, refl, sym, ap, ◌∙◌, subst, arith, ⊎_elim}
+use Rattle.std.proofs.Common.{◌≡◌, ℕ, zero, suc, ◌+◌, ◌<◌, ◌≤◌, List, [], ◌∷◌, ◌++◌, length, Option, Some, None, refl, sym, ap, ◌∙◌, subst, arith, ◌⊎◌, inl, inr, ⊎_elim}
 use Rattle.std.specs.Prelude.{option_map, option_and_then}
 use Rattle.std.proofs.lemmas.Bool.{cases_lt}
 use Rattle.std.proofs.lemmas.List.{take-append-drop, take_all, drop_all, length-take-le, append-nil}
@@ -44,7 +44,7 @@ module _ (p : Program) (rest : List Frame) where
   at_some r (f ∷ fs) some = at_top r f fs
 
   -- where there is a frame, those below it don't matter
-  step_over : (s : Thread) → 0 < length s.frames → local_step p (over s rest) ≡ option_map lower (local_step p s)
+  pub step_over : (s : Thread) → 0 < length s.frames → local_step p (over s rest) ≡ option_map lower (local_step p s)
   step_over s some = at_some (redex p s.control) s.frames some
 
 -- a local step takes at most one frame off
@@ -115,4 +115,15 @@ top_runs p a s k r h =
     let enough = length-take-le a s.frames many in
     subst (λ x. IsLocalRun p a x k (over r (below a s))) (ap (thread_of s.control) (take-append-drop a s.frames))
     (run_over p (below a s) a (top_of a s) k r (omega arith) h))
+    (cases_lt (length s.frames) a)
+
+-- with steps of the allowance left, a frame is left of the top, or it was all
+pub top_keeps_frame : (p : Program) (a : ℕ) (s : Thread) (k : ℕ) (r : Thread) → IsLocalRun p a (top_of a s) k r → k < a → (0 < length r.frames) ⊎ (below a s ≡ [])
+top_keeps_frame p a s k r h less =
+    ⊎_elim
+    (λ (few : length s.frames < a). inr (drop_all a s.frames (omega arith)))
+    (λ many.
+    let all = length-take-le a s.frames many in
+    let q = (locally_over p [] k (top_of a s) r (omega arith) h.taken).1 in
+    inl (omega arith))
     (cases_lt (length s.frames) a)

@@ -1,15 +1,15 @@
 -- Laws of open steps, of turns, of commits, of what a machine keeps, and of histories that are refused.
-use Rattle.std.specs.Prelude.{◌≡◌, ℕ, ◌+◌, ◌-◌, ◌<◌, ◌≤◌, List, [], length, Option, Some, None, slice_set, IsTrue, ◌↔◌}
+use Rattle.std.specs.Prelude.{◌≡◌, ℕ, ◌+◌, ◌-◌, ◌<◌, ◌≤◌, List, [], length, Option, Some, None, slice_set, IsTrue, ◌↔◌, ◌⊎◌}
 use Rattle.pat_model.specs.Programs.{Program}
 use Rattle.pat_model.specs.WellFormed.{WellFormed}
-use Rattle.pat_model.specs.Configs.{Thread, Config, start}
+use Rattle.pat_model.specs.Configs.{Frame, Thread, Config, start, thread_at, with_thread}
 use Rattle.pat_model.specs.Orders.{IsOrdered}
 use Rattle.pat_model.specs.Steps.{Act}
 use Rattle.pat_model.specs.Runs.{Entry, IsSharedOrNone, run_from, entry_steps, replay_from}
 use Rattle.pat_typing.specs.Typings.{IsTypable}
 use Rattle.pat_commits.specs.Opens.{IsOpen, IsStill, can_go_on}
-use Rattle.pat_commits.specs.Commits.{IsLocalRun, IsCommit, noted}
-use Rattle.pat_commits.specs.Tops.{top_of, below, over}
+use Rattle.pat_commits.specs.Commits.{IsLocalRun, Shares, IsCommit, noted}
+use Rattle.pat_commits.specs.Tops.{top_of, below, over, with_below}
 use Rattle.pat_commits.specs.Lendings.{Out, all_in, allowance_of, allowances, committed_out}
 use Rattle.pat_commits.specs.Turns.{IsReady, IsTurn, turn}
 use Rattle.pat_commits.specs.Refusals.{IsRefusedAt}
@@ -43,6 +43,17 @@ IdleCommitIsStill =
 -- a job may run on the top of its thread, with a frame for each step of its allowance: what lies below stays below
 abbrev pub TopRuns : Type 0
 TopRuns = (p : Program) (allowance : ℕ) (s : Thread) (k : ℕ) (r : Thread) → IsLocalRun p allowance (top_of allowance s) k r → IsLocalRun p allowance s k (over r (below allowance s))
+
+-- where a thread has a frame, or nothing is put below it, its shared step is the same whatever lies below
+abbrev pub SharesOnTop : Type 0
+SharesOnTop =
+    (p : Program) (limit : ℕ) (c d : Config) (t : ℕ) (s : Thread) (rest : List Frame) (a : Option Act) → thread_at c t ≡ Some s → (0 < length s.frames) ⊎ (rest ≡ []) → Shares p limit c t a d
+    → Shares p limit (with_thread c t (over s rest)) t a (with_below d t rest)
+
+-- where steps are left of the allowance, the run on the top leaves a frame, or nothing was below
+abbrev pub TopKeepsFrame : Type 0
+TopKeepsFrame =
+    (p : Program) (allowance : ℕ) (s : Thread) (k : ℕ) (r : Thread) → IsLocalRun p allowance (top_of allowance s) k r → k < allowance → (0 < length r.frames) ⊎ (below allowance s ≡ [])
 
 -- what a machine keeps is true at the start of a typable program
 abbrev pub StartKeeps : Type 0

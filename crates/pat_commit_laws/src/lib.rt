@@ -1,7 +1,7 @@
 //! Laws of open steps, turns, commits, and of what a machine keeps. No code of the product.
 #![tactic(auto)]
 
-ghost use Rattle.pat_commit_laws.specs.Laws.{OpenTestIsExact, FoundIsTurn, NoneFoundIsNone, CommitRuns, IdleCommitIsStill, TopRuns, StartKeeps, TakeKeeps, GiveBackKeeps, GiveAllBackKeeps, CommitKeeps, NumbersAreLeft, NoReplayIsRefused, OneEntryIsRefused};
+ghost use Rattle.pat_commit_laws.specs.Laws.{OpenTestIsExact, FoundIsTurn, NoneFoundIsNone, CommitRuns, IdleCommitIsStill, TopRuns, TopKeepsFrame, SharesOnTop, StartKeeps, TakeKeeps, GiveBackKeeps, GiveAllBackKeeps, CommitKeeps, NumbersAreLeft, NoReplayIsRefused, OneEntryIsRefused};
 
 /// The test of an open step is exact, and the thread that is found first is the one whose turn it is.
 pub fn turn_laws()
@@ -10,11 +10,13 @@ pub fn turn_laws()
     ensures none { NoneFoundIsNone }
 {}
 
-/// A commit takes just the steps of its entry, and has none only where none was open. Its local steps may be taken on the top of the thread.
+/// A commit takes just the steps of its entry, and has none only where none was open. Its steps may be taken on the top of the thread.
 pub fn commit_laws()
     ensures runs { CommitRuns }
     ensures idle { IdleCommitIsStill }
     ensures tops { TopRuns }
+    ensures frame { TopKeepsFrame }
+    ensures shares { SharesOnTop }
 {}
 
 /// What a machine keeps is true at the start, and stays true where jobs are taken, given back and committed.
