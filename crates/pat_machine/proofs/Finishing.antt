@@ -1,22 +1,24 @@
 -- The end of a commit.
-use Rattle.std.proofs.Common.{◌≡◌, ℕ, ◌<◌, ◌≤◌, Bool, true, false, cond, nat_eq, List, [], ◌∷◌, ◌++◌, length, map, Option, Some, None, refl, sym, ap, ◌∙◌, subst, arith, ⊎_elim}
+use Rattle.std.proofs.Common.{◌≡◌, ℕ, ◌<◌, ◌≤◌, Bool, true, false, cond, nat_eq, List, [], ◌∷◌, ◌++◌, length, map, Option, Some, None, refl, sym, ap, ◌∙◌, subst, arith, ◌⊎◌, ⊎_elim}
 use Rattle.std.specs.Prelude.{◌↔◌, nat_lt}
 use Rattle.std.proofs.lemmas.Bool.{eqb-true, eqb-false, ltb-true, ltb-false, cases_Bool}
 use Rattle.std.proofs.lemmas.List.{map-append}
 use Rattle.pat_model.specs.Programs.{Program}
-use Rattle.pat_model.specs.Configs.{Config, with_thread}
+use Rattle.pat_model.specs.Configs.{Thread, Config, thread_at, with_thread}
 use Rattle.pat_model.specs.Steps.{Act}
 use Rattle.pat_model.specs.Runs.{Entry, run_from, shared_step}
 use Rattle.pat_reduce.specs.declared.history.Entry.{Entry as CodeEntry}
 use Rattle.pat_reduce_threads.specs.ThreadViews.{thread_view}
 use Rattle.pat_reduce.specs.Views.{entry_view}
 use Rattle.pat_commits.specs.Opens.{IsStill}
-use Rattle.pat_commits.specs.Commits.{IsCommit, noted}
+use Rattle.pat_commits.specs.Commits.{IsLocalRun, IsCommit, noted}
+use Rattle.pat_commits.specs.Tops.{below}
 use Rattle.pat_commit_laws.proofs.Idle.{idle_still, step_open}
+use Rattle.pat_commit_laws.proofs.Tops.{top_runs, top_keeps_frame}
 use Rattle.pat_machine.specs.declared.committing.Settled.{Settled}
 use Rattle.pat_machine.specs.declared.job.Job.{Job}
 use Rattle.pat_machine.specs.Shown.{steps_in, noted_in, place_of}
-use Rattle.pat_machine.specs.Settling.{IsSettled, Finishes}
+use Rattle.pat_machine.specs.Settling.{IsSettled, settled_thread, half_way, Finishes}
 
 -- the end leads from the settled state on
 pub run_of : (p : Program) (allowance limit : ℕ) (half d : Config) (t k : ℕ) (a : Option Act) → Finishes p allowance limit half t k a d → k ≤ allowance → run_from p half (shared_step t a) ≡ Some d
@@ -28,21 +30,39 @@ run_of p allowance limit half d t k a f within = ⊎_elim
     ap (λ o. run_from p half (shared_step t o)) q.0 ∙ ap (λ (x : Config). Some x) (sym q.1))
     (cases_Bool (nat_lt k allowance))
 
+module _ (p : Program) (c : Config) (j : Job) (s : Settled) (h : IsSettled p c j s) (x : Thread) (at : thread_at c j.thread ≡ Some x) where
+  kept_is : h.kept ≡ x
+  kept_is =
+      let both : Some h.kept ≡ Some x = sym h.there ∙ at in
+      cc
+
+  -- what the local steps made of the top they make of the thread
+  pub settled_run : IsLocalRun p j.allowance x s.steps (settled_thread j x s)
+  settled_run = subst (λ w. IsLocalRun p j.allowance w s.steps (settled_thread j w s)) kept_is (top_runs p j.allowance h.kept s.steps (thread_view s.end) h.local)
+
+  -- with steps left, a frame of the top is left, or nothing is below
+  pub frame_left : s.steps < j.allowance → (0 < length (thread_view s.end).frames) ⊎ (below j.allowance x ≡ [])
+  frame_left less =
+      subst (λ w. (0 < length (thread_view s.end).frames) ⊎ (below j.allowance w ≡ [])) kept_is
+      (top_keeps_frame p j.allowance h.kept s.steps (thread_view s.end) h.local less)
+
 -- the settled state and its end are a commit
-pub commit_of : (p : Program) (limit : ℕ) (c d : Config) (j : Job) (s : Settled) (e : Entry) → IsSettled p c j s → e.thread ≡ j.thread → e.local_steps ≡ s.steps
-    → Finishes p j.allowance limit (with_thread c j.thread (thread_view s.end)) j.thread s.steps e.shared d → IsCommit p j.allowance limit c e d
-commit_of p limit c d j s e settled thread steps f = record {
-  kept = settled.kept;
-  middle = thread_view s.end;
-  there = ap (λ t. Rattle.pat_model.specs.Configs.thread_at c t) thread ∙ settled.there;
-  local = subst (λ k. Rattle.pat_commits.specs.Commits.IsLocalRun p j.allowance settled.kept k (thread_view s.end)) (sym steps) settled.local;
-  shared = λ less.
-      subst (λ t. Rattle.pat_commits.specs.Commits.Shares p limit (with_thread c t (thread_view s.end)) t e.shared d) (sym thread)
-      (f.shared (subst (λ k. k < j.allowance) steps less));
-  spent = λ all.
-      let q = f.spent (sym steps ∙ all) in
-      (q.0, q.1 ∙ ap (λ t. with_thread c t (thread_view s.end)) (sym thread));
-}
+pub commit_of : (p : Program) (limit : ℕ) (c d : Config) (j : Job) (s : Settled) (e : Entry) (h : IsSettled p c j s) → e.thread ≡ j.thread → e.local_steps ≡ s.steps
+    → Finishes p j.allowance limit (half_way c j h.kept s) j.thread s.steps e.shared d → IsCommit p j.allowance limit c e d
+commit_of p limit c d j s e settled thread steps f =
+    let middle = settled_thread j settled.kept s in
+    record {
+      kept = settled.kept;
+      middle = middle;
+      there = ap (thread_at c) thread ∙ settled.there;
+      local = subst (λ k. IsLocalRun p j.allowance settled.kept k middle) (sym steps) (settled_run p c j s settled settled.kept settled.there);
+      shared = λ less.
+          subst (λ t. Rattle.pat_commits.specs.Commits.Shares p limit (with_thread c t middle) t e.shared d) (sym thread)
+          (f.shared (subst (λ k. k < j.allowance) steps less));
+      spent = λ all.
+          let q = f.spent (sym steps ∙ all) in
+          (q.0, q.1 ∙ ap (λ t. with_thread c t middle) (sym thread));
+    }
 
 -- the noted entry, as the definitions see it
 pub noted_view : (es : List CodeEntry) (e : CodeEntry) → map entry_view (noted_in es e) ≡ noted (map entry_view es) (entry_view e)

@@ -1,12 +1,13 @@
 -- What the calls of a machine give.
 use Rattle.std.specs.Prelude.{◌≡◌, ℕ, ◌+◌, ◌-◌, ◌<◌, min, length, Option, Some, None, option_map, Result, Ok, Err, slice_set, ◌↔◌, ◌⊎◌}
-use Rattle.pat_model.specs.Configs.{thread_at}
+use Rattle.pat_model.specs.Configs.{Thread, thread_at}
 use Rattle.pat_model.specs.Runs.{Outcome, EndDone, EndWaiting, EndFull, EndBudget, step_count, outcome}
 use Rattle.pat_reduce_threads.specs.declared.state.ThreadState.{ThreadState}
 use Rattle.pat_reduce_threads.specs.ThreadViews.{thread_view}
 use Rattle.pat_reduce.specs.Views.{act_view, entry_view}
 use Rattle.pat_commits.specs.Opens.{IsStill}
 use Rattle.pat_commits.specs.Commits.{IsCommit}
+use Rattle.pat_commits.specs.Tops.{top_of}
 use Rattle.pat_commits.specs.Lendings.{allowance_of, allowances, all_in, committed_out}
 use Rattle.pat_commits.specs.Lendings.{NoneOut, SomeOut}
 use Rattle.pat_commits.specs.Turns.{IsReady, IsAtRest, IsTurn}
@@ -56,9 +57,10 @@ TakeThreadGives old t (Ok j) new = (j.thread ≡ t) × Lends old j new
 TakeThreadGives old t (Err refusal.NotReady) new = (MayTake old t → ⊥) × (new ≡ old)
 TakeThreadGives old t (Err refusal.Spent) new = MayTake old t × (old.left ≡ 0) × (new ≡ old)
 
--- the thread's state as the machine keeps it; a job that wasn't handed out has none, and memory may run out
+-- the top of the thread's state as the machine keeps it, with at most a frame for each step of the allowance;
+-- a job that wasn't handed out has none, and memory may run out
 abbrev pub StateGives : Shown → Job → Result ThreadState StateRefused → Type 0
-StateGives m j (Ok s) = IsLent m j × (thread_at m.config j.thread ≡ Some (thread_view s))
+StateGives m j (Ok s) = IsLent m j × ((kept : Thread) × (thread_at m.config j.thread ≡ Some kept) × (thread_view s ≡ top_of j.allowance kept))
 StateGives m j (Err state.NotOut) = IsLent m j → ⊥
 StateGives m j (Err state.NoMemory) = IsLent m j
 

@@ -1,14 +1,15 @@
 // Commits.
 ghost use Rattle.std.specs.Prelude.{◌≡◌, ℕ, ◌<◌, Some, None, option_map, IfOk, OnErr, IfErr};
-ghost use Rattle.pat_model.specs.Configs.{Thread as ThreadOf, thread_at, with_thread};
+ghost use Rattle.pat_model.specs.Configs.{Thread as ThreadOf, thread_at};
 ghost use Rattle.pat_core.specs.Views.{program_view};
 ghost use Rattle.pat_reduce_threads.specs.ThreadViews.{thread_view};
 ghost use Rattle.pat_reduce.specs.Views.{act_view};
 ghost use Rattle.pat_commits.specs.Commits.{IsLocalRun};
+ghost use Rattle.pat_commits.specs.Tops.{top_of};
 ghost use Rattle.pat_commits.specs.Machines.{HasRoom, IsTypedBySome};
 ghost use Rattle.pat_machine.specs.Parted.{shown, IsKept};
 ghost use Rattle.pat_machine.specs.Gives.{IsLent, Committed, CommitGives};
-ghost use Rattle.pat_machine.specs.Settling.{IsSettled, Finishes};
+ghost use Rattle.pat_machine.specs.Settling.{IsSettled, half_way, Finishes};
 
 use crate::entry::{note, steps_of, take_back};
 use crate::job::{CommitRefused, Job, Receipt};
@@ -16,12 +17,12 @@ use crate::parts::Parts;
 use crate::waiting::{Stepped, follow};
 use pat_executable::Executable;
 use pat_machine_states::State;
-use pat_machine_threads::{LocalRun, copy_state, is_same_state, run_locally};
+use pat_machine_threads::{LocalRun, copy_top, is_top, run_locally};
 use pat_reduce::{Act, Entry, ThreadState};
 use pat_sequences::let_go;
 use std::alloc::{AllocError, Global};
 
-/// A thread's state after its local steps, and how many they were.
+/// What the local steps of a job made of the top of its thread, and how many they were.
 #[derive(Drop)]
 pub struct Settled {
     pub end: ThreadState,
@@ -49,7 +50,7 @@ impl Parts {
         }
     }
 
-    // The worker's end state where it began with the kept one, and else local steps taken inside.
+    // The worker's end state where it began with the top of the kept one, and else local steps taken inside.
     fn settle(&self, job: Job, run: LocalRun) -> Result<Settled, AllocError>
         requires kept { IsKept self.now }
         requires lent { IsLent (shown self.now) job }
@@ -58,7 +59,7 @@ impl Parts {
     {
         match self.state.thread(job.thread) {
             Some(kept) => {
-                if is_same_state(kept, &run.start) {
+                if is_top(kept, &run.start, job.allowance) {
                     Ok(ended(run))
                 } else {
                     let_go(run);
@@ -70,7 +71,7 @@ impl Parts {
         }
     }
 
-    /// Local steps taken inside, from the kept state.
+    /// Local steps taken inside, from the top of the kept state.
     pub fn run_inside(&self, job: Job) -> Result<Settled, AllocError>
         requires kept { IsKept self.now }
         requires lent { IsLent (shown self.now) job }
@@ -133,21 +134,21 @@ fn ended(run: LocalRun) -> Settled
     Settled { end, steps }
 }
 
-// Local steps on a copy of the kept state.
+// Local steps on a copy of the top of the kept state.
 fn settle_inside(
     alloc: Global,
     code: &Executable,
     kept: &ThreadState,
     job: Job,
 ) -> Result<Settled, AllocError>
-    ensures { IfOk result (λ s. IsLocalRun (program_view code.now.program) job.allowance (thread_view kept.now) s.steps (thread_view s.end)) }
+    ensures { IfOk result (λ s. IsLocalRun (program_view code.now.program) job.allowance (top_of job.allowance (thread_view kept.now)) s.steps (thread_view s.end)) }
 {
-    let mut end = copy_state(alloc, kept)?;
+    let mut end = copy_top(alloc, kept, job.allowance)?;
     let steps = run_locally(alloc, code, &mut end, job.allowance)?;
     Ok(Settled { end, steps })
 }
 
-// Puts the state after the local steps in its place, and takes the open shared step, if the local ones didn't use up the allowance.
+// Puts what the local steps made of the top in its place, and takes the open shared step, if they didn't use up the allowance.
 fn share(
     alloc: Global,
     code: &Executable,
@@ -156,16 +157,16 @@ fn share(
     job: Job,
     settled: Settled,
 ) -> Result<Option<Act>, AllocError>
-    requires there { (s : ThreadOf) × (thread_at state.old job.thread ≡ Some s) }
     requires room { HasRoom state.old }
-    requires typed { IsTypedBySome (program_view code.now.program) (with_thread state.old job.thread (thread_view settled.end)) }
-    ensures ok { IfOk result (λ a. Finishes (program_view code.now.program) job.allowance limit (with_thread state.old job.thread (thread_view settled.end)) job.thread settled.steps (option_map act_view a) state.new) }
+    requires settled { IsSettled (program_view code.now.program) state.old job settled }
+    requires typed { (s : ThreadOf) → thread_at state.old job.thread ≡ Some s → IsTypedBySome (program_view code.now.program) (half_way state.old job s settled) }
+    ensures ok { IfOk result (λ a. (s : ThreadOf) → thread_at state.old job.thread ≡ Some s → Finishes (program_view code.now.program) job.allowance limit (half_way state.old job s settled) job.thread settled.steps (option_map act_view a) state.new) }
     ensures err { OnErr result (state.new ≡ state.old) }
 {
     let Settled { end, steps } = settled;
     if steps < job.allowance {
-        return state.share(alloc, code, limit, job.thread, end);
+        return state.share(alloc, code, limit, job.thread, job.allowance, end);
     }
-    state.put(job.thread, end);
+    state.put(alloc, job.thread, job.allowance, end)?;
     Ok(None)
 }

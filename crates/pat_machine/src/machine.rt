@@ -95,7 +95,7 @@ impl Machine {
         self.parts.take_thread(thread)
     }
 
-    /// The state that a job begins with.
+    /// The state that a job begins with: its thread's, with at most a frame for each step of its allowance.
     pub fn state_of(&self, job: &Job) -> Result<ThreadState, StateRefused>
         ensures { StateGives self.now job.now result }
     {

@@ -9,7 +9,7 @@ ghost use Rattle.pat_machine.specs.Gives.{IsLent, MayTake, Lends, TakeGives, Tak
 
 use crate::job::{Job, StateRefused, TakeRefused};
 use crate::parts::Parts;
-use pat_machine_threads::copy_state;
+use pat_machine_threads::copy_top;
 use pat_reduce::ThreadState;
 
 // The most steps of a job.
@@ -108,7 +108,7 @@ impl Parts {
         }
     }
 
-    /// The kept state of a job's thread.
+    /// What a job can see of the kept state of its thread: a frame for each step of its allowance.
     pub fn state_of(&self, job: Job) -> Result<ThreadState, StateRefused>
         requires { IsKept self.now }
         ensures { StateGives (shown self.now) job result }
@@ -117,7 +117,7 @@ impl Parts {
             return Err(StateRefused::NotOut);
         }
         match self.state.thread(job.thread) {
-            Some(kept) => match copy_state(self.alloc, kept) {
+            Some(kept) => match copy_top(self.alloc, kept, job.allowance) {
                 Ok(state) => Ok(state),
                 Err(_) => Err(StateRefused::NoMemory),
             },

@@ -3,3 +3,4 @@ mod Prospected
 mod Placed
 mod Ascending
 mod Awaiting
+mod Asides

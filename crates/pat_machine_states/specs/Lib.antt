@@ -1,3 +1,4 @@
 pub mod Opening
 pub mod Prospects
 pub mod Places
+pub mod Aside

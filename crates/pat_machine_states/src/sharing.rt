@@ -1,5 +1,5 @@
 // The shared step that ends a commit.
-ghost use Rattle.std.specs.Prelude.{◌≡◌, ℕ, ◌<◌, Some, option_map, IfOk, OnErr};
+ghost use Rattle.std.specs.Prelude.{◌≡◌, ℕ, ◌<◌, ◌⊎◌, [], length, Some, option_map, IfOk, OnErr};
 ghost use Rattle.pat_model.specs.Orders.{IsOrdered};
 ghost use Rattle.pat_model.specs.Configs.{Thread as ThreadOf, thread_at, with_thread};
 ghost use Rattle.pat_core.specs.Views.{program_view};
@@ -8,40 +8,42 @@ ghost use Rattle.pat_model.specs.Steps.{step as after_step};
 ghost use Rattle.pat_reduce_values.specs.Results.{StepGives};
 ghost use Rattle.pat_reduce.specs.Views.{act_view, step_view};
 ghost use Rattle.pat_commits.specs.Commits.{Shares};
+ghost use Rattle.pat_commits.specs.Tops.{below, over};
 ghost use Rattle.pat_commits.specs.Machines.{HasRoom, IsTypedBySome};
 
 use crate::State;
 use crate::places::place_of;
 use pat_executable::Executable;
 use pat_reduce::{Act, Step, StepError, ThreadState};
-use pat_sequences::let_go;
 use std::alloc::{AllocError, Global};
 
 impl State {
-    /// Puts a state in the place of a thread's, and takes the shared step that is open then, if one is.
-    /// An error changes nothing.
+    /// Puts a state in the place of a thread's control and so many of its frames, those on top, and takes the shared step
+    /// that is open then, if one is. An error changes nothing.
     pub fn share(
         &mut self,
         alloc: Global,
         code: &Executable,
         limit: u32,
         thread: u32,
-        state: ThreadState,
+        gone: u32,
+        top: ThreadState,
     ) -> Result<Option<Act>, AllocError>
         requires there { (s : ThreadOf) × (thread_at self.old thread ≡ Some s) }
         requires room { HasRoom self.old }
-        requires typed { IsTypedBySome (program_view code.now.program) (with_thread self.old thread (thread_view state)) }
-        ensures ok { IfOk result (λ a. Shares (program_view code.now.program) limit (with_thread self.old thread (thread_view state)) thread (option_map act_view a) self.new) }
+        requires typed { (s : ThreadOf) → thread_at self.old thread ≡ Some s → IsTypedBySome (program_view code.now.program) (with_thread self.old thread (over (thread_view top) (below gone s))) }
+        requires frame { (s : ThreadOf) → thread_at self.old thread ≡ Some s → (0 < length (thread_view top).frames) ⊎ (below gone s ≡ []) }
+        ensures ok { IfOk result (λ a. (s : ThreadOf) → thread_at self.old thread ≡ Some s → Shares (program_view code.now.program) limit (with_thread self.old thread (over (thread_view top) (below gone s))) thread (option_map act_view a) self.new) }
         ensures err { OnErr result (self.new ≡ self.old) }
     {
-        let kept = self.swap(thread, state);
+        let kept = self.set_aside(alloc, thread, top)?;
         match self.take_open(alloc, code, limit, thread) {
             Ok(act) => {
-                let_go(kept);
+                self.cover(alloc, thread, gone, kept);
                 Ok(act)
             }
             Err(AllocError) => {
-                self.put(thread, kept);
+                self.restore(thread, kept);
                 Err(AllocError)
             }
         }

@@ -7,7 +7,7 @@ ghost use Rattle.pat_reduce_threads.specs.ThreadViews.{thread_view};
 use crate::places::{place_of, state_of, swap_at};
 use pat_executable::Executable;
 use pat_reduce::{Config, ThreadState};
-use pat_sequences::{Text, let_go};
+use pat_sequences::Text;
 use std::alloc::{AllocError, Global};
 use std::marker::Model;
 
@@ -51,8 +51,8 @@ impl State {
         state_of(self.config.threads.as_slice(), thread)
     }
 
-    /// Puts a state in the place of a thread's, which it gives back. It takes no memory.
-    pub fn swap(&mut self, thread: u32, state: ThreadState) -> ThreadState
+    // Puts a state in the place of a thread's, which it gives back. It takes no memory.
+    pub(crate) fn swap(&mut self, thread: u32, state: ThreadState) -> ThreadState
         requires { (s : ThreadOf) × (thread_at self.old thread ≡ Some s) }
         ensures before { thread_at self.old thread ≡ Some (thread_view result) }
         ensures after { self.new ≡ with_thread self.old thread (thread_view state) }
@@ -62,14 +62,6 @@ impl State {
             // The thread is there.
             None => unreachable!(),
         }
-    }
-
-    /// Puts a state in the place of a thread's. It takes no memory.
-    pub fn put(&mut self, thread: u32, state: ThreadState)
-        requires { (s : ThreadOf) × (thread_at self.old thread ≡ Some s) }
-        ensures { self.new ≡ with_thread self.old thread (thread_view state) }
-    {
-        let_go(self.swap(thread, state));
     }
 
     /// How many threads were made.

@@ -1,9 +1,12 @@
--- States that are the same, part by part.
-use Rattle.std.proofs.Common.{◌≡◌, ℕ, zero, suc, ◌<◌, List, [], ◌∷◌, length, map, get_or, reverse, refl, sym, ap, ◌∙◌, arith}
-use Rattle.std.proofs.lemmas.List.{length-map, reverse-reverse}
+-- States that are the same, part by part, and the tops of threads.
+use Rattle.std.proofs.Common.{◌≡◌, ℕ, zero, suc, ◌-◌, ◌<◌, ◌≤◌, List, [], ◌∷◌, ◌++◌, length, map, take, drop, get_or, reverse, refl, sym, ap, ◌∙◌, arith, ⊎_elim}
+use Rattle.std.proofs.lemmas.List.{length-map, reverse-reverse, reverse-append, length-reverse, length-drop, take-append-drop, take_all, take-map}
+use Rattle.std.proofs.lemmas.Bool.{cases_lt}
+use Rattle.std.proofs.Math.Seq.{take-append_seam}
 use Rattle.pat_model.specs.Configs.{Control, Frame, Thread}
 use Rattle.pat_reduce_threads.specs.declared.state.ThreadState.{ThreadState}
 use Rattle.pat_reduce_threads.specs.ThreadViews.{control_view, frame_view, thread_view}
+use Rattle.pat_commits.specs.Tops.{top_of}
 use mathlib.Core.List.{reverse_aux}
 
 -- what is seen as the same is as long
@@ -36,8 +39,24 @@ pub same_upright : {A B : Type 0} (view : A → B) (xs ys fs gs : List A) → re
 same_upright view xs ys fs gs first second same =
     same_reversed view fs gs xs ys (ap reverse (sym first) ∙ reverse-reverse xs) (ap reverse (sym second) ∙ reverse-reverse ys) same
 
--- the same control and the same frames
-pub same_thread : (s t : ThreadState) → control_view s.control ≡ control_view t.control → map frame_view s.frames ≡ map frame_view t.frames → thread_view s ≡ thread_view t
-same_thread s t control frames =
+-- the last items from the end are the first ones of the other way round
+pub reversed_end : {X : Type 0} (xs : List X) (n : ℕ) → reverse (drop (length xs - n) xs) ≡ take n (reverse xs)
+reversed_end xs n =
+    let k = length xs - n in
+    let split : reverse xs ≡ reverse (drop k xs) ++ reverse (take k xs) = sym (ap reverse (take-append-drop k xs)) ∙ reverse-append (take k xs) (drop k xs) in
+    let ends = length-reverse (drop k xs) ∙ length-drop k xs in
+    let all = length-reverse xs in
+    ⊎_elim
+    (λ (many : length xs < n).
+    let none : k ≡ 0 = omega arith in
+    ap (λ m. reverse (drop m xs)) none ∙ sym (take_all n (reverse xs) (omega arith)))
+    (λ (few : n ≤ length xs).
+    let same : length (reverse (drop k xs)) ≡ n = ends ∙ omega arith in
+    sym (ap (take n) split ∙ ap (λ m. take m (reverse (drop k xs) ++ reverse (take k xs))) (sym same) ∙ take-append_seam (reverse (drop k xs)) (reverse (take k xs))))
+    (cases_lt (length xs) n)
+
+-- the same control, and of the frames those on top
+pub same_top : (s t : ThreadState) (n : ℕ) → control_view s.control ≡ control_view t.control → map frame_view s.frames ≡ map frame_view (take n t.frames) → thread_view s ≡ top_of n (thread_view t)
+same_top s t n control frames =
     let by : Control → List Frame → Thread = λ k fs. record { control = k; frames = fs } in
-    ap (λ k. by k (map frame_view s.frames)) control ∙ ap (by (control_view t.control)) frames
+    ap (λ k. by k (map frame_view s.frames)) control ∙ ap (by (control_view t.control)) (frames ∙ sym (take-map frame_view n t.frames))

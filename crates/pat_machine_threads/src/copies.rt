@@ -1,8 +1,10 @@
 // Copies of the states of threads.
-ghost use Rattle.std.specs.Prelude.{◌≡◌, map, IfOk};
+ghost use Rattle.std.specs.Prelude.{◌≡◌, map, reverse, IfOk};
+ghost use Rattle.pat_commits.specs.Tops.{top_of};
 ghost use Rattle.pat_reduce_threads.specs.ThreadViews.{control_view, frame_view, thread_view};
 ghost use Rattle.pat_reduce_values.specs.ValueViews.{env_view};
 
+use crate::tops::top_frames;
 use pat_reduce::{Control, Frame, ThreadState, Value};
 use pat_sequences::{Sequence, Stack};
 use std::alloc::{AllocError, Global};
@@ -12,7 +14,16 @@ pub fn copy_state(alloc: Global, state: &ThreadState) -> Result<ThreadState, All
     ensures { IfOk result (λ s. thread_view s ≡ thread_view state.now) }
 {
     let control = copy_control(alloc, &state.control)?;
-    let frames = copy_frames(alloc, &state.frames)?;
+    let frames = copy_frames(alloc, state.frames.as_slice())?;
+    Ok(ThreadState { control, frames })
+}
+
+/// A second state, with at most so many of the frames, those on top.
+pub fn copy_top(alloc: Global, state: &ThreadState, most: u32) -> Result<ThreadState, AllocError>
+    ensures { IfOk result (λ s. thread_view s ≡ top_of most (thread_view state.now)) }
+{
+    let control = copy_control(alloc, &state.control)?;
+    let frames = copy_frames(alloc, top_frames(&state.frames, most))?;
     Ok(ThreadState { control, frames })
 }
 
@@ -28,11 +39,12 @@ fn copy_control(alloc: Global, control: &Control) -> Result<Control, AllocError>
     }
 }
 
-fn copy_frames(alloc: Global, frames: &Stack<Frame>) -> Result<Stack<Frame>, AllocError>
-    ensures { IfOk result (λ own. map frame_view own ≡ map frame_view frames.now) }
+// The stack of these frames, which stand from the bottom up.
+fn copy_frames(alloc: Global, frames: &[Frame]) -> Result<Stack<Frame>, AllocError>
+    ensures { IfOk result (λ own. map frame_view own ≡ map frame_view (reverse frames.now)) }
 {
     let mut own = Stack::new(alloc);
-    for frame in frames.as_slice() {
+    for frame in frames {
         own.push(copy_frame(alloc, frame)?)?;
     }
     Ok(own)

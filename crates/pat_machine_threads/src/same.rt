@@ -1,18 +1,20 @@
-// Whether two states of threads are the same.
+// Whether a state is the top of another one.
 ghost use Rattle.std.specs.Prelude.{◌≡◌, map, IsTrue, IsFalse};
+ghost use Rattle.pat_commits.specs.Tops.{top_of};
 ghost use Rattle.pat_machine_threads.specs.Bindings.{binding_view};
 ghost use Rattle.pat_reduce_threads.specs.ThreadViews.{control_view, frame_view, thread_view};
 ghost use Rattle.pat_reduce_values.specs.ValueViews.{value_view, env_view};
 
+use crate::tops::top_frames;
 use pat_reduce::{Control, Frame, ThreadState, Value};
 
-/// Whether two states are the same: yes exactly where they are.
-pub fn is_same_state(first: &ThreadState, second: &ThreadState) -> bool
-    ensures same { IsTrue result → thread_view first.now ≡ thread_view second.now }
-    ensures other { IsFalse result → thread_view first.now ≡ thread_view second.now → ⊥ }
+/// Whether a state has the control of the kept one and at most so many of its frames, those on top: yes exactly where it has just these.
+pub fn is_top(kept: &ThreadState, start: &ThreadState, most: u32) -> bool
+    ensures same { IsTrue result → thread_view start.now ≡ top_of most (thread_view kept.now) }
+    ensures other { IsFalse result → thread_view start.now ≡ top_of most (thread_view kept.now) → ⊥ }
 {
-    is_same_control(&first.control, &second.control)
-        && are_same_frames(first.frames.as_slice(), second.frames.as_slice())
+    is_same_control(&start.control, &kept.control)
+        && are_same_frames(start.frames.as_slice(), top_frames(&kept.frames, most))
 }
 
 fn is_same_control(first: &Control, second: &Control) -> bool

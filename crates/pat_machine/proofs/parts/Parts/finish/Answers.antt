@@ -1,20 +1,20 @@
-use Rattle.std.proofs.Common.{◌≡◌, ◌+◌, ◌-◌, ◌<◌, ℕ, List, map, refl, ap, sym, ◌∙◌, subst, arith, length}
+use Rattle.std.proofs.Common.{◌≡◌, ◌+◌, ◌-◌, ◌<◌, ◌≤◌, ℕ, List, map, refl, ap, sym, ◌∙◌, subst, arith, length}
 use Rattle.std.specs.Prelude.{option_map}
 use Rattle.pat_model.specs.Runs.{Entry, entry_steps}
 use Rattle.pat_core.specs.Views.{program_view}
 use Rattle.pat_reduce.specs.declared.history.Entry.{Entry as CodeEntry}
-use Rattle.pat_reduce_threads.specs.ThreadViews.{thread_view}
 use Rattle.pat_reduce.specs.Views.{act_view, entry_view}
 use Rattle.pat_commits.specs.Commits.{noted}
 use Rattle.pat_commits.specs.Lendings.{Out, allowances, committed_out}
 use Rattle.pat_commits.specs.Machines.{MachineInvariant}
-use Rattle.pat_commit_laws.proofs.Runs.{commit_stands}
+use Rattle.pat_commit_laws.proofs.Runs.{commit_stands, commit_within}
 use Rattle.pat_commit_laws.proofs.Rooms.{room_of, half_typed}
 use Rattle.pat_commit_laws.proofs.Tables.{allowance_within, allowances_committed}
 use Rattle.pat_machine_waits.specs.Noted.{AreNoted}
 use Rattle.pat_machine.specs.Shown.{Shown, steps_in, noted_in, place_of}
+use Rattle.pat_machine.specs.Settling.{settled_thread}
 use Rattle.pat_machine.proofs.Lending.{part_lent}
-use Rattle.pat_machine.proofs.Finishing.{run_of, commit_of, noted_view, idle_so}
+use Rattle.pat_machine.proofs.Finishing.{run_of, settled_run, commit_of, noted_view, idle_so}
 use Rattle.pat_machine.proofs.parts.Parts.finish.Goals as goal
 
 pub share-requires-clause-room : goal.share-requires-clause-room
@@ -23,10 +23,12 @@ share-requires-clause-room c =
     room_of (program_view m.code.program) m.budget m.limit m.state (map entry_view m.history.items) m.left m.out.items c.requires.kept.stands
 
 pub share-requires-clause-typed : goal.share-requires-clause-typed
-share-requires-clause-typed c =
+share-requires-clause-typed c = λ x at.
     let m = c.args.self.now in
-    let s = c.requires.settled in
-    half_typed (program_view m.code.program) m.budget m.limit m.state (map entry_view m.history.items) m.left m.out.items c.requires.kept.stands c.args.job.thread c.args.settled.steps s.kept (thread_view c.args.settled.end) s.there s.local.taken
+    let p = program_view m.code.program in
+    let j = c.args.job in
+    half_typed p m.budget m.limit m.state (map entry_view m.history.items) m.left m.out.items c.requires.kept.stands j.thread c.args.settled.steps x (settled_thread j x c.args.settled) at
+    (settled_run p m.state j c.args.settled c.requires.settled x at).taken
 
 pub follow-requires-clause-were : goal.follow-requires-clause-were
 follow-requires-clause-were c =
@@ -37,19 +39,28 @@ follow-requires-clause-were c =
     record {
       before = m.state;
       kept = s.kept;
-      middle = thread_view c.args.settled.end;
+      middle = settled_thread c.args.job s.kept c.args.settled;
       noted =
           subst (λ l. AreNoted p m.state l c.reserve-3.new.self.sleepers.items) (sym c.in_ok-reserve-3.ensures.awake)
           (subst (λ l. AreNoted p m.state m.waits.awake.items l) (sym c.in_ok-reserve-3.ensures.sleepers) kept.noted);
       ordered = kept.stands.facts.typed.typed.numbers.ordered;
       there = s.there;
-      run = run_of p c.args.job.allowance m.limit _ c.share.new.state c.args.job.thread c.args.settled.steps (option_map act_view c.in_ok-shared.shared) c.in_ok-shared.ensures.ok s.local.within;
+      run = run_of p c.args.job.allowance m.limit _ c.share.new.state c.args.job.thread c.args.settled.steps (option_map act_view c.in_ok-shared.shared) (c.in_ok-shared.ensures.ok s.kept s.there) s.local.within;
       next = c.threads_made-newcomer.ensures;
     }
 
 pub take_back-requires-clause-there : goal.take_back-requires-clause-there
 take_back-requires-clause-there c =
     subst (λ (o : Out). c.args.job.thread < length o) (sym c.in_ok-reserve-2.ensures.items) (allowance_within c.args.self.now.out.items c.args.job.thread c.args.job.allowance c.requires.lent)
+
+pub overflow_sub-self : goal.overflow_sub-self
+overflow_sub-self c =
+    let m = c.args.self.now in
+    let p = program_view m.code.program in
+    let n = c.args.job.allowance in
+    let e : CodeEntry = record { worker = c.args.worker; thread = c.args.job.thread; local = c.args.settled.steps; shared = c.in_ok-shared.shared } in
+    let j = commit_of p m.limit m.state c.share.new.state c.args.job c.args.settled (entry_view e) c.requires.settled refl refl (c.in_ok-shared.ensures.ok c.requires.settled.kept c.requires.settled.there) in
+    subst (λ k. k ≤ n) (sym c.steps_of.ensures) (commit_within p n m.limit m.state c.share.new.state (entry_view e) j)
 
 pub overflow_sub-self-2 : goal.overflow_sub-self-2
 overflow_sub-self-2 c = part_lent c.args.self.now.out.items c.args.self.now.lent c.args.job.thread c.args.job.allowance c.requires.kept.lent c.requires.lent
@@ -64,7 +75,7 @@ returns-clause-kept c =
     let d = c.share.new.state in
     let e : CodeEntry = record { worker = c.args.worker; thread = t; local = c.args.settled.steps; shared = c.in_ok-shared.shared } in
     let a = option_map act_view c.in_ok-shared.shared in
-    let j = commit_of p m.limit m.state d c.args.job c.args.settled (entry_view e) c.requires.settled refl refl c.in_ok-shared.ensures.ok in
+    let j = commit_of p m.limit m.state d c.args.job c.args.settled (entry_view e) c.requires.settled refl refl (c.in_ok-shared.ensures.ok c.requires.settled.kept c.requires.settled.there) in
     let st = commit_stands p m.budget m.limit n m.state d es m.left m.out.items (entry_view e) c.requires.kept.stands c.requires.lent j in
     let grown : map entry_view c.note-index.new.history.items ≡ noted es (entry_view e) = ap (map entry_view) (c.note-index.ensures.history ∙ ap (λ l. noted_in l e) c.in_ok-reserve.ensures.items) ∙ noted_view m.history.items e in
     let outs : c.take_back.new.out.items ≡ committed_out m.out.items t a = c.take_back.ensures ∙ ap (λ (o : Out). committed_out o t a) c.in_ok-reserve-2.ensures.items in
@@ -89,7 +100,7 @@ returns-clause-ok c =
     let d = c.share.new.state in
     let e : CodeEntry = record { worker = c.args.worker; thread = t; local = c.args.settled.steps; shared = c.in_ok-shared.shared } in
     let a = option_map act_view c.in_ok-shared.shared in
-    let j = commit_of p m.limit m.state d c.args.job c.args.settled (entry_view e) c.requires.settled refl refl c.in_ok-shared.ensures.ok in
+    let j = commit_of p m.limit m.state d c.args.job c.args.settled (entry_view e) c.requires.settled refl refl (c.in_ok-shared.ensures.ok c.requires.settled.kept c.requires.settled.there) in
     let grown : c.note-index.new.history.items ≡ noted_in m.history.items e = c.note-index.ensures.history ∙ ap (λ l. noted_in l e) c.in_ok-reserve.ensures.items in
     let outs : c.take_back.new.out.items ≡ committed_out m.out.items t a = c.take_back.ensures ∙ ap (λ (o : Out). committed_out o t a) c.in_ok-reserve-2.ensures.items in
     let place : c.note-index.result ≡ place_of m.history.items e = c.note-index.ensures.place ∙ ap (λ l. place_of l e) c.in_ok-reserve.ensures.items in

@@ -1,17 +1,49 @@
-use Rattle.std.proofs.Common.{◌≡◌, ap, ◌∙◌}
+use Rattle.std.proofs.Common.{sym, ap, ◌∙◌, subst, arith}
+use Rattle.std.specs.Prelude.{option_map}
 use Rattle.pat_model.specs.Configs.{thread_at, with_thread}
+use Rattle.pat_model.specs.Orders.{IsOrdered}
+use Rattle.pat_core.specs.Views.{program_view}
 use Rattle.pat_reduce_threads.specs.ThreadViews.{thread_view}
-use Rattle.pat_commit_laws.proofs.Locals.{there_after, with_twice, with_same}
+use Rattle.pat_reduce.specs.Views.{act_view}
+use Rattle.pat_commits.specs.Tops.{below}
+use Rattle.pat_commit_laws.proofs.Exchanges.{frames_after, ordered_on_top, share_over}
+use Rattle.pat_machine_states.specs.Aside.{aside_view}
+use Rattle.pat_machine_states.proofs.Asides.{top_there, room_there, back_there}
 use Rattle.pat_machine_states.proofs.state.State.share.Goals as goal
 
-pub put-requires : goal.put-requires
-put-requires c =
-    let same : c.take_open.new.self ≡ with_thread c.args.self.now c.args.thread (thread_view c.args.state) = c.in-Err.ensures.err ∙ c.swap-kept.ensures.after in
-    (thread_view c.args.state, ap (λ d. thread_at d c.args.thread) same ∙ there_after c.args.self.now c.args.thread (thread_view c.swap-kept.result) (thread_view c.args.state) c.swap-kept.ensures.before)
+pub take_open-requires-clause-ordered : goal.take_open-requires-clause-ordered
+take_open-requires-clause-ordered c =
+    let s = c.requires.there in
+    let a = c.in_ok-kept.ensures.ok in
+    subst IsOrdered (sym a.put)
+    (ordered_on_top c.args.self.now c.args.thread (thread_view c.args.top) (below c.args.gone s.0) (c.requires.typed s.0 s.1).typed.numbers.ordered)
+
+pub cover-requires : goal.cover-requires
+cover-requires c = λ r at.
+    let middle = c.set_aside.new.self in
+    let t = c.args.thread in
+    let s = c.requires.there in
+    let a = c.in_ok-kept.ensures.ok in
+    let ordered = subst IsOrdered (sym a.put) (ordered_on_top c.args.self.now t (thread_view c.args.top) (below c.args.gone s.0) (c.requires.typed s.0 s.1).typed.numbers.ordered) in
+    let there = top_there c.args.self.now middle t c.args.top c.in_ok-kept.kept a in
+    let few = frames_after (program_view c.args.code.now.program) middle t (thread_view c.args.top) r ordered there (option_map act_view c.in-Ok.act) c.take_open.new.self c.in-Ok.ensures.ok.taken at in
+    let room = room_there c.args.self.now middle t c.args.top c.in_ok-kept.kept a in
+    omega arith
+
+pub restore-requires : goal.restore-requires
+restore-requires c = (
+  thread_view c.args.top,
+  ap (λ d. thread_at d c.args.thread) c.in-Err.ensures.err ∙ top_there c.args.self.now c.set_aside.new.self c.args.thread c.args.top c.in_ok-kept.kept c.in_ok-kept.ensures.ok,
+)
+
+pub returns-in-Ok-clause-ok : goal.returns-in-Ok-clause-ok
+returns-in-Ok-clause-ok c = λ s at.
+    let a = c.in_ok-kept.ensures.ok in
+    share_over (program_view c.args.code.now.program) c.args.limit c.args.self.now c.set_aside.new.self c.take_open.new.self c.cover.new.self c.args.thread c.args.gone (aside_view c.in_ok-kept.kept) (thread_view c.args.top) (option_map act_view c.in-Ok.act)
+    a.there a.put c.in-Ok.ensures.ok c.cover.ensures s at (c.requires.frame s at)
 
 pub returns-in-Err-clause-err : goal.returns-in-Err-clause-err
 returns-in-Err-clause-err c =
-    let t = c.args.thread in
-    let kept = thread_view c.swap-kept.result in
-    let same : c.take_open.new.self ≡ with_thread c.args.self.now t (thread_view c.args.state) = c.in-Err.ensures.err ∙ c.swap-kept.ensures.after in
-    c.put.ensures ∙ ap (λ d. with_thread d t kept) same ∙ with_twice c.args.self.now t (thread_view c.args.state) kept ∙ with_same c.args.self.now t kept c.swap-kept.ensures.before
+    c.restore.ensures
+    ∙ ap (λ d. with_thread d c.args.thread (aside_view c.in_ok-kept.kept)) c.in-Err.ensures.err
+    ∙ back_there c.args.self.now c.set_aside.new.self c.args.thread c.args.top c.in_ok-kept.kept c.in_ok-kept.ensures.ok

@@ -1,0 +1,35 @@
+-- A thread's state that is set aside, and what stands in its place.
+use Rattle.std.proofs.Common.{◌≡◌, ℕ, suc, ◌≤◌, length, Some, sym, ap, ◌∙◌, subst, arith}
+use Rattle.std.proofs.lemmas.List.{length-map}
+use Rattle.pat_model.specs.Configs.{Thread, Config, thread_at, with_thread}
+use Rattle.pat_reduce_threads.specs.declared.state.ThreadState.{ThreadState}
+use Rattle.pat_reduce_threads.specs.ThreadViews.{frame_view, thread_view}
+use Rattle.pat_commit_laws.proofs.Locals.{there_after, with_twice, with_same}
+use Rattle.pat_machine_states.specs.declared.tops.Aside.{Aside}
+use Rattle.pat_machine_states.specs.Aside.{aside_view, IsAside}
+
+module _ (old new : Config) (t : ℕ) (top : ThreadState) (kept : Aside) (a : IsAside old t top kept new) where
+  -- the top stands there
+  pub top_there : thread_at new t ≡ Some (thread_view top)
+  top_there = ap (λ (d : Config). thread_at d t) a.put ∙ there_after old t (aside_view kept) (thread_view top) a.there
+
+  -- there is room for a frame more than it has
+  pub room_there : suc (length (thread_view top).frames) ≤ kept.frames.1
+  room_there =
+      let enough = a.room in
+      let len = length-map top.frames frame_view in
+      omega arith
+
+  pub room_for : (s : Thread) → thread_at new t ≡ Some s → length s.frames ≤ kept.frames.1
+  room_for s at =
+      let both : Some (thread_view top) ≡ Some s = sym top_there ∙ at in
+      let same : thread_view top ≡ s = cc in
+      let enough = room_there in
+      subst (λ (x : Thread). length x.frames ≤ kept.frames.1) same (omega arith)
+
+  -- what was set aside, put back
+  pub back_there : with_thread new t (aside_view kept) ≡ old
+  back_there =
+      ap (λ (d : Config). with_thread d t (aside_view kept)) a.put
+      ∙ with_twice old t (thread_view top) (aside_view kept)
+      ∙ with_same old t (aside_view kept) a.there
