@@ -127,3 +127,47 @@ top_keeps_frame p a s k r h less =
     let q = (locally_over p [] k (top_of a s) r (omega arith) h.taken).1 in
     inl (omega arith))
     (cases_lt (length s.frames) a)
+
+-- ---- any frames on top, where the run leaves one of them
+
+module _ (p : Program) (rest : List Frame) (r : Thread) where
+  -- without a frame, whatever goes on alone goes on over others
+  bare_lifts : (x : Redex) → local_at p x [] ≡ Some r → local_at p x rest ≡ Some (over r rest)
+  bare_lifts (At (Let y m n) env) h = let same : thread_of (at_node p m env) (frame_of p y n env ∷ []) ≡ r = cc in ap (λ (q : Thread). Some (over q rest)) same
+  bare_lifts (At (Val e) env) h = cc
+  bare_lifts (At (Call g args) env) h = entered p rest (function_at p g) (eval_all env args) [] ∙ ap (option_map (λ q. over q rest)) h
+  bare_lifts (At (If e m n) env) h = chosen p rest (eval env e) m n env [] ∙ ap (option_map (λ q. over q rest)) h
+  bare_lifts (At _ env) h = cc
+  bare_lifts (Done v) h = cc
+  bare_lifts Nowhere h = cc
+
+  lifts_at : (x : Redex) (fs : List Frame) → local_at p x fs ≡ Some r → local_at p x (fs ++ rest) ≡ Some (over r rest)
+  lifts_at x [] h = bare_lifts x h
+  lifts_at x (f ∷ fs) h = at_top p rest x f fs ∙ ap (option_map (λ q. over q rest)) h
+
+-- a local step is one over further frames
+step_lifts : (p : Program) (rest : List Frame) (s r : Thread) → local_step p s ≡ Some r → local_step p (over s rest) ≡ Some (over r rest)
+step_lifts p rest s r h = lifts_at p rest r (redex p s.control) s.frames h
+
+locally_lifts : (p : Program) (rest : List Frame) (k : ℕ) (s r : Thread) → locally p k s ≡ Some r → locally p k (over s rest) ≡ Some (over r rest)
+locally_lifts p rest zero s r h = let same : s ≡ r = cc in ap (λ (x : Thread). Some (over x rest)) same
+locally_lifts p rest (suc k) s r h =
+    let f = first_local p k s r h in
+    ap (option_and_then (locally p k)) (step_lifts p rest s f.0 f.1) ∙ locally_lifts p rest k f.0 r f.2
+
+-- a run is one over further frames, where it leaves a frame or there are none
+run_lifts : (p : Program) (rest : List Frame) (a : ℕ) (s : Thread) (k : ℕ) (r : Thread) → (0 < length r.frames) ⊎ (rest ≡ []) → IsLocalRun p a s k r → IsLocalRun p a (over s rest) k (over r rest)
+run_lifts p rest a s k r left h = record {
+  taken = locally_lifts p rest k s r h.taken;
+  within = h.within;
+  whole = λ less.
+      ⊎_elim
+      (λ some. step_over p rest r some ∙ ap (option_map (λ x. over x rest)) (h.whole less))
+      (λ none. subst (λ l. local_step p (over r l) ≡ None) (sym none) (subst (λ x. local_step p x ≡ None) (sym (ap (thread_of r.control) (append-nil r.frames))) (h.whole less)))
+      left;
+}
+
+-- what a run from any frames on top makes of them is what it makes of the thread, where it leaves one of them or they are all
+pub any_top_runs : (p : Program) (a n : ℕ) (s : Thread) (k : ℕ) (r : Thread) → IsLocalRun p a (top_of n s) k r → (0 < length r.frames) ⊎ (below n s ≡ []) → IsLocalRun p a s k (over r (below n s))
+any_top_runs p a n s k r h left =
+    subst (λ x. IsLocalRun p a x k (over r (below n s))) (ap (thread_of s.control) (take-append-drop n s.frames)) (run_lifts p (below n s) a (top_of n s) k r left h)

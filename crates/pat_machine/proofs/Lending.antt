@@ -1,11 +1,7 @@
 -- Jobs that leave and come back.
 use Rattle.std.proofs.Common.{◌≡◌, ℕ, zero, suc, ◌+◌, ◌<◌, ◌≤◌, [], ◌∷◌, ◌++◌, length, Option, Some, None, refl, sym, ap, ◌∙◌, arith, slice_set, drop, add-one}
-use Rattle.pat_model.specs.Programs.{Program}
-use Rattle.pat_model.specs.Configs.{Thread, Config, thread_at}
-use Rattle.pat_model_laws.proofs.Inversion.{step_of}
 use Rattle.pat_commits.specs.Lendings.{Out, all_in, allowance_of, allowances}
 use Rattle.pat_commits.specs.Lendings.{NoneOut}
-use Rattle.pat_commits.specs.Turns.{IsReady}
 use Rattle.pat_commit_laws.proofs.Tables.{none_out, allowances_without}
 
 -- an allowance that is out is part of all that is lent

@@ -9,7 +9,7 @@ ghost use Rattle.pat_commits.specs.Tops.{top_of};
 ghost use Rattle.pat_commits.specs.Machines.{HasRoom, IsTypedBySome};
 ghost use Rattle.pat_machine.specs.Parted.{shown, IsKept};
 ghost use Rattle.pat_machine.specs.Gives.{IsLent, Committed, CommitGives};
-ghost use Rattle.pat_machine.specs.Settling.{IsSettled, half_way, Finishes};
+ghost use Rattle.pat_machine.specs.Settling.{IsRunOnTop, IsSettled, half_way, Finishes};
 
 use crate::entry::{note, steps_of, take_back};
 use crate::job::{CommitRefused, Job, Receipt};
@@ -22,10 +22,15 @@ use pat_reduce::{Act, Entry, ThreadState};
 use pat_sequences::let_go;
 use std::alloc::{AllocError, Global};
 
+// The frames that a run inside looks at first.
+const FEW: u32 = 8;
+
 /// What the local steps of a job made of the top of its thread, and how many they were.
 #[derive(Drop)]
 pub struct Settled {
     pub end: ThreadState,
+    /// The frames on top of the thread in whose place those of the end come.
+    pub gone: u32,
     pub steps: u32,
 }
 
@@ -60,7 +65,7 @@ impl Parts {
         match self.state.thread(job.thread) {
             Some(kept) => {
                 if is_top(kept, &run.start, job.allowance) {
-                    Ok(ended(run))
+                    Ok(ended(run, job.allowance))
                 } else {
                     let_go(run);
                     settle_inside(self.alloc, &self.code, kept, job)
@@ -126,26 +131,45 @@ impl Parts {
     }
 }
 
-fn ended(run: LocalRun) -> Settled
-    ensures { result ≡ record { end = run.end; steps = run.steps } }
+fn ended(run: LocalRun, gone: u32) -> Settled
+    ensures { result ≡ record { end = run.end; gone = gone; steps = run.steps } }
 {
     let LocalRun { start, end, steps } = run;
     let_go(start);
-    Settled { end, steps }
+    Settled { end, gone, steps }
 }
 
-// Local steps on a copy of the top of the kept state.
+// Local steps inside: on few frames, since most jobs need no more, and else on one for each step of the allowance.
 fn settle_inside(
     alloc: Global,
     code: &Executable,
     kept: &ThreadState,
     job: Job,
 ) -> Result<Settled, AllocError>
-    ensures { IfOk result (λ s. IsLocalRun (program_view code.now.program) job.allowance (top_of job.allowance (thread_view kept.now)) s.steps (thread_view s.end)) }
+    ensures { IfOk result (IsRunOnTop (program_view code.now.program) job.allowance (thread_view kept.now)) }
 {
-    let mut end = copy_top(alloc, kept, job.allowance)?;
-    let steps = run_locally(alloc, code, &mut end, job.allowance)?;
-    Ok(Settled { end, steps })
+    let few = run_on_top(alloc, code, kept, job.allowance, FEW)?;
+    if few.end.frames.is_empty() && kept.frames.len() > FEW as usize {
+        let_go(few);
+        return run_on_top(alloc, code, kept, job.allowance, job.allowance);
+    }
+    Ok(few)
+}
+
+// Local steps on a copy of so many frames on top of the kept state.
+fn run_on_top(
+    alloc: Global,
+    code: &Executable,
+    kept: &ThreadState,
+    allowance: u32,
+    gone: u32,
+) -> Result<Settled, AllocError>
+    ensures gone { IfOk result (λ s. s.gone ≡ gone) }
+    ensures local { IfOk result (λ s. IsLocalRun (program_view code.now.program) allowance (top_of gone (thread_view kept.now)) s.steps (thread_view s.end)) }
+{
+    let mut end = copy_top(alloc, kept, gone)?;
+    let steps = run_locally(alloc, code, &mut end, allowance)?;
+    Ok(Settled { end, gone, steps })
 }
 
 // Puts what the local steps made of the top in its place, and takes the open shared step, if they didn't use up the allowance.
@@ -163,10 +187,10 @@ fn share(
     ensures ok { IfOk result (λ a. (s : ThreadOf) → thread_at state.old job.thread ≡ Some s → Finishes (program_view code.now.program) job.allowance limit (half_way state.old job s settled) job.thread settled.steps (option_map act_view a) state.new) }
     ensures err { OnErr result (state.new ≡ state.old) }
 {
-    let Settled { end, steps } = settled;
+    let Settled { end, gone, steps } = settled;
     if steps < job.allowance {
-        return state.share(alloc, code, limit, job.thread, job.allowance, end);
+        return state.share(alloc, code, limit, job.thread, gone, end);
     }
-    state.put(alloc, job.thread, job.allowance, end)?;
+    state.put(alloc, job.thread, gone, end)?;
     Ok(None)
 }

@@ -1,6 +1,6 @@
-use Rattle.std.proofs.Common.{Some, ap, sym, ◌∙◌, subst, arith}
+use Rattle.std.proofs.Common.{Some, sym, subst, arith}
 use Rattle.pat_model.specs.Orders.{AscendsFrom}
-use Rattle.pat_model.specs.Steps.{Act, ActNew, ActSend, ActSpawn}
+use Rattle.pat_model.specs.Steps.{ActNew, ActSend}
 use Rattle.pat_core.specs.Views.{program_view}
 use Rattle.pat_reduce.specs.Views.{act_view}
 use Rattle.pat_machine_waits.specs.Noted.{WereNoted}

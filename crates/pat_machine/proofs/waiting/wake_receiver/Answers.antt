@@ -1,4 +1,4 @@
-use Rattle.std.proofs.Common.{◌≡◌, ◌<◌, ℕ, Some, inl, sym, ap, ◌∙◌, subst, arith}
+use Rattle.std.proofs.Common.{◌≡◌, Some, inl, sym, ◌∙◌, subst, arith}
 use Rattle.pat_machine_waits.specs.Waits.{SleepsAt}
 use Rattle.pat_machine.proofs.waiting.wake_receiver.Goals as goal
 

@@ -2,7 +2,7 @@ use Rattle.std.proofs.Common.{subst, sym}
 use Rattle.pat_machine.specs.Parted.{shown}
 use Rattle.pat_machine.specs.Gives.{all_back}
 use Rattle.pat_machine.specs.Driving.{Rounds, GoesOnBy}
-use Rattle.pat_machine.proofs.Rounds.{lent_now, round_none_out, round_less, round_goes_on, rounds_more, goes_on_back, all_back_none, all_back_goes_on}
+use Rattle.pat_machine.proofs.Rounds.{lent_now, round_none_out, round_less, round_goes_on, rounds_more, all_back_none, all_back_goes_on}
 use Rattle.pat_machine.proofs.parts.Parts.drive.Goals as goal
 
 pub loop-job-init : goal.loop-job-init

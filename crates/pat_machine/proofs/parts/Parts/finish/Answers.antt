@@ -27,8 +27,8 @@ share-requires-clause-typed c = λ x at.
     let m = c.args.self.now in
     let p = program_view m.code.program in
     let j = c.args.job in
-    half_typed p m.budget m.limit m.state (map entry_view m.history.items) m.left m.out.items c.requires.kept.stands j.thread c.args.settled.steps x (settled_thread j x c.args.settled) at
-    (settled_run p m.state j c.args.settled c.requires.settled x at).taken
+    half_typed p m.budget m.limit m.state (map entry_view m.history.items) m.left m.out.items c.requires.kept.stands j.thread c.args.settled.steps x (settled_thread x c.args.settled) at
+    (settled_run p m.state j c.args.settled c.requires.settled x at).local.taken
 
 pub follow-requires-clause-were : goal.follow-requires-clause-were
 follow-requires-clause-were c =
@@ -39,13 +39,13 @@ follow-requires-clause-were c =
     record {
       before = m.state;
       kept = s.kept;
-      middle = settled_thread c.args.job s.kept c.args.settled;
+      middle = settled_thread s.kept c.args.settled;
       noted =
           subst (λ l. AreNoted p m.state l c.reserve-3.new.self.sleepers.items) (sym c.in_ok-reserve-3.ensures.awake)
           (subst (λ l. AreNoted p m.state m.waits.awake.items l) (sym c.in_ok-reserve-3.ensures.sleepers) kept.noted);
       ordered = kept.stands.facts.typed.typed.numbers.ordered;
       there = s.there;
-      run = run_of p c.args.job.allowance m.limit _ c.share.new.state c.args.job.thread c.args.settled.steps (option_map act_view c.in_ok-shared.shared) (c.in_ok-shared.ensures.ok s.kept s.there) s.local.within;
+      run = run_of p c.args.job.allowance m.limit _ c.share.new.state c.args.job.thread c.args.settled.steps (option_map act_view c.in_ok-shared.shared) (c.in_ok-shared.ensures.ok s.kept s.there) s.run.local.within;
       next = c.threads_made-newcomer.ensures;
     }
 
