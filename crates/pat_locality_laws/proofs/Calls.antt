@@ -1,14 +1,15 @@
 -- Threads that wait for nothing but a message.
-use Rattle.std.proofs.Common.{◌≡◌, ℕ, true, false, List, Option, Some, None, sym, ap, ◌∙◌, ◌⊎◌, inl, inr, ⊎_elim}
+use Rattle.std.proofs.Common.{◌≡◌, ℕ, ◌+◌, true, false, List, [], ◌∷◌, ◌++◌, Option, Some, None, refl, sym, ap, ◌∙◌, subst, ◌⊎◌, inl, inr, ⊎_elim, arith}
+use Rattle.std.specs.Prelude.{option_and_then}
 use Rattle.std.proofs.lemmas.Bool.{cases_Bool}
 use Rattle.pat_model.specs.Programs.{Program, Guard}
-use Rattle.pat_model.specs.Configs.{Frame, Thread, Config, thread_at, with_thread}
+use Rattle.pat_model.specs.Configs.{Frame, Thread, Message, Config, thread_at, with_thread}
 use Rattle.pat_model.specs.Orders.{IsOrdered}
-use Rattle.pat_model.specs.Steps.{Redex, At, redex, Act, ActSpawn, ActFree, free_at, thread_step}
+use Rattle.pat_model.specs.Steps.{Redex, At, redex, Act, ActSend, ActSpawn, ActFree, free_at, thread_step, step}
 use Rattle.pat_model.specs.Runs.{run_from, shared_step, can_step_thread}
 use Rattle.pat_model_laws.specs.Laws.{IsEnabled}
 use Rattle.pat_model_laws.proofs.Lists.{clash}
-use Rattle.pat_model_laws.proofs.Inversion.{step_of}
+use Rattle.pat_model_laws.proofs.Inversion.{step_of, send_step}
 use Rattle.pat_model_laws.proofs.Enabled.{thread_exact}
 use Rattle.pat_locality_laws.specs.Wakings.{guarded_at, awaited, awaited_at, SendsTo}
 use Rattle.pat_locality_laws.proofs.Needs.{Needs, nothing, freeing, message, enabled_at}
@@ -29,6 +30,25 @@ never_frees : (p : Program) (d : Config) (u : ℕ) (fs : List Frame) (r : Redex)
 never_frees p d u fs (At (Guard x e None cs) env) a f h k = cc
 never_frees p d u fs (At (Guard x e (Some n) cs) env) a f h k = cc
 never_frees p d u fs _ a f h k = cc
+
+one_step : (p : Program) (d : Config) (o : Option Config) → option_and_then (λ x. run_from p x []) o ≡ Some d → o ≡ Some d
+one_step p d None h = cc
+one_step p d (Some x) h = h
+
+last_same : (xs : List Message) (x y : Message) → xs ++ x ∷ [] ≡ xs ++ y ∷ [] → x ≡ y
+last_same [] x y h = cc
+last_same (z ∷ zs) x y h = last_same zs x y cc
+
+-- what is sent has the next number
+sent_next : (p : Program) (c d : Config) (t : ℕ) → step p c (record { thread = t; act = ActSend }) ≡ Some d → (m : Message) → d.messages ≡ c.messages ++ m ∷ [] → m.number + 1 ≡ d.next_message
+sent_next p c d t is m last =
+    let o = step_of p c (record { thread = t; act = ActSend }) d is in
+    let q = send_step p c t o.thread d (redex p o.thread.control) refl o.gives in
+    let own : Message = record { number = c.next_message; mailbox = q.mailbox; tag = q.tag; values = q.values } in
+    let same : own ≡ m = last_same c.messages own m (sym (ap (λ (x : Config). x.messages) q.result) ∙ last) in
+    let number : c.next_message ≡ m.number = ap (λ (x : Message). x.number) same in
+    let next : d.next_message ≡ c.next_message + 1 = ap (λ (x : Config). x.next_message) q.result in
+    omega arith
 
 module _ (p : Program) (c d : Config) (t u : ℕ) (r s q : Thread) (act : Option Act) (a : ℕ) (order : IsOrdered c) (there : thread_at c t ≡ Some r) (run : run_from p (with_thread c t s) (shared_step t act) ≡ Some d) (before : thread_at c u ≡ Some q) (now : thread_at d u ≡ Some q) (awaits : awaited p q ≡ Some a) (still : can_step_thread p c u ≡ false) where
   never : (b : Act) → IsEnabled p c (record { thread = u; act = b }) → ⊥
@@ -52,7 +72,8 @@ module _ (p : Program) (c d : Config) (t u : ℕ) (r s q : Thread) (act : Option
           (λ kept. absurd (never b (enabled_at p c u q b before (gives c kept))))
           (λ new.
           let both : Some m.mailbox ≡ Some a = sym at ∙ awaited_guarded (redex p q.control) a awaits in
-          record { sent = new.0; message = m; last = new.2; mailbox = cc })
+          let taken = one_step p d (step p (with_thread c t s) (record { thread = t; act = ActSend })) (subst (λ b. run_from p (with_thread c t s) (shared_step t b) ≡ Some d) new.0 run) in
+          record { sent = new.0; message = m; last = new.2; next = sent_next p (with_thread c t s) d t taken m new.2; mailbox = cc })
           ((after p c t r s order there act d run).messages.found k m found)
 
 pub messages_call : (p : Program) (c d : Config) (t u : ℕ) (r s q : Thread) (act : Option Act) (a : ℕ) → IsOrdered c → thread_at c t ≡ Some r → run_from p (with_thread c t s) (shared_step t act) ≡ Some d → (t ≡ u → ⊥)

@@ -1,5 +1,5 @@
 -- What a thread's next step looks at beside the thread itself, and which other threads a step may wake.
-use Rattle.std.specs.Prelude.{◌≡◌, ℕ, Bool, false, ◌&&◌, ◌||◌, not, [], ◌∷◌, ◌++◌, Option, Some, None, IsTrue, IsFalse}
+use Rattle.std.specs.Prelude.{◌≡◌, ℕ, ◌+◌, Bool, false, ◌&&◌, ◌||◌, not, [], ◌∷◌, ◌++◌, Option, Some, None, IsTrue, IsFalse}
 use Rattle.pat_model.specs.Values.{Value, Mailbox, value_at}
 use Rattle.pat_model.specs.Programs.{Program, Guard, Send, is_among}
 use Rattle.pat_model.specs.Configs.{Thread, Message, Config, thread_at, thread_refers, message_refers, has_pending, is_reached_by_none_but}
@@ -94,4 +94,5 @@ pub record SendsTo (c : Config) (act : Option Act) (d : Config) (a : ℕ) : Type
   pub sent : act ≡ Some ActSend
   pub message : Message
   pub last : d.messages ≡ c.messages ++ message ∷ []
+  pub next : message.number + 1 ≡ d.next_message
   pub mailbox : message.mailbox ≡ a

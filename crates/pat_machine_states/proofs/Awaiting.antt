@@ -1,13 +1,12 @@
 -- Threads that wait for a message, and the last message.
-use Rattle.std.proofs.Common.{◌≡◌, ℕ, suc, ◌-◌, List, [], ◌∷◌, ◌++◌, map, length, Option, Some, None, refl, sym, ap, ◌∙◌, slice_get, arith}
-use Rattle.std.specs.Prelude.{option_map}
+use Rattle.std.proofs.Common.{◌≡◌, ℕ, ◌+◌, List, [], ◌∷◌, ◌++◌, Option, Some, None, refl, ap, ◌∙◌, subst}
+use Rattle.std.specs.List.{AllByRecursion}
 use Rattle.pat_model.specs.Values.{Value, Const, Mailbox, Env, value_at}
 use Rattle.pat_model.specs.Programs.{Guard}
-use Rattle.pat_model.specs.Configs.{Message}
+use Rattle.pat_model.specs.Configs.{Message, Config}
 use Rattle.pat_model.specs.Steps.{Redex, At, Done, Nowhere}
-use Rattle.pat_reduce_threads.specs.declared.state.Message.{Message as CodeMessage}
-use Rattle.pat_reduce_threads.specs.ThreadViews.{message_view}
 use Rattle.pat_reduce_threads.specs.ThreadActs.{Guarding, guarding, guard_at}
+use Rattle.pat_machine_states.specs.Boxes.{IsLatest}
 use Rattle.pat_locality_laws.specs.Wakings.{mailbox_in, awaited_at}
 
 -- the mailbox, where there is no clause for freeing it
@@ -44,19 +43,11 @@ guard_free r g n h is = awaited_guard r ∙ ap awaited_by h ∙ ap (λ o. withou
 pub guard_unfree : (r : Redex) (g : Guarding) → guard_at r ≡ Some g → g.free ≡ None → awaited_at r ≡ Some g.mailbox
 guard_unfree r g h is = awaited_guard r ∙ ap awaited_by h ∙ ap (λ o. without_free o g.mailbox) is
 
--- the last of the messages
-pub last_message : (xs : List CodeMessage) (ms : List Message) (m : Message) → map message_view xs ≡ ms ++ m ∷ [] → option_map message_view (slice_get xs (length xs - 1)) ≡ Some m
-last_message [] [] m h = cc
-last_message [] (y ∷ ys) m h = cc
-last_message (x ∷ []) [] m h = cc
-last_message (x ∷ []) (y ∷ []) m h = cc
-last_message (x ∷ []) (y ∷ z ∷ ys) m h = cc
-last_message (x ∷ w ∷ xs) [] m h = cc
-last_message (x ∷ w ∷ xs) (y ∷ ys) m h =
-    let less : length (x ∷ w ∷ xs) - 1 ≡ suc (length (w ∷ xs) - 1) = omega arith in
-    ap (λ k. option_map message_view (slice_get (x ∷ w ∷ xs) k)) less ∙ last_message (w ∷ xs) ys m cc
+last_of : {A : Type 0} (P : A → Type 0) (xs : List A) (x : A) → AllByRecursion P (xs ++ x ∷ []) → P x
+last_of P [] x h = h.0
+last_of P (y ∷ ys) x h = last_of P ys x h.1
 
--- a result that was taken from it
-pub mailbox_of_last : (o : Option CodeMessage) (m : Message) → option_map message_view o ≡ Some m → option_map (λ (x : CodeMessage). x.mailbox) o ≡ Some m.mailbox
-mailbox_of_last None m h = cc
-mailbox_of_last (Some x) m h = let same : message_view x ≡ m = cc in ap (λ (y : Message). Some y.mailbox) same
+-- the mailbox of the last message, where that was sent last
+pub latest_of : (latest : Option ℕ) (c : Config) (ms : List Message) (m : Message) → IsLatest latest c → c.messages ≡ ms ++ m ∷ [] → m.number + 1 ≡ c.next_message → latest ≡ Some m.mailbox
+latest_of latest c ms m all last next =
+    last_of (λ (x : Message). x.number + 1 ≡ c.next_message → latest ≡ Some x.mailbox) ms m (subst (AllByRecursion (λ (x : Message). x.number + 1 ≡ c.next_message → latest ≡ Some x.mailbox)) last all) next

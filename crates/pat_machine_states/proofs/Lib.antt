@@ -1,6 +1,8 @@
 mod Opened
 mod Prospected
 mod Placed
-mod Ascending
 mod Awaiting
 mod Asides
+mod Bare
+mod Keeping
+mod Referring

@@ -15,7 +15,9 @@ use Rattle.pat_model.specs.Runs.{can_step_thread}
 use Rattle.std.proofs.lemmas.Bool.{false_from_ne_true}
 use Rattle.pat_model_laws.proofs.Enabled.{thread_exact}
 use Rattle.pat_reduce_threads.specs.declared.state.ThreadState.{ThreadState}
-use Rattle.pat_reduce_threads.specs.ThreadViews.{thread_view}
+use Rattle.pat_reduce_threads.specs.declared.state.Control.{Control as CodeControl}
+use Rattle.pat_reduce_threads.specs.ThreadViews.{thread_view, control_view}
+use Rattle.pat_model.specs.Steps.{thread_of}
 use Rattle.pat_reduce.specs.Places.{IsPlace}
 use Rattle.pat_reduce.specs.Views.{threads_view}
 use Rattle.pat_machine_states.specs.Places.{Ascend}
@@ -114,3 +116,22 @@ pub absent : (p : Program) (c : Config) (t : ℕ) → thread_at c t ≡ None →
 absent p c t none = false_from_ne_true (can_step_thread p c t) (λ can.
     let a = (thread_exact p c t).0 can in
     cc)
+
+at_within : {A : Type 0} (xs : List A) (i : ℕ) → i < length xs → (x : A) × (slice_get xs i ≡ Some x)
+at_within [] i h = absurd (omega arith)
+at_within (x ∷ xs) zero h = (x, refl)
+at_within (x ∷ xs) (suc i) h = at_within xs i (omega arith)
+
+-- the thread at a place goes on with a control
+pub goes_on : (threads new : Threads) (t i : ℕ) (k : CodeControl) → IsPlace threads t i → ((e : ℕ × ThreadState) → slice_get threads i ≡ Some e → new ≡ slice_set threads i (e.0, record { control = k; frames = e.1.frames }))
+    → (s : Thread) → lookup (nat_eq t) (threads_view threads) ≡ Some s → threads_view new ≡ set_value (nat_eq t) (threads_view threads) (thread_of (control_view k) s.frames)
+goes_on threads new t i k at set s there =
+    let e = at_within threads i at.within in
+    let own = at.state e.0 e.1 in
+    let both : Some (thread_view e.0.1) ≡ Some s = sym own.1 ∙ there in
+    let same : thread_view e.0.1 ≡ s = cc in
+    let after : ThreadState = record { control = k; frames = e.0.1.frames } in
+    ap threads_view (set e.0 e.1)
+    ∙ ap (λ n. threads_view (slice_set threads i (n, after))) own.0
+    ∙ sym (at.changed after)
+    ∙ ap (λ (x : Thread). set_value (nat_eq t) (threads_view threads) (thread_of (control_view k) x.frames)) same

@@ -8,7 +8,6 @@ ghost use Rattle.pat_commits.specs.Opens.{has_space};
 ghost use Rattle.pat_machine_states.specs.Opening.{OpenAct, is_sending};
 
 use crate::State;
-use crate::places::place_of;
 use pat_executable::Executable;
 use pat_reduce::Act;
 
@@ -30,8 +29,8 @@ impl State {
         ensures enabled { EnabledAct (program_view code.now.program) self.now thread (option_map act_view result) }
         ensures least { IsOrdered self.now → IsLeast (program_view code.now.program) self.now thread (option_map act_view result) }
     {
-        match place_of(self.config.threads.as_slice(), thread) {
-            Some(place) => self.config.act_at_place(code, thread, place),
+        match self.thread(thread) {
+            Some(state) => self.act_of(code, thread, state),
             None => None,
         }
     }
@@ -47,7 +46,7 @@ impl State {
     fn has_space(&self, limit: u32) -> bool
         ensures { result ≡ has_space self.now limit }
     {
-        self.config.messages.len() < limit as usize
+        self.mailboxes.pending() < limit
     }
 }
 

@@ -4,15 +4,13 @@ ghost use Rattle.pat_model.specs.Orders.{IsOrdered};
 ghost use Rattle.pat_model.specs.Configs.{Thread as ThreadOf, thread_at, with_thread};
 ghost use Rattle.pat_core.specs.Views.{program_view};
 ghost use Rattle.pat_reduce_threads.specs.ThreadViews.{thread_view};
-ghost use Rattle.pat_model.specs.Steps.{step as after_step};
-ghost use Rattle.pat_reduce_values.specs.Results.{StepGives};
-ghost use Rattle.pat_reduce.specs.Views.{act_view, step_view};
+ghost use Rattle.pat_reduce.specs.Views.{act_view};
 ghost use Rattle.pat_commits.specs.Commits.{Shares};
 ghost use Rattle.pat_commits.specs.Tops.{below, over};
 ghost use Rattle.pat_commits.specs.Machines.{HasRoom, IsTypedBySome};
+ghost use Rattle.pat_machine_states.specs.Stepping.{ReferToLive};
 
 use crate::State;
-use crate::places::place_of;
 use pat_executable::Executable;
 use pat_reduce::{Act, Step, StepError, ThreadState};
 use std::alloc::{AllocError, Global};
@@ -59,6 +57,7 @@ impl State {
     ) -> Result<Option<Act>, AllocError>
         requires room { HasRoom self.old }
         requires ordered { IsOrdered self.old }
+        requires live { ReferToLive self.old }
         ensures ok { IfOk result (λ a. Shares (program_view code.now.program) limit self.old thread (option_map act_view a) self.new) }
         ensures err { OnErr result (self.new ≡ self.old) }
     {
@@ -70,17 +69,6 @@ impl State {
             // The act is enabled.
             Err(StepError::Disabled) => unreachable!(),
             Err(StepError::NoMemory) => Err(AllocError),
-        }
-    }
-
-    fn step(&mut self, alloc: Global, code: &Executable, step: &Step) -> Result<(), StepError>
-        requires room { HasRoom self.old }
-        requires ordered { IsOrdered self.old }
-        ensures { StepGives (λ c. c) (after_step (program_view code.now.program) self.old (step_view step.now)) self.old self.new result }
-    {
-        match place_of(self.config.threads.as_slice(), step.thread) {
-            Some(place) => self.config.step_at_place(alloc, code, step, place),
-            None => Err(StepError::Disabled),
         }
     }
 }

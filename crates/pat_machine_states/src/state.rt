@@ -6,33 +6,40 @@ ghost use Rattle.pat_reduce_threads.specs.ThreadViews.{thread_view};
 
 use crate::places::{place_of, state_of, swap_at};
 use pat_executable::Executable;
+use pat_mailboxes::Mailboxes;
 use pat_reduce::{Config, ThreadState};
 use pat_sequences::Text;
 use std::alloc::{AllocError, Global};
 use std::marker::Model;
 
-/// A configuration, kept as lists in ascending order of number. Contracts see the configuration of the definitions, however it is kept.
+/// A configuration, whose messages are kept by mailbox. Contracts see the configuration of the definitions, however it is kept.
 pub struct State {
+    /// All but the messages, as lists in ascending order of number.
     pub(crate) config: Config,
+    pub(crate) mailboxes: Mailboxes,
+    /// The mailbox of the message that was sent last.
+    pub(crate) latest: Option<u32>,
 }
 
 impl Drop for State {
     fn drop(self) {
-        let State { config: _ } = self;
+        let State {
+            config: _,
+            mailboxes: _,
+            latest: _,
+        } = self;
     }
 }
 
 impl Model for State {
     ghost use Rattle.pat_model.specs.Configs.{Config};
-    ghost use Rattle.pat_reduce.specs.Views.{config_view};
+    ghost use Rattle.pat_machine_states.specs.Boxes.{state_view, IsState};
 
     ghost Value = { Config };
 
-    ghost view = { λ s. config_view s.config };
+    ghost view = { λ s. state_view s.config s.mailboxes.mailboxes };
 
-    ghost use Rattle.pat_machine_states.specs.Places.{Ascend};
-
-    ghost invariant = { λ s. Ascend s.config.threads };
+    ghost invariant = { λ s. IsState s.config s.latest s.mailboxes.mailboxes };
 }
 
 impl State {
@@ -41,7 +48,12 @@ impl State {
         ensures { IfOk result (λ s. s ≡ start (program_view code.now.program)) }
     {
         let config = Config::start(alloc, code)?;
-        Ok(State { config })
+        let mailboxes = Mailboxes::fixed(alloc, 0)?;
+        Ok(State {
+            config,
+            mailboxes,
+            latest: None,
+        })
     }
 
     /// The state of a thread.

@@ -1,5 +1,5 @@
 // Threads that wait for a message.
-ghost use Rattle.std.specs.Prelude.{◌≡◌, List, [], ◌∷◌, ◌++◌, Some, IfSome};
+ghost use Rattle.std.specs.Prelude.{◌≡◌, ◌+◌, List, [], ◌∷◌, ◌++◌, Some, IfSome};
 ghost use Rattle.pat_model.specs.Configs.{Message as MessageOf};
 ghost use Rattle.pat_core.specs.Views.{program_view};
 ghost use Rattle.pat_reduce_threads.specs.ThreadViews.{thread_view};
@@ -23,14 +23,11 @@ impl State {
         Some(mailbox)
     }
 
-    /// The mailbox of the last message.
+    /// The mailbox of the last message, where that is the one that was sent last.
     pub fn last_mailbox(&self) -> Option<u32>
-        ensures { (ms : List MessageOf) (m : MessageOf) → self.now.messages ≡ ms ++ m ∷ [] → result ≡ Some m.mailbox }
+        ensures { (ms : List MessageOf) (m : MessageOf) → self.now.messages ≡ ms ++ m ∷ [] → m.number + 1 ≡ self.now.next_message → result ≡ Some m.mailbox }
     {
-        match self.config.messages.as_slice().last() {
-            Some(message) => Some(message.mailbox),
-            None => None,
-        }
+        self.latest
     }
 }
 

@@ -1,5 +1,5 @@
 -- Threads that are noted, after one of them changed.
-use Rattle.std.proofs.Common.{◌≡◌, ℕ, true, false, cond, ◌||◌, not, nat_eq, List, [], ◌∷◌, ◌++◌, Option, Some, None, refl, sym, ap, ◌∙◌, subst, ◌⊎◌, inl, inr, ⊎_elim, arith}
+use Rattle.std.proofs.Common.{◌≡◌, ℕ, ◌+◌, true, false, cond, ◌||◌, not, nat_eq, List, [], ◌∷◌, ◌++◌, Option, Some, None, refl, sym, ap, ◌∙◌, subst, ◌⊎◌, inl, inr, ⊎_elim, arith}
 use Rattle.std.specs.Prelude.{find, filter}
 use Rattle.std.proofs.lemmas.Bool.{cases_Bool, and_parts, eqb-true, eqb-false}
 use Rattle.pat_model.specs.Programs.{Program, Function, function_at, is_among}
@@ -102,11 +102,11 @@ kept_with_more c d w v more = record {
 }
 
 -- the thread that slept where the message came was woken
-pub kept_with_woken : (c d : Config) (w v : Waits) → ((u : ℕ) → IsAwake w u → IsAwake v u) → ((a u : ℕ) → SleepsAt w a u → SleepsAt v a u ⊎ IsAwake v u) → ((ms : List Message) (m : Message) (u : ℕ) → d.messages ≡ ms ++ m ∷ [] → SleepsAt w m.mailbox u → IsAwake v u) → Keeps c (Some ActSend) d w v
+pub kept_with_woken : (c d : Config) (w v : Waits) → ((u : ℕ) → IsAwake w u → IsAwake v u) → ((a u : ℕ) → SleepsAt w a u → SleepsAt v a u ⊎ IsAwake v u) → ((ms : List Message) (m : Message) (u : ℕ) → d.messages ≡ ms ++ m ∷ [] → m.number + 1 ≡ d.next_message → SleepsAt w m.mailbox u → IsAwake v u) → Keeps c (Some ActSend) d w v
 kept_with_woken c d w v awake asleep woken = record {
   awake = awake;
   asleep = asleep;
-  called = λ a u sent s. woken c.messages sent.message u sent.last (subst (λ b. SleepsAt w b u) (sym sent.mailbox) s);
+  called = λ a u sent s. woken c.messages sent.message u sent.last sent.next (subst (λ b. SleepsAt w b u) (sym sent.mailbox) s);
 }
 
 module _ (p : Program) (w v : Waits) (t n : ℕ) (d : Config) (were : WereNoted p w t (Some ActSpawn) n d) where

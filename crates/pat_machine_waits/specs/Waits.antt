@@ -79,7 +79,7 @@ pub record Wakes (w : Waits) (a : ℕ) (v : Waits) : Type 0 where
 pub record WakesReceiver (d : Config) (w v : Waits) : Type 0 where
   pub order : IsInOrder v
   pub others : (u : ℕ) → IsAwake w u → IsAwake v u
-  pub woken : (ms : List Message) (m : Message) (u : ℕ) → d.messages ≡ ms ++ m ∷ [] → SleepsAt w m.mailbox u → IsAwake v u
+  pub woken : (ms : List Message) (m : Message) (u : ℕ) → d.messages ≡ ms ++ m ∷ [] → m.number + 1 ≡ d.next_message → SleepsAt w m.mailbox u → IsAwake v u
   pub asleep : (b u : ℕ) → SleepsAt w b u → SleepsAt v b u ⊎ IsAwake v u
   pub space : TakesOne w v
 

@@ -1,4 +1,5 @@
 mod Messages
 mod Keeping
 mod Seeing
-mod Firsts
+-- for the crates above
+pub mod Firsts

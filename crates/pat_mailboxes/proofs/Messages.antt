@@ -1,9 +1,10 @@
 -- Messages in order, and lists of mailboxes with one that changes.
-use Rattle.std.proofs.Common.{◌≡◌, ℕ, zero, suc, ◌+◌, ◌<◌, ◌≤◌, List, [], ◌∷◌, ◌++◌, ⊎_elim, length, remove, slice_set, Option, Some, refl, sym, ap, subst, arith}
-use Rattle.std.specs.List.{AllByRecursion}
+use Rattle.std.proofs.Common.{◌≡◌, ℕ, Bool, false, ◌||◌, zero, suc, ◌+◌, ◌<◌, ◌≤◌, List, [], ◌∷◌, ◌++◌, ⊎_elim, length, remove, slice_set, Option, Some, refl, sym, ap, ◌∙◌, subst, arith}
+use Rattle.std.specs.List.{AllByRecursion, list_any}
+use Rattle.std.proofs.lemmas.List.{nil_from_length}
 use Rattle.std.proofs.lemmas.Bool.{cases_eq}
 use Rattle.pat_reduce_threads.specs.declared.state.Message.{Message}
-use Rattle.pat_mailboxes.specs.Mailboxes.{Mailbox, mailbox_at, pending_in, pending_at, all_pending, Ascend, IsInOrder, AreInOrder}
+use Rattle.pat_mailboxes.specs.Mailboxes.{Mailbox, mailbox_at, pending_in, pending_at, all_pending, some_pending, Ascend, IsInOrder, AreInOrder}
 
 all_push : {X : Type 0} (P : X → Type 0) (xs : List X) (x : X) → AllByRecursion P xs → P x → AllByRecursion P (xs ++ x ∷ [])
 all_push P [] x a p = (p, tt)
@@ -74,3 +75,11 @@ pub all-part : (ms : List (Option Mailbox)) (b : ℕ) → length (pending_at ms 
 all-part [] b = omega arith
 all-part (m ∷ ms) zero = omega arith
 all-part (m ∷ ms) (suc b) = let rest = all-part ms b in omega arith
+
+-- where nothing is pending, nothing passes
+pub none_passes : (test : Message → Bool) (ms : List (Option Mailbox)) → all_pending ms ≡ 0 → some_pending test ms ≡ false
+none_passes test [] h = refl
+none_passes test (o ∷ ms) h =
+    let rest : all_pending ms ≡ 0 = omega arith in
+    let own : pending_in o ≡ [] = nil_from_length (pending_in o) (omega arith) in
+    ap (λ l. list_any test l || some_pending test ms) own ∙ none_passes test ms rest

@@ -143,6 +143,9 @@ impl Mailboxes {
     pub fn refers(&self, mailbox: u32) -> bool
         ensures { result ≡ some_pending (refers_to mailbox) self.now.mailboxes }
     {
+        if self.pending() == 0 {
+            return false;
+        }
         let test = Refers { mailbox };
         for entry in self.store.entries.as_slice() {
             if has_passing(&self.store.pool, entry, &test) {

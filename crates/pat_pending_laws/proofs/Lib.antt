@@ -1,6 +1,6 @@
--- the crate's own: lists, messages in order, mailboxes of which one changes, and the laws
-mod Kept
-mod Insertions
-mod Boxes
-mod Changes
-mod LookUps
+-- for the crates above
+pub mod Kept
+pub mod Insertions
+pub mod Boxes
+pub mod Changes
+pub mod LookUps

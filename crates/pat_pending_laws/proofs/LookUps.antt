@@ -22,7 +22,7 @@ first_is_own boxes b test own only =
     find_kept test (λ m. nat_eq m.mailbox b) (λ m pass. eq-eqb m.mailbox b (only m pass)) (messages_of boxes) ∙ ap (find test) (own_are_pending boxes b own)
 
 -- where messages ascend, a test of the message of a number is one of the message
-by_number : (test : Option Message → Bool) (ms : List Message) → Ascend ms → find (λ m. test (found ms m.number)) ms ≡ find (λ m. test (Some m)) ms
+pub by_number : (test : Option Message → Bool) (ms : List Message) → Ascend ms → find (λ m. test (found ms m.number)) ms ≡ find (λ m. test (Some m)) ms
 by_number test ms ascends =
     find_same (λ m. test (found ms m.number)) (λ m. test (Some m)) ms
     (all_in (λ m. test (found ms m.number) ≡ test (Some m)) ms (λ m at. ap test (found_by_number (λ n. n.number) 0 ms m ascends at)))

@@ -1,7 +1,7 @@
 mod Places
-mod Candidates
 mod Taken
-mod Shared
-mod LeastActs
 -- for the crates above
+pub mod Shared
+pub mod Candidates
+pub mod LeastActs
 pub mod StepNumbers

@@ -8,8 +8,8 @@ returns-in-Some c =
     record {
       order = k.order;
       others = k.others;
-      woken = λ ms m u last s.
-          let both : Some m.mailbox ≡ Some c.in-Some.mailbox = sym (c.last_mailbox.ensures ms m last) ∙ c.in-Some.is in
+      woken = λ ms m u last next s.
+          let both : Some m.mailbox ≡ Some c.in-Some.mailbox = sym (c.last_mailbox.ensures ms m last next) ∙ c.in-Some.is in
           let same : m.mailbox ≡ c.in-Some.mailbox = cc in
           k.woken u (subst (λ a. SleepsAt c.args.waits.now a u) same s);
       asleep = k.asleep;
@@ -20,7 +20,7 @@ pub returns-in-None : goal.returns-in-None
 returns-in-None c = record {
   order = c.requires.order;
   others = λ u on. on;
-  woken = λ ms m u last s. let some = c.last_mailbox.ensures ms m last in let none = c.in-None.is in cc;
+  woken = λ ms m u last next s. let some = c.last_mailbox.ensures ms m last next in let none = c.in-None.is in cc;
   asleep = λ b u s. inl s;
   space = record { len = omega arith; capacity = omega arith };
 }

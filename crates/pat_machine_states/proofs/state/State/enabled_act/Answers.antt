@@ -1,14 +1,22 @@
-use Rattle.std.proofs.Common.{sym, ap, ◌∙◌, nat_eq}
-use Rattle.std.specs.Map.{lookup}
-use Rattle.pat_model.specs.Configs.{Config, thread_at}
+use Rattle.std.proofs.Common.{sym, subst}
 use Rattle.pat_core.specs.Views.{program_view}
-use Rattle.pat_reduce.specs.Views.{threads_view}
+use Rattle.pat_reduce_threads.specs.ThreadViews.{thread_view}
+use Rattle.pat_reduce.specs.Acts.{EnabledAct, IsLeast, act_at, plain_act}
+use Rattle.pat_reduce.proofs.Candidates.{act_found, first_found}
+use Rattle.pat_reduce.proofs.LeastActs.{least_of}
 use Rattle.pat_machine_states.proofs.Placed.{absent}
 use Rattle.pat_machine_states.proofs.state.State.enabled_act.Goals as goal
 
+pub returns-in-Some-clause-enabled : goal.returns-in-Some-clause-enabled
+returns-in-Some-clause-enabled c =
+    let p = program_view c.args.code.now.program in
+    subst (EnabledAct p c.args.self.now c.args.thread) (sym c.act_of.ensures) (act_found p c.args.self.now c.args.thread (thread_view c.in-Some.state.now) (sym c.in-Some.ensures))
+
+pub returns-in-Some-clause-least : goal.returns-in-Some-clause-least
+returns-in-Some-clause-least c ordered =
+    let p = program_view c.args.code.now.program in
+    subst (IsLeast p c.args.self.now c.args.thread) (sym c.act_of.ensures)
+    (least_of p c.args.self.now c.args.thread _ ordered (first_found p c.args.self.now c.args.thread (thread_view c.in-Some.state.now) (sym c.in-Some.ensures)))
+
 pub returns-in-None-clause-enabled : goal.returns-in-None-clause-enabled
-returns-in-None-clause-enabled c =
-    absent (program_view c.args.code.now.program) c.args.self.now c.args.thread
-    (ap (λ (d : Config). thread_at d c.args.thread) (sym c.self.view_is)
-    ∙ ap (λ l. lookup (nat_eq c.args.thread) (threads_view l)) (sym c.as_slice.ensures)
-    ∙ c.in-None.ensures.none)
+returns-in-None-clause-enabled c = absent (program_view c.args.code.now.program) c.args.self.now c.args.thread (sym c.in-None.ensures)

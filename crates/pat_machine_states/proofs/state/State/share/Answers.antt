@@ -8,7 +8,9 @@ use Rattle.pat_reduce.specs.Views.{act_view}
 use Rattle.pat_commits.specs.Tops.{below}
 use Rattle.pat_commit_laws.proofs.Exchanges.{frames_after, ordered_on_top, share_over}
 use Rattle.pat_machine_states.specs.Aside.{aside_view}
+use Rattle.pat_machine_states.specs.Stepping.{ReferToLive}
 use Rattle.pat_machine_states.proofs.Asides.{top_there, room_there, back_there}
+use Rattle.pat_machine_states.proofs.Referring.{refer_on_top}
 use Rattle.pat_machine_states.proofs.state.State.share.Goals as goal
 
 pub take_open-requires-clause-ordered : goal.take_open-requires-clause-ordered
@@ -17,6 +19,12 @@ take_open-requires-clause-ordered c =
     let a = c.in_ok-kept.ensures.ok in
     subst IsOrdered (sym a.put)
     (ordered_on_top c.args.self.now c.args.thread (thread_view c.args.top) (below c.args.gone s.0) (c.requires.typed s.0 s.1).typed.numbers.ordered)
+
+pub take_open-requires-clause-live : goal.take_open-requires-clause-live
+take_open-requires-clause-live c =
+    let s = c.requires.there in
+    let a = c.in_ok-kept.ensures.ok in
+    subst ReferToLive (sym a.put) (refer_on_top c.args.self.now c.args.thread (thread_view c.args.top) (below c.args.gone s.0) (c.requires.typed s.0 s.1).typed.numbers.threads_live)
 
 pub cover-requires : goal.cover-requires
 cover-requires c = λ r at.

@@ -9,5 +9,11 @@ use Rattle.pat_machine_states.proofs.state.State.swap.Goals as goal
 -- the numbers stay
 pub invariant_of-self : goal.invariant_of-self
 invariant_of-self c =
-    subst (λ l. AscendsFrom 0 (keys_of l)) (sym c.swap_at.ensures.after)
-    (subst (AscendsFrom 0) (sym (keys_of-set (threads_view c.self.inside.config.threads) c.args.thread (thread_view c.args.state))) c.self.invariant)
+    let was = c.self.invariant in
+    record {
+      threads =
+          subst (λ l. AscendsFrom 0 (keys_of l)) (sym c.swap_at.ensures.after)
+          (subst (AscendsFrom 0) (sym (keys_of-set (threads_view c.self.inside.config.threads) c.args.thread (thread_view c.args.state))) was.threads);
+      none = was.none;
+      boxes = record { live = was.boxes.live; numbered = was.boxes.numbered; kept = was.boxes.kept; last = was.boxes.last };
+    }

@@ -1,6 +1,6 @@
 use Rattle.std.proofs.Common.{◌≡◌, ◌++◌, drop}
 use Rattle.pat_reduce.specs.Views.{threads_view}
-use Rattle.pat_machine_states.proofs.copies.copy_threads.Given as goal
+use Rattle.pat_machine_pending.proofs.copies.copy_threads.Given as goal
 
 -- the copies so far, and what is left
 abbrev pub invariant-loop-entry : goal.invariant-loop-entry

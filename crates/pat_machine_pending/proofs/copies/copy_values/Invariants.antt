@@ -1,6 +1,6 @@
 use Rattle.std.proofs.Common.{◌≡◌, ◌++◌, drop, map}
 use Rattle.pat_reduce_values.specs.ValueViews.{value_view}
-use Rattle.pat_machine_states.proofs.copies.copy_values.Given as goal
+use Rattle.pat_machine_pending.proofs.copies.copy_values.Given as goal
 
 -- the copies so far, and what is left
 abbrev pub invariant-loop-value : goal.invariant-loop-value

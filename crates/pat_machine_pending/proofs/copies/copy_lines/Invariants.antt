@@ -1,5 +1,5 @@
 use Rattle.std.proofs.Common.{◌≡◌, ◌++◌, drop}
-use Rattle.pat_machine_states.proofs.copies.copy_lines.Given as goal
+use Rattle.pat_machine_pending.proofs.copies.copy_lines.Given as goal
 
 -- the copies so far, and what is left
 abbrev pub invariant-loop-line : goal.invariant-loop-line

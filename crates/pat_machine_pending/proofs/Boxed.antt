@@ -1,0 +1,99 @@
+-- Mailboxes as code keeps them, and as the laws of pending messages see them.
+use Rattle.std.proofs.Common.{◌≡◌, ℕ, zero, suc, ◌+◌, ◌<◌, Bool, true, false, not, ◌||◌, nat_eq, List, [], ◌∷◌, ◌++◌, map, length, remove, take, Option, Some, None, slice_get, slice_set, refl, sym, ap, ◌∙◌, subst, arith}
+use Rattle.std.specs.Prelude.{option_map, is_some, filter}
+use Rattle.std.specs.List.{AllByRecursion, list_any}
+use Rattle.std.proofs.lemmas.List.{map-append, length-map}
+use Rattle.pat_model.specs.Configs.{Message, message_refers, has_pending}
+use Rattle.pat_reduce_threads.specs.declared.state.Message.{Message as CodeMessage}
+use Rattle.pat_reduce_threads.specs.ThreadViews.{message_view}
+use Rattle.pat_pending_laws.specs.Pending.{messages_of, all_of, in_order, count_of, box_at, listed, pending_at}
+use Rattle.pat_pending_laws.proofs.Kept.{any_kept, any_joined}
+use Rattle.pat_pending_laws.proofs.Insertions.{filter_in_order, in_order_length}
+use Rattle.pat_mailboxes.specs.Mailboxes.{Mailbox, IsLive, mailbox_at, pending_in, all_pending, refers_to, some_pending, pending_at as pending_of}
+use Rattle.pat_machine_pending.specs.Boxes.{box_view, boxes_view}
+
+pub pending_view : (ms : List (Option Mailbox)) (b : ℕ) → pending_at (boxes_view ms) b ≡ map message_view (pending_of ms b)
+pending_view [] b = refl
+pending_view (None ∷ ms) zero = refl
+pending_view (Some m ∷ ms) zero = refl
+pending_view (o ∷ ms) (suc b) = pending_view ms b
+
+pub live_view : (ms : List (Option Mailbox)) (b : ℕ) → is_some (box_at (boxes_view ms) b) ≡ is_some (mailbox_at ms b)
+live_view [] b = refl
+live_view (None ∷ ms) zero = refl
+live_view (Some m ∷ ms) zero = refl
+live_view (o ∷ ms) (suc b) = live_view ms b
+
+live_in : (o : Option Mailbox) → is_some o ≡ true → (m : Mailbox) × (o ≡ Some m)
+live_in None h = absurd cc
+live_in (Some m) h = (m, refl)
+
+pub is_live : (ms : List (Option Mailbox)) (b : ℕ) → is_some (mailbox_at ms b) ≡ true → IsLive ms b
+is_live ms b h = live_in (mailbox_at ms b) h
+
+none_in : (o : Option Mailbox) → is_some o ≡ false → o ≡ None
+none_in None h = refl
+none_in (Some m) h = absurd cc
+
+-- nothing is pending in a mailbox that isn't live
+pub none_pending : (ms : List (Option Mailbox)) (b : ℕ) → is_some (mailbox_at ms b) ≡ false → pending_of ms b ≡ []
+none_pending ms b h = ap pending_in (none_in (mailbox_at ms b) h)
+
+pub set_view : (ms : List (Option Mailbox)) (b : ℕ) (o : Option Mailbox) → boxes_view (slice_set ms b o) ≡ slice_set (boxes_view ms) b (box_view o)
+set_view [] b o = refl
+set_view (m ∷ ms) zero o = refl
+set_view (m ∷ ms) (suc b) o = ap (λ l. box_view m ∷ l) (set_view ms b o)
+
+pub push_view : (ms : List (Option Mailbox)) (o : Option Mailbox) → boxes_view (ms ++ o ∷ []) ≡ boxes_view ms ++ box_view o ∷ []
+push_view ms o = map-append box_view ms (o ∷ [])
+
+pub map_remove : {A B : Type 0} (f : A → B) (xs : List A) (i : ℕ) → map f (remove xs i) ≡ remove (map f xs) i
+map_remove f [] zero = refl
+map_remove f [] (suc i) = refl
+map_remove f (x ∷ xs) zero = refl
+map_remove f (x ∷ xs) (suc i) = ap (λ l. f x ∷ l) (map_remove f xs i)
+
+pub map_get : {A B : Type 0} (f : A → B) (xs : List A) (i : ℕ) (x : A) → slice_get xs i ≡ Some x → slice_get (map f xs) i ≡ Some (f x)
+map_get f [] i x h = absurd cc
+map_get f (y ∷ ys) zero x h = let same : y ≡ x = cc in ap (λ z. Some (f z)) same
+map_get f (y ∷ ys) (suc i) x h = map_get f ys i x h
+
+pub count_view : (ms : List (Option Mailbox)) → count_of (boxes_view ms) ≡ all_pending ms
+count_view [] = refl
+count_view (None ∷ ms) = let rest = count_view ms in omega arith
+count_view (Some m ∷ ms) = let own = length-map m.pending message_view in let rest = count_view ms in omega arith
+
+any_map : {A B : Type 0} (g : A → B) (f : B → Bool) (xs : List A) → list_any f (map g xs) ≡ list_any (λ x. f (g x)) xs
+any_map g f [] = refl
+any_map g f (x ∷ xs) = ap (λ b. f (g x) || b) (any_map g f xs)
+
+any_in_order : (f : Message → Bool) (ms : List Message) → list_any f (in_order ms) ≡ list_any f ms
+any_in_order f ms =
+    any_kept f (in_order ms)
+    ∙ ap (λ l. not (nat_eq (length l) 0)) (filter_in_order f ms)
+    ∙ ap (λ n. not (nat_eq n 0)) (in_order_length (filter f ms))
+    ∙ sym (any_kept f ms)
+
+any_all : (a : ℕ) (ms : List (Option Mailbox)) → list_any (message_refers a) (all_of (boxes_view ms)) ≡ some_pending (refers_to a) ms
+any_all a [] = refl
+any_all a (None ∷ ms) = any_all a ms
+any_all a (Some m ∷ ms) =
+    any_joined (message_refers a) (map message_view m.pending) (all_of (boxes_view ms))
+    ∙ ap (λ b. b || list_any (message_refers a) (all_of (boxes_view ms))) (any_map message_view (message_refers a) m.pending)
+    ∙ ap (λ b. list_any (refers_to a) m.pending || b) (any_all a ms)
+
+-- whether a message refers to a mailbox
+pub refers_view : (a : ℕ) (ms : List (Option Mailbox)) → some_pending (refers_to a) ms ≡ list_any (message_refers a) (messages_of (boxes_view ms))
+refers_view a ms = sym (any_in_order (message_refers a) (all_of (boxes_view ms)) ∙ any_all a ms)
+
+pub all_unmap : {A B : Type 0} (f : A → B) (P : B → Type 0) (xs : List A) → AllByRecursion P (map f xs) → AllByRecursion (λ x. P (f x)) xs
+all_unmap f P [] h = tt
+all_unmap f P (x ∷ xs) h = (h.0, all_unmap f P xs h.1)
+
+pub in_length : {A : Type 0} (xs : List A) (i : ℕ) (x : A) → slice_get xs i ≡ Some x → i < length xs
+in_length [] i x h = absurd cc
+in_length (y ∷ ys) zero x h = omega arith
+in_length (y ∷ ys) (suc i) x h = let rest = in_length ys i x h in omega arith
+
+pub unmap_get : {A B : Type 0} (f : A → B) (xs : List A) (i : ℕ) (y : B) → slice_get (map f xs) i ≡ Some y → i < length xs
+unmap_get f xs i y h = let l = in_length (map f xs) i y h in let s = length-map xs f in omega arith

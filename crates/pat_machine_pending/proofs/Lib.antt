@@ -1,0 +1,5 @@
+-- for the crates above
+pub mod Boxed
+pub mod Delivering
+-- the crate's own
+mod Sorting
