@@ -26,13 +26,14 @@ use Rattle.pat_pending_laws.proofs.Insertions.{all_in_order}
 use Rattle.pat_pending_laws.proofs.Boxes.{pending_all}
 use Rattle.pat_pending_laws.proofs.Changes.{makes_last, sends_last, takes_one, frees_one}
 use Rattle.pat_pending_laws.proofs.LookUps.{pending_is_own, live_is_listed, all_are_counted}
-use Rattle.pat_mailboxes.specs.Mailboxes.{Mailbox, IsLive, named_at, mailbox_at, all_pending, refers_to, some_pending, pending_at as pending_of}
+use Rattle.pat_mailboxes.specs.Mailboxes.{Mailbox, IsLive, named_at, mailbox_at, all_pending, refers_to, pending_at as pending_of}
 use Rattle.pat_machine_states.specs.Places.{Ascend}
 use Rattle.pat_machine_states.specs.Boxes.{with_messages, state_view, IsLatest, AreOf, IsState}
 use Rattle.pat_machine_pending.specs.Boxes.{boxes_view}
 use Rattle.pat_machine_pending.specs.Deliveries.{IsDelivery}
 use Rattle.pat_machine_states.specs.Stepping.{is_beside, ReferToLive, guarded_in}
 use Rattle.pat_machine_states.proofs.Bare.{bare, behind, beside_step, beside_left, new_step_bare, new_made, send_step_bare, send_of, free_of, free_leaves}
+use Rattle.pat_machine_states.proofs.Walks.{any_live}
 use Rattle.pat_machine_pending.proofs.Boxed.{pending_view, live_view, is_live, none_pending, set_view, push_view, map_remove, all_unmap, count_view, refers_view}
 
 pub no_messages : (ms : List CodeMessage) → map message_view ms ≡ [] → ms ≡ []
@@ -103,8 +104,8 @@ module _ (c : CodeConfig) (latest : Option ℕ) (ms : List (Option Mailbox)) (h 
   pub none_test : (b : ℕ) → is_some (mailbox_at ms b) ≡ false → false ≡ has_pending b (messages_of (boxes_view ms))
   none_test b dead = pending_test b 0 (sym (ap length (none_pending ms b dead)))
 
-  pub refer_test : (b : ℕ) → some_pending (refers_to b) ms ≡ list_any (message_refers b) (messages_of (boxes_view ms))
-  refer_test b = refers_view b ms
+  pub refer_test : (b : ℕ) → list_any (λ a. list_any (refers_to b) (pending_of ms a)) c.live ≡ list_any (message_refers b) (messages_of (boxes_view ms))
+  refer_test b = ap (list_any (λ a. list_any (refers_to b) (pending_of ms a))) (sym h.boxes.live) ∙ any_live (refers_to b) ms ∙ refers_view b ms
 
   pub counted : all_pending ms ≡ length (messages_of (boxes_view ms))
   counted = sym (all_are_counted (boxes_view ms) ∙ count_view ms)

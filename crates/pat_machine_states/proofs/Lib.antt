@@ -4,5 +4,6 @@ mod Placed
 mod Awaiting
 mod Asides
 mod Bare
+mod Walks
 mod Keeping
 mod Referring

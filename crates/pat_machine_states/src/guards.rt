@@ -87,6 +87,6 @@ impl State {
     fn messages_refer(&self, mailbox: u32) -> bool
         ensures { result ≡ list_any (message_refers mailbox) self.now.messages }
     {
-        self.mailboxes.refers(mailbox)
+        self.mailboxes.refers(self.config.live.as_slice(), mailbox)
     }
 }

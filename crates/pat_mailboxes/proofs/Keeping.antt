@@ -1,5 +1,5 @@
 -- Mailboxes as they are kept, while one of them changes.
-use Rattle.std.proofs.Common.{◌≡◌, ℕ, zero, suc, ◌+◌, ◌<◌, ◌≤◌, cond, nat_eq, List, [], ◌∷◌, ◌++◌, inl, inr, ⊎_elim, length, slice_get, slice_set, slice_index_or, Option, Some, None, refl, sym, ap, ◌∙◌, subst, arith, ne_eqb, eq-zero-or-pos}
+use Rattle.std.proofs.Common.{◌≡◌, ℕ, zero, suc, ◌+◌, ◌<◌, ◌≤◌, cond, nat_eq, List, [], ◌∷◌, ◌++◌, inl, inr, ⊎_elim, length, slice_get, slice_set, Option, Some, None, refl, sym, ap, ◌∙◌, subst, arith, ne_eqb, eq-zero-or-pos}
 use Rattle.std.specs.Option.{unwrap_or}
 use Rattle.std.proofs.lemmas.Bool.{cases_eq}
 use Rattle.std.proofs.lemmas.List.{map-append, length-map}
@@ -9,7 +9,7 @@ use Rattle.pat_pool.proofs.NodeLaws.{itself, differs, times-append}
 use Rattle.pat_reduce_threads.specs.declared.state.Message.{Message}
 use Rattle.pat_mailboxes.specs.declared.store.Entry.{Entry}
 use Rattle.pat_mailboxes.specs.Mailboxes.{Mailbox, mailbox_at, IsLive, pending_in, named_in, pending_at, named_at, all_pending, IsInOrder, AreInOrder}
-use Rattle.pat_mailboxes.specs.Kept.{IsLiveEntry, shown, mailboxes_of, counts, times_had, AreKept}
+use Rattle.pat_mailboxes.specs.Kept.{shown, mailboxes_of, counts, times_had, AreKept}
 use Rattle.pat_mailboxes.proofs.Messages.{order_set, order_more, order_none, all-set, all-push, all-part}
 
 abbrev shown_of : List (Option (List Message)) → Option (Option Entry) → Option Mailbox
@@ -164,14 +164,6 @@ module _ (es : List (Option Entry)) (ready : List ℕ) (qs : List (Option (List 
         },
         eq,
       )
-
--- each entry of a live mailbox has a live queue
-pub live_entry : (qs : List (Option (List Message))) (es : List (Option Entry)) (i : ℕ) → ((e : Entry) → slice_get es i ≡ Some (Some e) → IsLiveQueue qs e.queue) → IsLiveEntry qs (slice_index_or es i None)
-live_entry qs [] zero live = tt
-live_entry qs [] (suc i) live = tt
-live_entry qs (None ∷ es) zero live = tt
-live_entry qs (Some e ∷ es) zero live = live e refl
-live_entry qs (o ∷ es) (suc i) live = live_entry qs es i live
 
 -- a ready queue becomes a mailbox's
 pub entry_made : (es : List (Option Entry)) (ready : List ℕ) (qs : List (Option (List Message))) (spare room q : ℕ) → AreKept es (ready ++ q ∷ []) qs spare room → let e : Entry = record { queue = q; named = 0 } in

@@ -4,7 +4,7 @@ use Rattle.std.specs.List.{AllByRecursion, list_any}
 use Rattle.std.proofs.lemmas.List.{nil_from_length}
 use Rattle.std.proofs.lemmas.Bool.{cases_eq}
 use Rattle.pat_reduce_threads.specs.declared.state.Message.{Message}
-use Rattle.pat_mailboxes.specs.Mailboxes.{Mailbox, mailbox_at, pending_in, pending_at, all_pending, some_pending, Ascend, IsInOrder, AreInOrder}
+use Rattle.pat_mailboxes.specs.Mailboxes.{Mailbox, mailbox_at, pending_in, pending_at, all_pending, Ascend, IsInOrder, AreInOrder}
 
 all_push : {X : Type 0} (P : X → Type 0) (xs : List X) (x : X) → AllByRecursion P xs → P x → AllByRecursion P (xs ++ x ∷ [])
 all_push P [] x a p = (p, tt)
@@ -77,9 +77,9 @@ all-part (m ∷ ms) zero = omega arith
 all-part (m ∷ ms) (suc b) = let rest = all-part ms b in omega arith
 
 -- where nothing is pending, nothing passes
-pub none_passes : (test : Message → Bool) (ms : List (Option Mailbox)) → all_pending ms ≡ 0 → some_pending test ms ≡ false
-none_passes test [] h = refl
-none_passes test (o ∷ ms) h =
-    let rest : all_pending ms ≡ 0 = omega arith in
-    let own : pending_in o ≡ [] = nil_from_length (pending_in o) (omega arith) in
-    ap (λ l. list_any test l || some_pending test ms) own ∙ none_passes test ms rest
+none_at : (test : Message → Bool) (ms : List (Option Mailbox)) (b : ℕ) → all_pending ms ≡ 0 → list_any test (pending_at ms b) ≡ false
+none_at test ms b h = let part = all-part ms b in ap (list_any test) (nil_from_length (pending_at ms b) (omega arith))
+
+pub none_passes : (test : Message → Bool) (ms : List (Option Mailbox)) (bs : List ℕ) → all_pending ms ≡ 0 → list_any (λ b. list_any test (pending_at ms b)) bs ≡ false
+none_passes test ms [] h = refl
+none_passes test ms (b ∷ bs) h = ap (λ x. x || list_any (λ c. list_any test (pending_at ms c)) bs) (none_at test ms b h) ∙ none_passes test ms bs h

@@ -11,11 +11,6 @@ abbrev pub shown : List (Option (List Message)) → Option Entry → Option Mail
 shown queues None = None
 shown queues (Some e) = Some (record { pending = values_at queues e.queue; named = e.named })
 
--- a mailbox's queue is live
-abbrev pub IsLiveEntry : List (Option (List Message)) → Option Entry → Type 0
-IsLiveEntry queues None = Unit {0}
-IsLiveEntry queues (Some e) = IsLiveQueue queues e.queue
-
 abbrev pub mailboxes_of : List (Option Entry) → List (Option (List Message)) → List (Option Mailbox)
 mailboxes_of entries queues = map (shown queues) entries
 

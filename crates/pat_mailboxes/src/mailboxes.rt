@@ -1,11 +1,11 @@
 // Mailboxes over a pool of queues.
 ghost use Rattle.std.specs.Prelude.{◌≡◌, ℕ, ◌+◌, ◌-◌, ◌<◌, ◌≤◌, max, [], ◌∷◌, ◌++◌, length, Some, None, IfOk, OnOk, OnErr, slice_get, slice_set, remove, is_some};
-ghost use Rattle.std.specs.List.{AllByRecursion};
+ghost use Rattle.std.specs.List.{AllByRecursion, list_any};
 ghost use Rattle.pat_pool.specs.Queues.{IsFirst};
-ghost use Rattle.pat_mailboxes.specs.Mailboxes.{AreInOrder, IsLive, Mailbox, all_pending, is_received, mailbox_at, named_at, pending_at, refers_to, some_pending};
+ghost use Rattle.pat_mailboxes.specs.Mailboxes.{AreInOrder, IsLive, Mailbox, all_pending, is_received, mailbox_at, named_at, pending_at, refers_to};
 
 use crate::Tags;
-use crate::references::{Refers, has_passing};
+use crate::references::Refers;
 use crate::store::{Entry, Store, entry_of};
 use pat_pool::Test;
 use pat_reduce_threads::Message;
@@ -139,20 +139,30 @@ impl Mailboxes {
         self.store.pool.position(entry.queue, test)
     }
 
-    /// Whether a pending message has the mailbox among its values. It takes no memory.
-    pub fn refers(&self, mailbox: u32) -> bool
-        ensures { result ≡ some_pending (refers_to mailbox) self.now.mailboxes }
+    /// Whether a message that is pending in one of these mailboxes has a mailbox among its values. It takes no memory.
+    pub fn refers(&self, owners: &[u32], mailbox: u32) -> bool
+        ensures { result ≡ list_any (λ b. list_any (refers_to mailbox) (pending_at self.now.mailboxes b)) owners.now }
     {
         if self.pending() == 0 {
             return false;
         }
-        let test = Refers { mailbox };
-        for entry in self.store.entries.as_slice() {
-            if has_passing(&self.store.pool, entry, &test) {
+        for owner in owners {
+            if self.refers_in(*owner, mailbox) {
                 return true;
             }
         }
         false
+    }
+
+    // Whether a message that is pending in a mailbox, if that is live, has another among its values.
+    fn refers_in(&self, owner: u32, mailbox: u32) -> bool
+        ensures { result ≡ list_any (refers_to mailbox) (pending_at self.now.mailboxes owner) }
+    {
+        if self.is_live(owner) {
+            self.position(owner, &Refers { mailbox }).is_some()
+        } else {
+            false
+        }
     }
 
     /// Takes out the message at a place of those that are pending in a mailbox. It takes no memory.
