@@ -11,8 +11,8 @@ pub mod Idle
 pub mod Rooms
 pub mod LookUps
 pub mod Tops
-pub mod Belows
 pub mod Exchanges
 -- the crate's own
+mod Belows
 mod Moves
 mod Refused

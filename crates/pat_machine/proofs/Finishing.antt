@@ -15,10 +15,11 @@ use Rattle.pat_commits.specs.Commits.{IsLocalRun, IsCommit, noted}
 use Rattle.pat_commits.specs.Tops.{top_of, below, over}
 use Rattle.pat_commit_laws.proofs.Idle.{idle_still, step_open}
 use Rattle.pat_commit_laws.proofs.Tops.{top_runs, any_top_runs, top_keeps_frame}
-use Rattle.pat_machine.specs.declared.committing.Settled.{Settled}
+use Rattle.pat_machine_threads.specs.declared.settling.Settled.{Settled}
 use Rattle.pat_machine.specs.declared.job.Job.{Job}
 use Rattle.pat_machine.specs.Shown.{steps_in, noted_in, place_of}
-use Rattle.pat_machine.specs.Settling.{IsRunOnTop, IsSettled, settled_thread, half_way, Finishes}
+use Rattle.pat_machine_threads.specs.Settling.{IsRunOnTop, settled_thread}
+use Rattle.pat_machine.specs.Settling.{IsSettled, half_way, Finishes}
 
 -- the end leads from the settled state on
 pub run_of : (p : Program) (allowance limit : ℕ) (half d : Config) (t k : ℕ) (a : Option Act) → Finishes p allowance limit half t k a d → k ≤ allowance → run_from p half (shared_step t a) ≡ Some d
@@ -39,26 +40,6 @@ module _ (p : Program) (c : Config) (j : Job) (s : Settled) (h : IsSettled p c j
   -- of the thread that is there
   pub settled_run : IsRunOnTop p j.allowance x s
   settled_run = subst (λ w. IsRunOnTop p j.allowance w s) kept_is h.run
-
-module _ (p : Program) (a n : ℕ) (x : Thread) (s : Settled) (gone : s.gone ≡ n) (h : IsLocalRun p a (top_of n x) s.steps (thread_view s.end)) where
-  -- a run on any frames on top, where it leaves one of them or they are all
-  pub run_on_some : (0 < length (thread_view s.end).frames) ⊎ (below n x ≡ []) → IsRunOnTop p a x s
-  run_on_some left = record {
-    local = subst (λ m. IsLocalRun p a x s.steps (over (thread_view s.end) (below m x))) (sym gone) (any_top_runs p a n x s.steps (thread_view s.end) h left);
-    frame = λ less. subst (λ m. (0 < length (thread_view s.end).frames) ⊎ (below m x ≡ [])) (sym gone) left;
-  }
-
--- a run on a frame for each step
-pub run_on_enough : (p : Program) (a : ℕ) (x : Thread) (s : Settled) → s.gone ≡ a → IsLocalRun p a (top_of a x) s.steps (thread_view s.end) → IsRunOnTop p a x s
-run_on_enough p a x s gone h = record {
-  local = subst (λ m. IsLocalRun p a x s.steps (over (thread_view s.end) (below m x))) (sym gone) (top_runs p a x s.steps (thread_view s.end) h);
-  frame = λ less. subst (λ m. (0 < length (thread_view s.end).frames) ⊎ (below m x ≡ [])) (sym gone) (top_keeps_frame p a x s.steps (thread_view s.end) h less);
-}
-
--- so it is where there is one
-pub enough_if_ok : {E : Type 0} (p : Program) (a : ℕ) (x : Thread) (r : Result Settled E) → IfOk r (λ s. s.gone ≡ a) → IfOk r (λ s. IsLocalRun p a (top_of a x) s.steps (thread_view s.end)) → IfOk r (IsRunOnTop p a x)
-enough_if_ok p a x (Ok s) gone local = run_on_enough p a x s gone local
-enough_if_ok p a x (Err e) gone local = gone
 
 -- the settled state and its end are a commit
 pub commit_of : (p : Program) (limit : ℕ) (c d : Config) (j : Job) (s : Settled) (e : Entry) (h : IsSettled p c j s) → e.thread ≡ j.thread → e.local_steps ≡ s.steps

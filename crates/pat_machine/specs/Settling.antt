@@ -1,24 +1,15 @@
 -- The state of a job's thread after its local steps, and the end of its commit.
-use Rattle.std.specs.Prelude.{◌≡◌, ℕ, ◌<◌, ◌⊎◌, [], length, Option, Some, None}
+use Rattle.std.specs.Prelude.{◌≡◌, ℕ, ◌<◌, Option, Some, None}
 use Rattle.pat_model.specs.Programs.{Program}
 use Rattle.pat_model.specs.Configs.{Thread, Config, thread_at, with_thread}
 use Rattle.pat_model.specs.Steps.{Act}
 use Rattle.pat_reduce_threads.specs.ThreadViews.{thread_view}
 use Rattle.pat_commits.specs.Commits.{IsLocalRun, Shares}
-use Rattle.pat_commits.specs.Tops.{below, over}
-use Rattle.pat_machine.specs.declared.committing.Settled.{Settled}
+use Rattle.pat_machine_threads.specs.declared.settling.Settled.{Settled}
+use Rattle.pat_machine_threads.specs.Settling.{IsRunOnTop, settled_thread}
 use Rattle.pat_machine.specs.declared.job.Job.{Job}
 
--- the kept thread after the local steps of its top
-abbrev pub settled_thread : Thread → Settled → Thread
-settled_thread kept s = over (thread_view s.end) (below s.gone kept)
-
--- it is the kept thread after so many local steps within the allowance; and with steps left, a frame of the top is left, or nothing is below
-pub record IsRunOnTop (p : Program) (allowance : ℕ) (kept : Thread) (s : Settled) : Type 0 where
-  pub local : IsLocalRun p allowance kept s.steps (settled_thread kept s)
-  pub frame : s.steps < allowance → (0 < length (thread_view s.end).frames) ⊎ (below s.gone kept ≡ [])
-
--- so it is of the thread of a job
+-- it is what local steps made of the top of the kept thread of the job
 pub record IsSettled (p : Program) (c : Config) (j : Job) (s : Settled) : Type 0 where
   pub kept : Thread
   pub there : thread_at c j.thread ≡ Some kept

@@ -5,11 +5,10 @@ ghost use Rattle.pat_core.specs.Views.{program_view};
 ghost use Rattle.pat_reduce_threads.specs.ThreadViews.{thread_view};
 ghost use Rattle.pat_reduce.specs.Views.{act_view};
 ghost use Rattle.pat_commits.specs.Commits.{IsLocalRun};
-ghost use Rattle.pat_commits.specs.Tops.{top_of};
 ghost use Rattle.pat_commits.specs.Machines.{HasRoom, IsTypedBySome};
 ghost use Rattle.pat_machine.specs.Parted.{shown, IsKept};
 ghost use Rattle.pat_machine.specs.Gives.{IsLent, Committed, CommitGives};
-ghost use Rattle.pat_machine.specs.Settling.{IsRunOnTop, IsSettled, half_way, Finishes};
+ghost use Rattle.pat_machine.specs.Settling.{IsSettled, half_way, Finishes};
 
 use crate::entry::{note, steps_of, take_back};
 use crate::job::{CommitRefused, Job, Receipt};
@@ -17,22 +16,10 @@ use crate::parts::Parts;
 use crate::waiting::{Stepped, follow};
 use pat_executable::Executable;
 use pat_machine_states::State;
-use pat_machine_threads::{LocalRun, copy_top, is_top, run_locally};
-use pat_reduce::{Act, Entry, ThreadState};
+use pat_machine_threads::{LocalRun, Settled, is_top, settle_top};
+use pat_reduce::{Act, Entry};
 use pat_sequences::let_go;
 use std::alloc::{AllocError, Global};
-
-// The frames that a run inside looks at first.
-const FEW: u32 = 8;
-
-/// What the local steps of a job made of the top of its thread, and how many they were.
-#[derive(Drop)]
-pub struct Settled {
-    pub end: ThreadState,
-    /// The frames on top of the thread in whose place those of the end come.
-    pub gone: u32,
-    pub steps: u32,
-}
 
 impl Parts {
     /// Commits a job: its local steps, and then the shared step that is open.
@@ -68,7 +55,7 @@ impl Parts {
                     Ok(ended(run, job.allowance))
                 } else {
                     let_go(run);
-                    settle_inside(self.alloc, &self.code, kept, job)
+                    settle_top(self.alloc, &self.code, kept, job.allowance)
                 }
             }
             // A thread that is out is there.
@@ -83,7 +70,7 @@ impl Parts {
         ensures { IfOk result (IsSettled (program_view self.now.code.program) self.now.state job) }
     {
         match self.state.thread(job.thread) {
-            Some(kept) => settle_inside(self.alloc, &self.code, kept, job),
+            Some(kept) => settle_top(self.alloc, &self.code, kept, job.allowance),
             // A thread that is out is there.
             None => unreachable!(),
         }
@@ -137,39 +124,6 @@ fn ended(run: LocalRun, gone: u32) -> Settled
     let LocalRun { start, end, steps } = run;
     let_go(start);
     Settled { end, gone, steps }
-}
-
-// Local steps inside: on few frames, since most jobs need no more, and else on one for each step of the allowance.
-fn settle_inside(
-    alloc: Global,
-    code: &Executable,
-    kept: &ThreadState,
-    job: Job,
-) -> Result<Settled, AllocError>
-    ensures { IfOk result (IsRunOnTop (program_view code.now.program) job.allowance (thread_view kept.now)) }
-{
-    let few = run_on_top(alloc, code, kept, job.allowance, FEW)?;
-    if few.end.frames.is_empty() && kept.frames.len() > FEW as usize {
-        let_go(few);
-        return run_on_top(alloc, code, kept, job.allowance, job.allowance);
-    }
-    Ok(few)
-}
-
-// Local steps on a copy of so many frames on top of the kept state.
-fn run_on_top(
-    alloc: Global,
-    code: &Executable,
-    kept: &ThreadState,
-    allowance: u32,
-    gone: u32,
-) -> Result<Settled, AllocError>
-    ensures gone { IfOk result (λ s. s.gone ≡ gone) }
-    ensures local { IfOk result (λ s. IsLocalRun (program_view code.now.program) allowance (top_of gone (thread_view kept.now)) s.steps (thread_view s.end)) }
-{
-    let mut end = copy_top(alloc, kept, gone)?;
-    let steps = run_locally(alloc, code, &mut end, allowance)?;
-    Ok(Settled { end, gone, steps })
 }
 
 // Puts what the local steps made of the top in its place, and takes the open shared step, if they didn't use up the allowance.

@@ -1,1 +1,4 @@
+-- for others: runs on the top of a thread
+pub mod Settlings
+-- the crate's own
 mod Sames

@@ -12,7 +12,7 @@ use Rattle.pat_commit_laws.proofs.Rooms.{room_of, half_typed}
 use Rattle.pat_commit_laws.proofs.Tables.{allowance_within, allowances_committed}
 use Rattle.pat_machine_waits.specs.Noted.{AreNoted}
 use Rattle.pat_machine.specs.Shown.{Shown, steps_in, noted_in, place_of}
-use Rattle.pat_machine.specs.Settling.{settled_thread}
+use Rattle.pat_machine_threads.specs.Settling.{settled_thread}
 use Rattle.pat_machine.proofs.Lending.{part_lent}
 use Rattle.pat_machine.proofs.Finishing.{run_of, settled_run, commit_of, noted_view, idle_so}
 use Rattle.pat_machine.proofs.parts.Parts.finish.Goals as goal

@@ -4,7 +4,7 @@ use Rattle.pat_core.specs.Views.{program_view}
 use Rattle.pat_reduce_threads.specs.ThreadViews.{thread_view}
 use Rattle.pat_commits.specs.Commits.{IsLocalRun}
 use Rattle.pat_machine.specs.Settling.{IsSettled}
-use Rattle.pat_machine.proofs.Finishing.{run_on_enough}
+use Rattle.pat_machine_threads.proofs.Settlings.{run_on_enough}
 use Rattle.pat_machine.proofs.parts.Parts.settle.Goals as goal
 
 pub returns-then-is_top : goal.returns-then-is_top
