@@ -8,8 +8,9 @@ ROOT = os.path.dirname(os.path.dirname(os.path.realpath(__file__)))
 
 FUNCTION = re.compile(r"^\s*(?:pub(?:\([a-z]+\))? )?(?:const )?(?:unsafe )?fn ", re.M)
 TEST = re.compile(r"^\s*#\[test\]", re.M)
+TEST_MODULE = re.compile(r"^#\[cfg\(test\)\]\s*mod (\w+);", re.M)
 
-Size = collections.namedtuple("Size", "lines functions edits tests is_program")
+Size = collections.namedtuple("Size", "lines test_lines functions edits tests is_program")
 
 
 def read(path):
@@ -54,9 +55,13 @@ def files(name, ending, part=""):
 
 @functools.lru_cache(maxsize=None)
 def size(name):
-    texts = [read(path) for path in files(name, ".rt", "src")]
+    paths = files(name, ".rt", "src")
+    texts = [read(path) for path in paths]
+    lines = [len(text.splitlines()) for text in texts]
+    for_tests = {f"{it}.rt" for text in texts for it in TEST_MODULE.findall(text)}
     return Size(
-        lines=sum(len(text.splitlines()) for text in texts),
+        lines=sum(lines),
+        test_lines=sum(count for path, count in zip(paths, lines) if os.path.basename(path) in for_tests),
         functions=sum(len(FUNCTION.findall(text)) for text in texts),
         edits=len(files(name, ".edit", "must-fail")),
         tests=sum(len(TEST.findall(text)) for text in texts),
@@ -66,7 +71,8 @@ def size(name):
 
 def proof_seconds(name):
     """What one proof of the crate from nothing takes of a processor, as measured: a start, and a share for each line of .rt."""
-    return 9 + 0.14 * size(name).lines
+    here = size(name)
+    return 9 + 0.14 * (here.lines - here.test_lines)
 
 
 def gate_seconds(name):
@@ -74,8 +80,8 @@ def gate_seconds(name):
     here, proof = size(name), proof_seconds(name)
     seconds = proof
     if here.tests:
-        # The crate is proved once more with its tests in it.
-        seconds += proof + 20 * here.tests
+        # The crate is proved once more, with its tests in it.
+        seconds += 9 + 0.14 * here.lines + 20 * here.tests
     if here.is_program:
         # Two compilers build it.
         seconds += 40

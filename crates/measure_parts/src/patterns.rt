@@ -1,21 +1,22 @@
 // Patterns that are measured.
 use pat_patterns::Pattern;
 use std::alloc::{AllocError, Global};
+use std::sync::Arc;
 
 pub fn sum(alloc: Global, left: Pattern, right: Pattern) -> Result<Pattern, AllocError> {
-    let left = Box::new(alloc, left)?;
-    let right = Box::new(alloc, right)?;
+    let left = Arc::new(alloc, left)?;
+    let right = Arc::new(alloc, right)?;
     Ok(Pattern::Sum(left, right))
 }
 
 pub fn product(alloc: Global, left: Pattern, right: Pattern) -> Result<Pattern, AllocError> {
-    let left = Box::new(alloc, left)?;
-    let right = Box::new(alloc, right)?;
+    let left = Arc::new(alloc, left)?;
+    let right = Arc::new(alloc, right)?;
     Ok(Pattern::Prod(left, right))
 }
 
 pub fn star(alloc: Global, part: Pattern) -> Result<Pattern, AllocError> {
-    let part = Box::new(alloc, part)?;
+    let part = Arc::new(alloc, part)?;
     Ok(Pattern::Star(part))
 }
 

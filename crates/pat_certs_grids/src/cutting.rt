@@ -78,7 +78,7 @@ fn points_grid(
     requires value { IsTrue (value_fits tags (GridForm bound (counts_view points.now))) }
     ensures { IfOk result (IsValueGrid k tags (GridForm bound (counts_view points.now))) }
 {
-    if bound > k {
+    if bound >= k {
         let grid = marked(alloc, points, k, tags)?;
         return Ok(grid);
     }

@@ -76,6 +76,7 @@ pub fn numbers_of(alloc: Global, frames: &[Frame]) -> Result<Sequence<u32>, Allo
     ensures { IfOk result (λ numbers. numbers ≡ numbers_of_frames frames.now) }
 {
     let mut numbers = Sequence::new(alloc);
+    numbers.items.reserve_exact(frames.len())?;
     for frame in frames {
         numbers.push(frame.number)?;
     }

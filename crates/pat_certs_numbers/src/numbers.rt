@@ -24,6 +24,7 @@ pub fn find_numbers(
 {
     counts_fit(word);
     let mut frames = Sequence::new(alloc);
+    frames.items.reserve_exact(periods.len())?;
     let mut failed = Sequence::new(alloc);
     let mut left = *word;
     loop {

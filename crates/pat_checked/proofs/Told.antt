@@ -28,7 +28,7 @@ use Rattle.pat_infer_problems.specs.declared.error.InferError.TheVariants as inf
 use Rattle.pat_infer_problems.specs.declared.problem.VarDecl.{VarDecl}
 use Rattle.pat_infer_problems.specs.declared.problem.Constraint.{Constraint as CodeConstraint}
 use Rattle.pat_infer_problems.specs.declared.problem.Problem.{Problem}
-use Rattle.pat_infer.specs.Problems.{IsProblemOf}
+use Rattle.pat_infer_problems.specs.Problems.{IsProblemOf}
 use Rattle.pat_solving.specs.Derived.{derivation_with, CertsMade}
 use Rattle.pat_solving.specs.Answers as answers
 use Rattle.pat_solving.specs.Answers.{AllUsable, IsRight, IsConstraint, IsInBounds, IsUnusable, solution}

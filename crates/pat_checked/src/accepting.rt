@@ -5,7 +5,7 @@ ghost use Rattle.pat_typing.specs.Typings.{IsTypable};
 ghost use Rattle.pat_validity.specs.Validity.{IsValid};
 ghost use Rattle.pat_core.specs.Views.{program_view};
 ghost use Rattle.pat_derivations.specs.Views.{derivation_view};
-ghost use Rattle.pat_infer.specs.Problems.{IsProblemOf, IsEnough};
+ghost use Rattle.pat_infer_problems.specs.Problems.{IsProblemOf, IsEnough};
 ghost use Rattle.pat_solve_answers.specs.Views.{IsSolution};
 ghost use Rattle.pat_checked.specs.Reasons.{IsMade};
 ghost use Rattle.pat_checked.specs.Explains.{Explains};

@@ -3,7 +3,7 @@ ghost use Rattle.std.specs.Prelude.{◌≡◌, ◌-◌, slice_get, option_map, o
 ghost use Rattle.pat_model.specs.WellFormed.{WellFormed};
 ghost use Rattle.pat_bags.specs.Views.{word_of};
 ghost use Rattle.pat_core.specs.Views.{program_view};
-ghost use Rattle.pat_infer.specs.Problems.{IsProblemOf, IsEnough};
+ghost use Rattle.pat_infer_problems.specs.Problems.{IsProblemOf, IsEnough};
 ghost use Rattle.pat_infer_problems.specs.Places.{span_or};
 ghost use Rattle.pat_infer_problems.specs.Views.{constraint_view};
 ghost use Rattle.pat_solve_answers.specs.Views.{IsRefusal, IsUntypable, IsComplete};

@@ -127,7 +127,7 @@ fn push_right(
         Right::Pattern(pattern) => push_pattern(alloc, text, pattern, interface),
         Right::Var(number) => {
             text.push(b'$')?;
-            push_number(alloc, text, u64::from(*number))
+            push_number(text, u64::from(*number))
         }
     }
 }

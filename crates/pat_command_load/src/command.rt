@@ -1,7 +1,7 @@
 // The generated program of a size, treated as the input of `run` is.
 ghost use Rattle.std.specs.Prelude.{◌≤◌, IfOk};
 ghost use Rattle.pat_options.specs.Options.{IsWithin};
-ghost use Rattle.pat_runners.specs.Runs.{IsRunner};
+ghost use Rattle.pat_run.specs.Runners.{IsRunner};
 ghost use Rattle.pat_command_load.specs.Allowed.{AllowedLoad};
 
 use pat_accepted::Accepted;

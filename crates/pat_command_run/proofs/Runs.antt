@@ -17,7 +17,7 @@ use Rattle.pat_machine.specs.Shown.{Shown, IsMachine, program_of, entries_of}
 use Rattle.pat_machine.specs.Gives.{outcome_view}
 use Rattle.pat_options.specs.declared.options.RunOptions.{RunOptions}
 use Rattle.pat_run.specs.declared.running.Finished.{Finished}
-use Rattle.pat_runners.specs.Runs.{RunGives}
+use Rattle.pat_run.specs.Runners.{RunGives}
 use Rattle.pat_answers.specs.declared.status.Status.{Status}
 use Rattle.pat_command_run.specs.declared.command.Detail.{Detail}
 use Rattle.pat_command_run.specs.Allowed.{EndsWith, RunsTo, RunShows, told}

@@ -5,7 +5,7 @@ use Rattle.pat_model.specs.Configs.{Config}
 use Rattle.pat_model.specs.Runs.{Entry, IsHistory, Outcome, EndDone, EndWaiting, EndFull, EndBudget, step_count, replay}
 use Rattle.pat_commits.specs.Machines.{StaysWithin}
 use Rattle.pat_options.specs.declared.options.RunOptions.{RunOptions}
-use Rattle.pat_runners.specs.Runs.{IsRunWith}
+use Rattle.pat_run.specs.Runners.{IsRunWith}
 use Rattle.pat_lines.specs.RunText.{run_text, replay_text}
 use Rattle.pat_checked.specs.Inputs.{IsAcceptedText, IsCheckRefusal}
 use Rattle.pat_answers.specs.declared.status.Status.{Status}

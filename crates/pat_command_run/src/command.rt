@@ -8,7 +8,7 @@ ghost use Rattle.pat_reduce.specs.Views.{config_view, entry_view};
 ghost use Rattle.pat_machine.specs.Gives.{outcome_view};
 ghost use Rattle.pat_options.specs.Options.{IsWithin};
 ghost use Rattle.pat_input.specs.Inputs.{IsRead};
-ghost use Rattle.pat_runners.specs.Runs.{IsRunner};
+ghost use Rattle.pat_run.specs.Runners.{IsRunner};
 ghost use Rattle.pat_checked.specs.Checks.{IsChecked};
 ghost use Rattle.pat_command_run.specs.Allowed as allowed;
 ghost use Rattle.pat_command_run.specs.Allowed.{AllowedRun, RunShows, EndsWith};

@@ -47,16 +47,16 @@ impl Expr {
     }
 }
 
-fn copy_pattern(alloc: Global, pattern: &Option<Pattern>) -> Result<Option<Pattern>, AllocError>
+fn copy_pattern(pattern: &Option<Pattern>) -> Result<Option<Pattern>, AllocError>
     ensures { IfOk result (λ p. option_map pattern_view p ≡ option_map pattern_view pattern.now) }
 {
     Ok(match pattern {
         None => None,
-        Some(pattern) => Some(pattern.copy(alloc)?),
+        Some(pattern) => Some(pattern.copy()?),
     })
 }
 
-fn copy_sort(alloc: Global, sort: &Sort) -> Result<Sort, AllocError>
+fn copy_sort(sort: &Sort) -> Result<Sort, AllocError>
     ensures same { IfOk result (λ s. sort_view s ≡ sort_view sort.now) }
     ensures spans { IfOk result (λ s. sort_spans s ≡ sort_spans sort.now) }
 {
@@ -65,7 +65,7 @@ fn copy_sort(alloc: Global, sort: &Sort) -> Result<Sort, AllocError>
         Sort::Mailbox(mailbox) => Sort::Mailbox(MailboxSort {
             interface: mailbox.interface,
             polarity: mailbox.polarity,
-            pattern: copy_pattern(alloc, &mailbox.pattern)?,
+            pattern: copy_pattern(&mailbox.pattern)?,
             span: mailbox.span,
         }),
     })
@@ -77,7 +77,7 @@ fn copy_sorts(alloc: Global, sorts: &Sequence<Sort>) -> Result<Sequence<Sort>, A
 {
     let mut copied = Sequence::new(alloc);
     for sort in sorts.as_slice() {
-        copied.push(copy_sort(alloc, sort)?)?;
+        copied.push(copy_sort(sort)?)?;
     }
     Ok(copied)
 }
@@ -120,7 +120,7 @@ fn copy_function(alloc: Global, function: &Function) -> Result<Function, AllocEr
     Ok(Function {
         name: function.name.copy(alloc)?,
         params: copy_sorts(alloc, &function.params)?,
-        result: copy_sort(alloc, &function.result)?,
+        result: copy_sort(&function.result)?,
         vars: copy_kinds(alloc, &function.vars)?,
         spans: copy_spans(alloc, &function.spans)?,
         body: function.body,
@@ -226,7 +226,7 @@ fn copy_core(alloc: Global, core: &Core) -> Result<Core, AllocError>
             let receives = copy_clauses(alloc, receives)?;
             Core::Guard {
                 var: *var,
-                pattern: pattern.copy(alloc)?,
+                pattern: pattern.copy()?,
                 free: *free,
                 receives,
             }

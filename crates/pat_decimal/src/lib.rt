@@ -4,13 +4,14 @@
 ghost use Rattle.std.specs.Prelude.{◌≡◌, ◌++◌, OnOk};
 ghost use Rattle.std.specs.Fmt.{decimal};
 
-use std::alloc::{AllocError, Global};
+use itoa::Buffer;
+use std::alloc::AllocError;
 
 /// Appends a number in decimal, with no zero in front.
-pub fn push_number(alloc: Global, text: &mut Vec<u8>, n: u64) -> Result<(), AllocError>
+pub fn push_number(text: &mut Vec<u8>, n: u64) -> Result<(), AllocError>
     ensures { OnOk result (text.new.items ≡ text.old.items ++ decimal n) }
 {
-    let digits = n.to_string(alloc)?;
-    text.extend_from_slice(digits.as_bytes())?;
+    let mut digits = Buffer::new();
+    text.extend_from_slice(digits.format(n).as_bytes())?;
     Ok(())
 }

@@ -16,12 +16,12 @@ use pat_types::{MailboxType, TypeOf, Usage, payload_type};
 use std::alloc::{AllocError, Global};
 
 /// A copy of the type, if there is one.
-fn copy_option(alloc: Global, of: &Option<MailboxType>) -> Result<Option<MailboxType>, AllocError>
+fn copy_option(of: &Option<MailboxType>) -> Result<Option<MailboxType>, AllocError>
     ensures { IfOk result (λ o. option_map type_view o ≡ option_map type_view of.now) }
 {
     match of {
         None => Ok(None),
-        Some(of) => Ok(Some(of.copy(alloc)?)),
+        Some(of) => Ok(Some(of.copy()?)),
     }
 }
 
@@ -41,7 +41,6 @@ fn push_entry(
 
 /// What an argument asks.
 fn push_argument(
-    alloc: Global,
     of: &Option<MailboxType>,
     argument: &Expr,
     out: &mut Sequence<(u32, MailboxType)>,
@@ -50,7 +49,7 @@ fn push_argument(
 {
     match argument {
         Expr::Var(variable) => {
-            let of = copy_option(alloc, of)?;
+            let of = copy_option(of)?;
             push_entry(*variable, of, out)
         }
         _ => Ok(()),
@@ -60,7 +59,6 @@ fn push_argument(
 /// What arguments ask.
 #[tactic(auto, using(crate::proofs::Entries::argument_first))]
 pub fn push_arguments(
-    alloc: Global,
     types: &[Option<MailboxType>],
     arguments: &[Expr],
     out: &mut Sequence<(u32, MailboxType)>,
@@ -72,7 +70,7 @@ pub fn push_arguments(
         match rest.split_first() {
             None => return Ok(()),
             Some((of, more)) => {
-                push_argument(alloc, of, argument, out)?;
+                push_argument(of, argument, out)?;
                 rest = more;
             }
         }
@@ -91,7 +89,7 @@ pub fn value_asked(
     let mut asked = Sequence::new(alloc);
     match value {
         Expr::Var(variable) => {
-            let of = as_returnable(alloc, of)?;
+            let of = as_returnable(of)?;
             push_entry(*variable, of, &mut asked)?;
             Ok(asked)
         }
@@ -102,7 +100,6 @@ pub fn value_asked(
 /// The names with the types of payloads.
 #[tactic(auto, using(crate::proofs::Entries::payload_first))]
 fn push_payloads(
-    alloc: Global,
     sorts: &[Sort],
     names: &[u32],
     out: &mut Sequence<(u32, MailboxType)>,
@@ -114,7 +111,7 @@ fn push_payloads(
         match rest.split_first() {
             None => return Ok(()),
             Some((sort, more)) => {
-                let of = payload_type(alloc, sort)?;
+                let of = payload_type(sort)?;
                 push_entry(*name, of, out)?;
                 rest = more;
             }
@@ -147,12 +144,11 @@ pub fn clause_given(
         },
     ))?;
     push_payloads(
-        alloc,
         declared.payloads.as_slice(),
         clause.vars.as_slice(),
         &mut given,
     )?;
-    push_without(alloc, guarded, env, &mut given)?;
+    push_without(guarded, env, &mut given)?;
     Ok(given)
 }
 
@@ -167,7 +163,7 @@ pub fn params_given(
     let mut given = Sequence::new(alloc);
     let mut variable: u32 = 0;
     for of in types {
-        let of = copy_option(alloc, of)?;
+        let of = copy_option(of)?;
         push_entry(variable, of, &mut given)?;
         variable = match variable.checked_add(1) {
             None => return Err(AllocError),

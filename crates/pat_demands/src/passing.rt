@@ -21,7 +21,6 @@ use std::alloc::{AllocError, Global};
 
 /// Each of the names passes from the one environment to the other.
 pub fn pass_names(
-    alloc: Global,
     names: &[u32],
     given: &[(u32, MailboxType)],
     asked: &[(u32, MailboxType)],
@@ -31,9 +30,11 @@ pub fn pass_names(
 {
     let from = LookUps::new(given);
     let to = LookUps::new(asked);
+    let mut near = (0, 0);
+    out.items.reserve(names.len())?;
     for name in names {
-        let given = from.copy_of(alloc, *name)?;
-        let asked = to.copy_of(alloc, *name)?;
+        let given = from.copy_of(&mut near.0, *name)?;
+        let asked = to.copy_of(&mut near.1, *name)?;
         out.push(Demand::Pass { given, asked })?;
     }
     Ok(())
@@ -41,26 +42,25 @@ pub fn pass_names(
 
 /// The type of the variable, unless it is that one.
 fn copy_but(
-    alloc: Global,
     but: Option<u32>,
     env: &LookUps,
+    near: &mut usize,
     variable: u32,
 ) -> Result<Option<MailboxType>, AllocError>
     ensures { IfOk result (λ o. option_map type_view o ≡ without_name but (need_of (needs_view env.now.env.now)) variable) }
 {
     match but {
-        None => env.copy_of(alloc, variable),
+        None => env.copy_of(near, variable),
         Some(name) => if name == variable {
             Ok(None)
         } else {
-            env.copy_of(alloc, variable)
+            env.copy_of(near, variable)
         },
     }
 }
 
 /// Each of the names is divided among the parts of a let of this name.
 pub fn divide_names(
-    alloc: Global,
     names: &[u32],
     but: Option<u32>,
     given: &[(u32, MailboxType)],
@@ -73,10 +73,12 @@ pub fn divide_names(
     let whole = LookUps::new(given);
     let first = LookUps::new(bound);
     let second = LookUps::new(body);
+    let mut near = (0, 0, 0);
+    out.items.reserve(names.len())?;
     for name in names {
-        let given = whole.copy_of(alloc, *name)?;
-        let bound = copy_but(alloc, but, &first, *name)?;
-        let body = copy_but(alloc, but, &second, *name)?;
+        let given = whole.copy_of(&mut near.0, *name)?;
+        let bound = copy_but(but, &first, &mut near.1, *name)?;
+        let body = copy_but(but, &second, &mut near.2, *name)?;
         out.push(Demand::Divide { given, bound, body })?;
     }
     Ok(())
@@ -98,7 +100,6 @@ pub fn names_but(
 }
 
 fn there_names(
-    alloc: Global,
     names: &[u32],
     given: &[(u32, MailboxType)],
     part: &[(u32, MailboxType)],
@@ -108,9 +109,11 @@ fn there_names(
 {
     let whole = LookUps::new(given);
     let own = LookUps::new(part);
+    let mut near = (0, 0);
+    out.items.reserve(names.len())?;
     for name in names {
-        let given = whole.copy_of(alloc, *name)?;
-        let asked = own.copy_of(alloc, *name)?;
+        let given = whole.copy_of(&mut near.0, *name)?;
+        let asked = own.copy_of(&mut near.1, *name)?;
         out.push(Demand::There { given, asked })?;
     }
     Ok(())
@@ -127,7 +130,7 @@ pub fn part_there(
     ensures { OnOk result (demands_view out.new ≡ demands_view out.old ++ listed_part (needs_view given.now) but (needs_view part.now)) }
 {
     let names = names_but(alloc, but, part)?;
-    there_names(alloc, names.as_slice(), given, part, out)
+    there_names(names.as_slice(), given, part, out)
 }
 
 fn pass_to_env(
@@ -141,7 +144,7 @@ fn pass_to_env(
 {
     let own = names_of(alloc, env)?;
     let all = then_others(alloc, names, own.as_slice())?;
-    pass_names(alloc, all.as_slice(), given, env, out)
+    pass_names(all.as_slice(), given, env, out)
 }
 
 /// What is there passes to a part, those names first, and the part names no other.
@@ -173,7 +176,7 @@ pub fn pass_asked(
     let first = names_of(alloc, asked)?;
     let own = names_of(alloc, env)?;
     let all = then_others(alloc, first.as_slice(), own.as_slice())?;
-    pass_names(alloc, all.as_slice(), env, asked, out)
+    pass_names(all.as_slice(), env, asked, out)
 }
 
 /// All that is there is dropped.
@@ -185,11 +188,11 @@ pub fn drop_all(
     ensures { OnOk result (demands_view out.new ≡ demands_view out.old ++ drops (needs_view env.now)) }
 {
     let own = names_of(alloc, env)?;
-    pass_names(alloc, own.as_slice(), env, &[], out)
+    pass_names(own.as_slice(), env, &[], out)
 }
 
 /// The type of a term, taken as that of a variable that is returnable; a base type is none.
-pub fn as_returnable(alloc: Global, of: &TypeOf) -> Result<Option<MailboxType>, AllocError>
+pub fn as_returnable(of: &TypeOf) -> Result<Option<MailboxType>, AllocError>
     ensures { IfOk result (λ o. option_map type_view o ≡ returnable_of (result_view of.now)) }
 {
     match of {
@@ -199,7 +202,7 @@ pub fn as_returnable(alloc: Global, of: &TypeOf) -> Result<Option<MailboxType>, 
             polarity,
             pattern,
         } => {
-            let pattern = pattern.copy(alloc)?;
+            let pattern = pattern.copy()?;
             Ok(Some(MailboxType {
                 interface: *interface,
                 polarity: *polarity,
@@ -212,15 +215,14 @@ pub fn as_returnable(alloc: Global, of: &TypeOf) -> Result<Option<MailboxType>, 
 
 /// The one term's type fits the other's.
 pub fn pass_result(
-    alloc: Global,
     given: &TypeOf,
     asked: &TypeOf,
     out: &mut Sequence<Demand>,
 ) -> Result<(), AllocError>
     ensures { OnOk result (demands_view out.new ≡ demands_view out.old ++ result_passes (result_view given.now) (result_view asked.now)) }
 {
-    let given = as_returnable(alloc, given)?;
-    let asked = as_returnable(alloc, asked)?;
+    let given = as_returnable(given)?;
+    let asked = as_returnable(asked)?;
     if given.is_none() || asked.is_none() {
         return Ok(());
     }

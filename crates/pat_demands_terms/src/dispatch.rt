@@ -80,7 +80,7 @@ fn made(
         polarity: Polarity::Receiving,
         pattern: Pattern::One,
     };
-    pass_result(alloc, &new, of, out)?;
+    pass_result(&new, of, out)?;
     drop_all(alloc, env, out)
 }
 

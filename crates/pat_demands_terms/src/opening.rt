@@ -36,7 +36,7 @@ fn signature(alloc: Global, function: &Function, next: &mut u32) -> Result<Signa
     ensures next { OnOk result (next.new ≡ result_number next.old (function_view function.now) + omits (function_view function.now).result) }
 {
     let params = parameters(alloc, function.params.as_slice(), next)?;
-    let result = result_type(alloc, &function.result, next)?;
+    let result = result_type(&function.result, next)?;
     Ok(Signature { params, result })
 }
 
@@ -50,20 +50,20 @@ fn parameters(
 {
     let mut types = Sequence::new(alloc);
     for sort in sorts {
-        let of = parameter(alloc, sort, next)?;
+        let of = parameter(sort, next)?;
         types.push(of)?;
     }
     Ok(types)
 }
 
-fn parameter(alloc: Global, sort: &Sort, next: &mut u32) -> Result<Option<MailboxType>, AllocError>
+fn parameter(sort: &Sort, next: &mut u32) -> Result<Option<MailboxType>, AllocError>
     ensures of { IfOk result (λ o. option_map type_view o ≡ sort_type (Var next.old) (sort_view sort.now)) }
     ensures next { OnOk result (next.new ≡ next.old + omits (sort_view sort.now)) }
 {
     match sort {
         Sort::Base(_) => Ok(None),
         Sort::Mailbox(mailbox) => {
-            let pattern = written(alloc, mailbox, next)?;
+            let pattern = written(mailbox, next)?;
             Ok(Some(MailboxType {
                 interface: mailbox.interface,
                 polarity: mailbox.polarity,
@@ -74,14 +74,14 @@ fn parameter(alloc: Global, sort: &Sort, next: &mut u32) -> Result<Option<Mailbo
     }
 }
 
-fn result_type(alloc: Global, sort: &Sort, next: &mut u32) -> Result<TypeOf, AllocError>
+fn result_type(sort: &Sort, next: &mut u32) -> Result<TypeOf, AllocError>
     ensures of { IfOk result (λ t. result_view t ≡ result_of (Var next.old) (sort_view sort.now)) }
     ensures next { OnOk result (next.new ≡ next.old + omits (sort_view sort.now)) }
 {
     match sort {
         Sort::Base(base) => Ok(TypeOf::Base(*base)),
         Sort::Mailbox(mailbox) => {
-            let pattern = written(alloc, mailbox, next)?;
+            let pattern = written(mailbox, next)?;
             Ok(TypeOf::Mailbox {
                 interface: mailbox.interface,
                 polarity: mailbox.polarity,
@@ -92,12 +92,12 @@ fn result_type(alloc: Global, sort: &Sort, next: &mut u32) -> Result<TypeOf, All
 }
 
 /// The written pattern, or the next variable.
-fn written(alloc: Global, mailbox: &MailboxSort, next: &mut u32) -> Result<Pattern, AllocError>
+fn written(mailbox: &MailboxSort, next: &mut u32) -> Result<Pattern, AllocError>
     ensures pattern { IfOk result (λ e. pattern_view e ≡ written_or (Var next.old) (option_map pattern_view mailbox.now.pattern)) }
     ensures next { OnOk result (next.new ≡ next.old + omits_pattern (option_map pattern_view mailbox.now.pattern)) }
 {
     match &mailbox.pattern {
-        Some(pattern) => pattern.copy(alloc),
+        Some(pattern) => pattern.copy(),
         None => {
             let own = *next;
             *next = match own.checked_add(1) {

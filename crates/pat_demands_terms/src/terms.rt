@@ -42,9 +42,9 @@ pub fn call(
         None => Ok(()),
         Some(signature) => {
             let mut asked = Sequence::new(alloc);
-            push_arguments(alloc, signature.params.as_slice(), arguments, &mut asked)?;
+            push_arguments(signature.params.as_slice(), arguments, &mut asked)?;
             pass_asked(alloc, env, asked.as_slice(), out)?;
-            pass_result(alloc, &signature.result, of, out)
+            pass_result(&signature.result, of, out)
         }
     }
 }
@@ -76,7 +76,7 @@ fn send(
                     usage: Usage::Second,
                 },
             ))?;
-            push_arguments(alloc, types.as_slice(), arguments, &mut asked)?;
+            push_arguments(types.as_slice(), arguments, &mut asked)?;
             pass_asked(alloc, env, asked.as_slice(), out)
         }
     }
@@ -108,7 +108,6 @@ pub fn send_to(
 
 /// The name of a let, where it is that of a mailbox.
 fn name_of_kind(
-    alloc: Global,
     kind: Option<&Kind>,
     bound: &TypeOf,
     body: &[(u32, MailboxType)],
@@ -119,8 +118,8 @@ fn name_of_kind(
 {
     match kind {
         Some(Kind::Mailbox(_)) => {
-            let bound = bound.copy(alloc)?;
-            let body = copy_of(alloc, body, name)?;
+            let bound = bound.copy()?;
+            let body = copy_of(body, name)?;
             out.push(Demand::Name { bound, body })
         }
         _ => Ok(()),
@@ -128,7 +127,6 @@ fn name_of_kind(
 }
 
 fn name(
-    alloc: Global,
     kinds: &[Kind],
     bound: &DerivedNode,
     body: &DerivedNode,
@@ -140,7 +138,6 @@ fn name(
     match name {
         None => Ok(()),
         Some(name) => name_of_kind(
-            alloc,
             kind_of(kinds, name),
             &bound.of.result,
             body.of.env.as_slice(),
@@ -189,7 +186,6 @@ fn both_parts(
     let first = names_with(alloc, own, but, bound.of.env.as_slice())?;
     let all = names_with(alloc, first, but, body.of.env.as_slice())?;
     divide_names(
-        alloc,
         all.as_slice(),
         but,
         env,
@@ -197,7 +193,7 @@ fn both_parts(
         body.of.env.as_slice(),
         out,
     )?;
-    name(alloc, kinds, bound, body, but, out)
+    name(kinds, bound, body, but, out)
 }
 
 /// The names, and then others that a part has, but that of its let.
@@ -390,7 +386,7 @@ fn bodies(
         let given = without(alloc, guarded, env)?;
         let own = names_of(alloc, env)?;
         let others = but_not(alloc, guarded, own.as_slice())?;
-        return pass_names(alloc, others.as_slice(), given.as_slice(), &[], out);
+        return pass_names(others.as_slice(), given.as_slice(), &[], out);
     }
     clauses(
         alloc, program, derivation, env, guarded, interface, pattern, free_body, receives, out,
@@ -414,8 +410,8 @@ pub fn guard(
 {
     match kind {
         Some(Kind::Mailbox(interface)) => {
-            let given = copy_of(alloc, env, guarded)?;
-            let own = pattern.copy(alloc)?;
+            let given = copy_of(env, guarded)?;
+            let own = pattern.copy()?;
             let asked = Some(MailboxType {
                 interface: *interface,
                 polarity: Polarity::Receiving,
@@ -444,7 +440,7 @@ pub fn first(
 {
     let given = params_given(alloc, types)?;
     let names = first_names(alloc, count, env)?;
-    pass_names(alloc, names.as_slice(), given.as_slice(), env, out)
+    pass_names(names.as_slice(), given.as_slice(), env, out)
 }
 
 fn first_names(

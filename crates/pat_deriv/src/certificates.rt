@@ -10,84 +10,76 @@ use crate::pieces::{put, put_number, put_numbers};
 use pat_certs_covers::CoverEntry;
 use pat_derivations::Cert;
 use pat_sequences::Sequence;
-use std::alloc::{AllocError, Global};
+use std::alloc::AllocError;
 
 /// Lists of numbers, each behind a semicolon.
-fn put_periods(
-    alloc: Global,
-    out: &mut Vec<u8>,
-    periods: &[Sequence<u32>],
-) -> Result<(), AllocError>
+fn put_periods(out: &mut Vec<u8>, periods: &[Sequence<u32>]) -> Result<(), AllocError>
     ensures { OnOk result (out.new.items ≡ out.old.items ++ flat_map (λ y. 59 ∷ y) (map numbers_text periods.now)) }
 {
     for numbers in periods {
         out.push(b';')?;
-        put_numbers(alloc, out, numbers.as_slice())?;
+        put_numbers(out, numbers.as_slice())?;
     }
     Ok(())
 }
 
 /// An entry of a cover.
-fn put_entry(alloc: Global, out: &mut Vec<u8>, entry: &CoverEntry) -> Result<(), AllocError>
+fn put_entry(out: &mut Vec<u8>, entry: &CoverEntry) -> Result<(), AllocError>
     ensures { OnOk result (out.new.items ≡ out.old.items ++ entry_text (entry_view entry.now)) }
 {
-    put_number(alloc, out, entry.set)?;
+    put_number(out, entry.set)?;
     out.push(b':')?;
-    put_numbers(alloc, out, entry.base.as_slice())?;
-    put_periods(alloc, out, entry.periods.as_slice())
+    put_numbers(out, entry.base.as_slice())?;
+    put_periods(out, entry.periods.as_slice())
 }
 
 /// Entries, each behind a bar.
-fn put_more_entries(
-    alloc: Global,
-    out: &mut Vec<u8>,
-    entries: &[CoverEntry],
-) -> Result<(), AllocError>
+fn put_more_entries(out: &mut Vec<u8>, entries: &[CoverEntry]) -> Result<(), AllocError>
     ensures { OnOk result (out.new.items ≡ out.old.items ++ flat_map (λ y. 124 ∷ y) (map entry_text (entries_view entries.now))) }
 {
     for entry in entries {
         out.push(b'|')?;
-        put_entry(alloc, out, entry)?;
+        put_entry(out, entry)?;
     }
     Ok(())
 }
 
 /// Entries with bars between.
-fn put_entries(alloc: Global, out: &mut Vec<u8>, entries: &[CoverEntry]) -> Result<(), AllocError>
+fn put_entries(out: &mut Vec<u8>, entries: &[CoverEntry]) -> Result<(), AllocError>
     ensures { OnOk result (out.new.items ≡ out.old.items ++ joined 124 (map entry_text (entries_view entries.now))) }
 {
     match entries {
         [] => Ok(()),
         [first, more @ ..] => {
-            put_entry(alloc, out, first)?;
-            put_more_entries(alloc, out, more)
+            put_entry(out, first)?;
+            put_more_entries(out, more)
         }
     }
 }
 
-fn put_cert(alloc: Global, out: &mut Vec<u8>, cert: &Cert) -> Result<(), AllocError>
+fn put_cert(out: &mut Vec<u8>, cert: &Cert) -> Result<(), AllocError>
     ensures { OnOk result (out.new.items ≡ out.old.items ++ cert_text (cert_view cert.now)) }
 {
     match cert {
         Cert::Cover(entries) => {
             put(out, b"c(")?;
-            put_entries(alloc, out, entries.as_slice())?;
+            put_entries(out, entries.as_slice())?;
             put(out, b")")
         }
         Cert::Grid(k) => {
             put(out, b"g")?;
-            put_number(alloc, out, *k)
+            put_number(out, *k)
         }
     }
 }
 
 /// Certificates, each behind a space.
-pub fn put_certs(alloc: Global, out: &mut Vec<u8>, certs: &[Cert]) -> Result<(), AllocError>
+pub fn put_certs(out: &mut Vec<u8>, certs: &[Cert]) -> Result<(), AllocError>
     ensures { OnOk result (out.new.items ≡ out.old.items ++ certs_text (certs_view certs.now)) }
 {
     for cert in certs {
         out.push(b' ')?;
-        put_cert(alloc, out, cert)?;
+        put_cert(out, cert)?;
     }
     Ok(())
 }

@@ -14,11 +14,11 @@ use pat_derivations::{Derivation, DerivedNode, VarValue};
 use std::alloc::{AllocError, Global};
 
 /// A word, and a number and a space behind it.
-fn put_head(alloc: Global, out: &mut Vec<u8>, word: &[u8], number: u64) -> Result<(), AllocError>
+fn put_head(out: &mut Vec<u8>, word: &[u8], number: u64) -> Result<(), AllocError>
     ensures { OnOk result (out.new.items ≡ out.old.items ++ (word.now ++ (decimal number ++ 32 ∷ []))) }
 {
     put(out, word)?;
-    push_number(alloc, out, number)?;
+    push_number(out, number)?;
     put(out, b" ")
 }
 
@@ -33,7 +33,7 @@ fn put_var_line(
 ) -> Result<(), AllocError>
     ensures { OnOk result (out.new.items ≡ out.old.items ++ (var_line (program_view program.now) number (var_view (interface, value.now)) ++ 10 ∷ [])) }
 {
-    put_head(alloc, out, b"var ", number)?;
+    put_head(out, b"var ", number)?;
     put_var(alloc, out, program, interface, value)?;
     put(out, b"\n")
 }
@@ -51,7 +51,7 @@ fn put_node(
     put(out, b" {")?;
     put_needs(alloc, out, program, node.of.env.as_slice())?;
     put(out, b"}")?;
-    put_certs(alloc, out, node.certs.as_slice())
+    put_certs(out, node.certs.as_slice())
 }
 
 /// The line of a node.
@@ -64,7 +64,7 @@ fn put_node_line(
 ) -> Result<(), AllocError>
     ensures { OnOk result (out.new.items ≡ out.old.items ++ (node_line (program_view program.now) number (line_view node.now) ++ 10 ∷ [])) }
 {
-    put_head(alloc, out, b"node ", number)?;
+    put_head(out, b"node ", number)?;
     put_node(alloc, out, program, node)?;
     put(out, b"\n")
 }

@@ -5,7 +5,7 @@ ghost use Rattle.pat_derivation_text.specs.DerivationText.{numbers_text};
 ghost use Rattle.std.specs.List.{flat_map};
 
 use pat_decimal::push_number;
-use std::alloc::{AllocError, Global};
+use std::alloc::AllocError;
 
 pub fn put(out: &mut Vec<u8>, bytes: &[u8]) -> Result<(), AllocError>
     ensures { OnOk result (out.new.items ≡ out.old.items ++ bytes.now) }
@@ -13,39 +13,39 @@ pub fn put(out: &mut Vec<u8>, bytes: &[u8]) -> Result<(), AllocError>
     out.extend_from_slice(bytes)
 }
 
-pub fn put_number(alloc: Global, out: &mut Vec<u8>, number: u32) -> Result<(), AllocError>
+pub fn put_number(out: &mut Vec<u8>, number: u32) -> Result<(), AllocError>
     ensures { OnOk result (out.new.items ≡ out.old.items ++ decimal number) }
 {
-    push_number(alloc, out, u64::from(number))
+    push_number(out, u64::from(number))
 }
 
 /// A number behind a byte.
-fn put_behind(alloc: Global, out: &mut Vec<u8>, byte: u8, number: u32) -> Result<(), AllocError>
+fn put_behind(out: &mut Vec<u8>, byte: u8, number: u32) -> Result<(), AllocError>
     ensures { OnOk result (out.new.items ≡ out.old.items ++ byte ∷ decimal number) }
 {
     out.push(byte)?;
-    put_number(alloc, out, number)
+    put_number(out, number)
 }
 
 /// Numbers with commas between.
-pub fn put_numbers(alloc: Global, out: &mut Vec<u8>, numbers: &[u32]) -> Result<(), AllocError>
+pub fn put_numbers(out: &mut Vec<u8>, numbers: &[u32]) -> Result<(), AllocError>
     ensures { OnOk result (out.new.items ≡ out.old.items ++ numbers_text numbers.now) }
 {
     match numbers {
         [] => Ok(()),
         [first, more @ ..] => {
-            put_number(alloc, out, *first)?;
-            put_more_numbers(alloc, out, more)
+            put_number(out, *first)?;
+            put_more_numbers(out, more)
         }
     }
 }
 
 /// Numbers, each behind a comma.
-fn put_more_numbers(alloc: Global, out: &mut Vec<u8>, numbers: &[u32]) -> Result<(), AllocError>
+fn put_more_numbers(out: &mut Vec<u8>, numbers: &[u32]) -> Result<(), AllocError>
     ensures { OnOk result (out.new.items ≡ out.old.items ++ flat_map (λ y. 44 ∷ y) (map decimal numbers.now)) }
 {
     for number in numbers {
-        put_behind(alloc, out, b',', *number)?;
+        put_behind(out, b',', *number)?;
     }
     Ok(())
 }

@@ -126,7 +126,7 @@ fn put_named(
     ensures { OnOk result (out.new.items ≡ out.old.items ++ named_text (program_view program.now) (need_view (variable, of.now))) }
 {
     out.push(b'v')?;
-    put_number(alloc, out, variable)?;
+    put_number(out, variable)?;
     put(out, b": ")?;
     put_mailbox(alloc, out, program, of.interface, of.polarity, &of.pattern)?;
     put(out, word_of_usage(of.usage))
@@ -167,28 +167,23 @@ pub fn put_needs(
 }
 
 /// A point, by its counts of the first `tags` tags.
-fn put_point(alloc: Global, out: &mut Vec<u8>, tags: usize, point: &Bag) -> Result<(), AllocError>
+fn put_point(out: &mut Vec<u8>, tags: usize, point: &Bag) -> Result<(), AllocError>
     ensures { OnOk result (out.new.items ≡ out.old.items ++ point_text tags (counts_of point.now)) }
 {
     if tags < TAGS {
-        put_numbers(alloc, out, &point.counts[..tags])
+        put_numbers(out, &point.counts[..tags])
     } else {
-        put_numbers(alloc, out, point.counts.as_slice())
+        put_numbers(out, point.counts.as_slice())
     }
 }
 
 /// Points, each behind a space.
-fn put_points(
-    alloc: Global,
-    out: &mut Vec<u8>,
-    tags: usize,
-    points: &[Bag],
-) -> Result<(), AllocError>
+fn put_points(out: &mut Vec<u8>, tags: usize, points: &[Bag]) -> Result<(), AllocError>
     ensures { OnOk result (out.new.items ≡ out.old.items ++ flat_map (λ q. 32 ∷ point_text tags q) (map counts_of points.now)) }
 {
     for point in points {
         out.push(b' ')?;
-        put_point(alloc, out, tags, point)?;
+        put_point(out, tags, point)?;
     }
     Ok(())
 }
@@ -206,8 +201,8 @@ fn put_value(
         VarValue::Pattern(pattern) => push_pattern(alloc, out, pattern, interface),
         VarValue::Grid { k, points } => {
             out.push(b'@')?;
-            put_number(alloc, out, *k)?;
-            put_points(alloc, out, interface.tags.len(), points.as_slice())
+            put_number(out, *k)?;
+            put_points(out, interface.tags.len(), points.as_slice())
         }
     }
 }

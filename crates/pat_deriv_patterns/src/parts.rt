@@ -12,6 +12,7 @@ use crate::unread::Unread;
 use pat_patterns::Pattern;
 use pat_sequences::Stack;
 use std::alloc::Global;
+use std::sync::Arc;
 
 /// The most levels that a pattern may have.
 pub const MOST_LEVELS: u32 = 16384;
@@ -87,7 +88,7 @@ fn star_part(alloc: Global, part: Part) -> Result<Part, Unread>
     ensures { Gives part_view (reading.star_part (part_view part)) result }
 {
     if agree(part.bracketed, is_sum_or_product(&part.pattern)) {
-        let star = Pattern::Star(Box::new(alloc, part.pattern)?);
+        let star = Pattern::Star(Arc::new(alloc, part.pattern)?);
         part_over(star, part.levels)
     } else {
         Err(Unread::NotSpelled)
@@ -102,8 +103,8 @@ fn product_part(alloc: Global, left: Part, right: Part) -> Result<Part, Unread>
     {
         let below = left.levels.max(right.levels);
         let product = Pattern::Prod(
-            Box::new(alloc, left.pattern)?,
-            Box::new(alloc, right.pattern)?,
+            Arc::new(alloc, left.pattern)?,
+            Arc::new(alloc, right.pattern)?,
         );
         part_over(product, below)
     } else {
@@ -117,8 +118,8 @@ fn sum_part(alloc: Global, left: Part, right: Part) -> Result<Part, Unread>
     if !left.bracketed && agree(right.bracketed, is_sum(&right.pattern)) {
         let below = left.levels.max(right.levels);
         let sum = Pattern::Sum(
-            Box::new(alloc, left.pattern)?,
-            Box::new(alloc, right.pattern)?,
+            Arc::new(alloc, left.pattern)?,
+            Arc::new(alloc, right.pattern)?,
         );
         part_over(sum, below)
     } else {

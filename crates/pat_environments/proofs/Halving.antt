@@ -6,7 +6,7 @@ use Rattle.std.specs.Ordering.{nat_cmp, ordering_index}
 use Rattle.std.proofs.lemmas.Cmp.{ranked}
 use Rattle.std.proofs.lemmas.Bool.{cond-true, cond-false, ne_eqb, eq-eqb, ltb-true, ltb-false, leb-true, le-leb, and_parts, and_from}
 use Rattle.std.proofs.lemmas.Bool.Decides.{nat_tests}
-use Rattle.std.proofs.lemmas.List.{take-append-drop, take_rest}
+use Rattle.std.proofs.lemmas.List.{get_or_default, take-append-drop, take_rest}
 use Rattle.std.proofs.Math.Seq.{drop-cons, drop-length}
 use Rattle.pat_typing.specs.Types as types
 use Rattle.pat_open_types.specs.NodeTypes.{Needs, need_of}
@@ -47,6 +47,10 @@ need_at n (e ∷ es) x (suc i) d a h is =
     let number : (get_or es i d).0 ≡ x = is in
     need_at (suc e.0) es x i d both.1 (omega arith) is
     ∙ sym (cond-false (nat_eq x e.0) (Some (type_view e.1)) (need_of (needs_view es) x) (ne_eqb x e.0 (λ q. omega arith)))
+
+-- an entry of the variable is its first
+pub stands_at : (es : Entries) (x i : ℕ) (d e : ℕ × MailboxType) → ascends_from 0 (needs_view es) ≡ true → i < length es → (get_or es i d).0 ≡ x → Some (type_view (get_or es i e).1) ≡ need_of (needs_view es) x
+stands_at es x i d e a h is = need_at 0 es x i e a h (subst (λ o. o.0 ≡ x) (get_or_default es i d e h) is)
 
 -- where it stands nowhere, nothing is needed of it
 none_there : (es : Entries) (x : ℕ) → ((i : ℕ) (d : ℕ × MailboxType) → i < length es → (get_or es i d).0 ≡ x → ⊥) → None ≡ need_of (needs_view es) x

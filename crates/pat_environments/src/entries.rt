@@ -23,16 +23,12 @@ pub fn find(env: &[(u32, MailboxType)], variable: u32) -> Option<&MailboxType>
 }
 
 /// A copy of the type of the variable, if it is named.
-pub fn copy_of(
-    alloc: Global,
-    env: &[(u32, MailboxType)],
-    variable: u32,
-) -> Result<Option<MailboxType>, AllocError>
+pub fn copy_of(env: &[(u32, MailboxType)], variable: u32) -> Result<Option<MailboxType>, AllocError>
     ensures { IfOk result (λ o. option_map type_view o ≡ need_of (needs_view env.now) variable) }
 {
     match find(env, variable) {
         None => Ok(None),
-        Some(of) => Ok(Some(of.copy(alloc)?)),
+        Some(of) => Ok(Some(of.copy()?)),
     }
 }
 
@@ -55,6 +51,7 @@ pub fn names_of(alloc: Global, env: &[(u32, MailboxType)]) -> Result<Sequence<u3
     ensures { IfOk result (λ names. names ≡ keys_of (needs_view env.now)) }
 {
     let mut names = Sequence::new(alloc);
+    names.items.reserve(env.len())?;
     for (own, _) in env {
         names.push(*own)?;
     }
@@ -70,22 +67,22 @@ pub fn without(
     ensures { IfOk result (λ rest. needs_view rest ≡ without_entry variable (needs_view env.now)) }
 {
     let mut rest = Sequence::new(alloc);
-    push_without(alloc, variable, env, &mut rest)?;
+    push_without(variable, env, &mut rest)?;
     Ok(rest)
 }
 
 /// Puts the entries there, but that of the variable.
 pub fn push_without(
-    alloc: Global,
     variable: u32,
     env: &[(u32, MailboxType)],
     out: &mut Sequence<(u32, MailboxType)>,
 ) -> Result<(), AllocError>
     ensures { OnOk result (needs_view out.new ≡ needs_view out.old ++ without_entry variable (needs_view env.now)) }
 {
+    out.items.reserve(env.len())?;
     for (own, of) in env {
         if variable != *own {
-            let copy = of.copy(alloc)?;
+            let copy = of.copy()?;
             out.push((*own, copy))?;
         }
     }
@@ -100,8 +97,9 @@ pub fn made_returnable(
     ensures { IfOk result (λ made. needs_view made ≡ returnable_entries (needs_view env.now)) }
 {
     let mut made = Sequence::new(alloc);
+    made.items.reserve(env.len())?;
     for (own, of) in env {
-        let pattern = of.pattern.copy(alloc)?;
+        let pattern = of.pattern.copy()?;
         let returnable = MailboxType {
             interface: of.interface,
             polarity: of.polarity,

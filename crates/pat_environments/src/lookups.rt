@@ -6,7 +6,7 @@ ghost use Rattle.pat_validity.specs.Derivations.{ascends_from};
 
 use crate::entries::find;
 use pat_types::MailboxType;
-use std::alloc::{AllocError, Global};
+use std::alloc::AllocError;
 
 /// An environment in which many variables are looked up: by halving where they ascend, which all do but those that a clause puts in
 /// front.
@@ -27,23 +27,28 @@ impl<'a> LookUps<'a> {
         LookUps { env, rising }
     }
 
-    /// The type of the variable, if it is named.
-    pub fn find(&self, variable: u32) -> Option<&'a MailboxType>
+    /// The type of the variable, if it is named. Names are mostly looked up in their order, so it is first looked for at the place
+    /// `near`, which then is the one behind.
+    fn find(&self, near: &mut usize, variable: u32) -> Option<&'a MailboxType>
         ensures { option_map type_view (option_copied result) ≡ need_of (needs_view self.now.env.now) variable }
     {
         match find(&self.env[..self.rising], variable) {
             Some(of) => Some(of),
-            None => find_by_halves(&self.env[self.rising..], variable),
+            None => find_near(&self.env[self.rising..], near, variable),
         }
     }
 
-    /// A copy of the type of the variable, if it is named.
-    pub fn copy_of(&self, alloc: Global, variable: u32) -> Result<Option<MailboxType>, AllocError>
+    /// A copy of the type of the variable, if it is named. It is first looked for at the place `near`, which then is the one behind.
+    pub fn copy_of(
+        &self,
+        near: &mut usize,
+        variable: u32,
+    ) -> Result<Option<MailboxType>, AllocError>
         ensures { IfOk result (λ o. option_map type_view o ≡ need_of (needs_view self.now.env.now) variable) }
     {
-        match self.find(variable) {
+        match self.find(near, variable) {
             None => Ok(None),
-            Some(of) => Ok(Some(of.copy(alloc)?)),
+            Some(of) => Ok(Some(of.copy()?)),
         }
     }
 }
@@ -67,13 +72,40 @@ fn rising_end(env: &[(u32, MailboxType)]) -> usize
     rising
 }
 
-/// The type of the variable, if it is named, where the variables ascend.
-fn find_by_halves(env: &[(u32, MailboxType)], variable: u32) -> Option<&MailboxType>
+/// The type of the variable, if it is named, where the variables ascend: at the place that is given, or found by halving.
+fn find_near<'a>(
+    env: &'a [(u32, MailboxType)],
+    near: &mut usize,
+    variable: u32,
+) -> Option<&'a MailboxType>
+    requires { ascends_from 0 (needs_view env.now) ≡ true }
+    ensures { option_map type_view (option_copied result) ≡ need_of (needs_view env.now) variable }
+{
+    let place = *near;
+    if place < env.len() && env[place].0 == variable {
+        *near = place + 1;
+        return Some(&env[place].1);
+    }
+    find_by_halves(env, near, variable)
+}
+
+/// The type of the variable, if it is named, where the variables ascend. The place is then the one behind.
+fn find_by_halves<'a>(
+    env: &'a [(u32, MailboxType)],
+    near: &mut usize,
+    variable: u32,
+) -> Option<&'a MailboxType>
     requires { ascends_from 0 (needs_view env.now) ≡ true }
     ensures { option_map type_view (option_copied result) ≡ need_of (needs_view env.now) variable }
 {
     match env.binary_search_by_key(&variable, |own| own.0) {
-        Ok(place) => Some(&env[place].1),
-        Err(_) => None,
+        Ok(place) => {
+            *near = place + 1;
+            Some(&env[place].1)
+        }
+        Err(place) => {
+            *near = place;
+            None
+        }
     }
 }

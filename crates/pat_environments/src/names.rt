@@ -35,21 +35,45 @@ fn rising_front(names: &[u32]) -> usize
     names.len()
 }
 
-/// Whether the name is in the list, which ascends.
-fn holds_rising(names: &[u32], name: u32) -> bool
+/// Whether the name is in the list, which ascends. The place is then the one behind.
+fn holds_rising(names: &[u32], near: &mut usize, name: u32) -> bool
     requires { NeverFalls names.now }
     ensures { result ≡ is_among name names.now }
 {
-    names.binary_search(&name).is_ok()
+    match names.binary_search(&name) {
+        Ok(place) => {
+            *near = place + 1;
+            true
+        }
+        Err(place) => {
+            *near = place;
+            false
+        }
+    }
 }
 
 /// Whether the name is in the list, of which so many at the front ascend.
-fn holds_beyond(names: &[u32], rising: usize, name: u32) -> bool
+fn holds_beyond(names: &[u32], rising: usize, near: &mut usize, name: u32) -> bool
     requires within { rising ≤ length names.now }
     requires rising { NeverFalls (take rising names.now) }
     ensures { result ≡ is_among name names.now }
 {
-    holds_rising(&names[..rising], name) || holds(&names[rising..], name)
+    holds_rising(&names[..rising], near, name) || holds(&names[rising..], name)
+}
+
+/// Whether the name is in the list. It is first looked for at the place `near`, which then is the one behind: names mostly come in
+/// their order.
+fn holds_near(names: &[u32], rising: usize, near: &mut usize, name: u32) -> bool
+    requires within { rising ≤ length names.now }
+    requires rising { NeverFalls (take rising names.now) }
+    ensures { result ≡ is_among name names.now }
+{
+    let place = *near;
+    if place < names.len() && names[place] == name {
+        *near = place + 1;
+        return true;
+    }
+    holds_beyond(names, rising, near, name)
 }
 
 /// Those of the second list that are not in the first.
@@ -57,9 +81,10 @@ pub fn others(alloc: Global, names: &[u32], more: &[u32]) -> Result<Sequence<u32
     ensures { IfOk result (λ rest. rest ≡ others_in names.now more.now) }
 {
     let rising = rising_front(names);
+    let mut near = 0;
     let mut rest = Sequence::new(alloc);
     for name in more {
-        if !holds_beyond(names, rising, *name) {
+        if !holds_near(names, rising, &mut near, *name) {
             rest.push(*name)?;
         }
     }
@@ -72,6 +97,7 @@ pub fn then_others(alloc: Global, names: &[u32], more: &[u32]) -> Result<Sequenc
 {
     let rest = others(alloc, names, more)?;
     let mut all = Sequence::new(alloc);
+    all.items.reserve(names.len().saturating_add(rest.len()))?;
     append(&mut all, names)?;
     append(&mut all, rest.as_slice())?;
     Ok(all)
@@ -80,9 +106,7 @@ pub fn then_others(alloc: Global, names: &[u32], more: &[u32]) -> Result<Sequenc
 fn append(all: &mut Sequence<u32>, more: &[u32]) -> Result<(), AllocError>
     ensures { OnOk result (all.new ≡ all.old ++ more.now) }
 {
-    for name in more {
-        all.push(*name)?;
-    }
+    all.items.extend_from_slice(more)?;
     Ok(())
 }
 
@@ -91,6 +115,7 @@ pub fn but_not(alloc: Global, name: u32, names: &[u32]) -> Result<Sequence<u32>,
     ensures { IfOk result (λ rest. rest ≡ all_but name names.now) }
 {
     let mut rest = Sequence::new(alloc);
+    rest.items.reserve(names.len())?;
     for own in names {
         if name != *own {
             rest.push(*own)?;

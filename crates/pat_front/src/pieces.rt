@@ -5,7 +5,7 @@ ghost use Rattle.pat_front.specs.Lines.{place_words};
 
 use pat_decimal::push_number;
 use pat_syntax::Span;
-use std::alloc::{AllocError, Global};
+use std::alloc::AllocError;
 
 pub fn push_words(text: &mut Vec<u8>, words: &[u8]) -> Result<(), AllocError>
     ensures { OnOk result (text.new.items ≡ text.old.items ++ words.now) }
@@ -15,22 +15,17 @@ pub fn push_words(text: &mut Vec<u8>, words: &[u8]) -> Result<(), AllocError>
 }
 
 // Words, and an offset.
-pub fn push_at(
-    alloc: Global,
-    text: &mut Vec<u8>,
-    words: &[u8],
-    offset: u32,
-) -> Result<(), AllocError>
+pub fn push_at(text: &mut Vec<u8>, words: &[u8], offset: u32) -> Result<(), AllocError>
     ensures { OnOk result (text.new.items ≡ text.old.items ++ (words.now ++ decimal offset)) }
 {
     push_words(text, words)?;
-    push_number(alloc, text, offset as u64)
+    push_number(text, offset as u64)
 }
 
 // Where something stands.
-pub fn push_span(alloc: Global, text: &mut Vec<u8>, span: Span) -> Result<(), AllocError>
+pub fn push_span(text: &mut Vec<u8>, span: Span) -> Result<(), AllocError>
     ensures { OnOk result (text.new.items ≡ text.old.items ++ place_words span) }
 {
-    push_at(alloc, text, b" at ", span.from)?;
-    push_at(alloc, text, b"-", span.to)
+    push_at(text, b" at ", span.from)?;
+    push_at(text, b"-", span.to)
 }

@@ -5,7 +5,7 @@ ghost use Rattle.pat_front.specs.Lines.{typing_rule_name, untypable_words, place
 use crate::pieces::{push_span, push_words};
 use pat_infer_problems::Rule;
 use pat_syntax::Span;
-use std::alloc::{AllocError, Global};
+use std::alloc::AllocError;
 
 /// Why the program of a text isn't accepted, by the first reason in this order.
 #[derive(Clone, Copy, Debug, PartialEq, Eq)]
@@ -23,36 +23,31 @@ pub enum Reason {
 }
 
 // The words that say a reason, but for names and words of the program.
-pub fn push_reason(alloc: Global, text: &mut Vec<u8>, reason: Reason) -> Result<(), AllocError>
+pub fn push_reason(text: &mut Vec<u8>, reason: Reason) -> Result<(), AllocError>
     ensures { OnOk result (text.new.items ≡ text.old.items ++ reason_text reason) }
 {
     match reason {
-        Reason::Untypable(span, rule) => push_untypable(alloc, text, span, rule),
-        Reason::Unusable(span) => push_place(alloc, text, b"unusable", span),
+        Reason::Untypable(span, rule) => push_untypable(text, span, rule),
+        Reason::Unusable(span) => push_place(text, b"unusable", span),
         Reason::TooLarge(_) => push_words(text, b"too large"),
-        Reason::Refuted(span) => push_place(alloc, text, b"refuted", span),
-        Reason::Undecided(span) => push_place(alloc, text, b"undecided", span),
+        Reason::Refuted(span) => push_place(text, b"refuted", span),
+        Reason::Undecided(span) => push_place(text, b"undecided", span),
     }
 }
 
 // Words, and where something stands.
-fn push_place(alloc: Global, text: &mut Vec<u8>, words: &[u8], span: Span) -> Result<(), AllocError>
+fn push_place(text: &mut Vec<u8>, words: &[u8], span: Span) -> Result<(), AllocError>
     ensures { OnOk result (text.new.items ≡ text.old.items ++ (words.now ++ place_words span)) }
 {
     push_words(text, words)?;
-    push_span(alloc, text, span)
+    push_span(text, span)
 }
 
 // A place, and the rule that is broken there.
-fn push_untypable(
-    alloc: Global,
-    text: &mut Vec<u8>,
-    span: Span,
-    rule: Rule,
-) -> Result<(), AllocError>
+fn push_untypable(text: &mut Vec<u8>, span: Span, rule: Rule) -> Result<(), AllocError>
     ensures { OnOk result (text.new.items ≡ text.old.items ++ untypable_words span rule) }
 {
-    push_place(alloc, text, b"untypable", span)?;
+    push_place(text, b"untypable", span)?;
     push_words(text, b": ")?;
     push_words(text, name_of(rule))
 }

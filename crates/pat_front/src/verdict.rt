@@ -48,46 +48,41 @@ pub fn verdict_line_with(
     ensures { IfOk result (λ text. text.items ≡ line_with verdict more.now) }
 {
     let mut text = Vec::new(alloc);
-    push_verdict(alloc, &mut text, verdict)?;
+    push_verdict(&mut text, verdict)?;
     push_words(&mut text, more)?;
     text.push(b'\n')?;
     Ok(text)
 }
 
-fn push_verdict(alloc: Global, text: &mut Vec<u8>, verdict: Verdict) -> Result<(), AllocError>
+fn push_verdict(text: &mut Vec<u8>, verdict: Verdict) -> Result<(), AllocError>
     ensures { OnOk result (text.new.items ≡ text.old.items ++ verdict_text verdict) }
 {
     match verdict {
         Verdict::TooLong => push_words(text, b"too long"),
-        Verdict::Syntax(offset) => push_at(alloc, text, b"syntax error at ", offset),
-        Verdict::NumberTooWide(offset) => push_at(alloc, text, b"number too wide at ", offset),
-        Verdict::TooDeep(offset) => push_at(alloc, text, b"too deep at ", offset),
-        Verdict::Resolve(kind, span) => push_broken(alloc, text, kind, span),
-        Verdict::BadText(offset) => push_at(alloc, text, b"bad text at ", offset),
-        Verdict::Rejected(node, rule) => push_rejected(alloc, text, node, rule),
-        Verdict::RefusedAt(entry) => push_at(alloc, text, b"refused at entry ", entry),
-        Verdict::Unaccepted(reason) => push_reason(alloc, text, reason),
+        Verdict::Syntax(offset) => push_at(text, b"syntax error at ", offset),
+        Verdict::NumberTooWide(offset) => push_at(text, b"number too wide at ", offset),
+        Verdict::TooDeep(offset) => push_at(text, b"too deep at ", offset),
+        Verdict::Resolve(kind, span) => push_broken(text, kind, span),
+        Verdict::BadText(offset) => push_at(text, b"bad text at ", offset),
+        Verdict::Rejected(node, rule) => push_rejected(text, node, rule),
+        Verdict::RefusedAt(entry) => push_at(text, b"refused at entry ", entry),
+        Verdict::Unaccepted(reason) => push_reason(text, reason),
     }
 }
 
 // A broken rule, and a place.
-fn push_broken(
-    alloc: Global,
-    text: &mut Vec<u8>,
-    kind: ResolveKind,
-    span: Span,
-) -> Result<(), AllocError>
+fn push_broken(text: &mut Vec<u8>, kind: ResolveKind, span: Span) -> Result<(), AllocError>
     ensures { OnOk result (text.new.items ≡ text.old.items ++ (rule_words kind ++ place_words span)) }
 {
     push_words(text, words_of(kind))?;
-    push_span(alloc, text, span)
+    push_span(text, span)
 }
 
 // A node, and a broken rule of derivations.
-fn push_rejected(alloc: Global, text: &mut Vec<u8>, node: u32, rule: Rule) -> Result<(), AllocError>
+fn push_rejected(text: &mut Vec<u8>, node: u32, rule: Rule) -> Result<(), AllocError>
     ensures { OnOk result (text.new.items ≡ text.old.items ++ rejected_words node rule) }
 {
-    push_at(alloc, text, b"rejected at node ", node)?;
+    push_at(text, b"rejected at node ", node)?;
     push_words(text, b": ")?;
     push_words(text, rule.name())
 }

@@ -1,8 +1,8 @@
 -- Rows, one entry and one symbol after another.
-use Rattle.std.proofs.Common.{◌≡◌, ℕ, zero, suc, ◌+◌, ◌<◌, ◌↔◌, Bool, true, false, List, [], ◌∷◌, ◌++◌, length, get_or, take, Some, refl, sym, ap, ◌∙◌, subst, arith, ⊎_elim}
+use Rattle.std.proofs.Common.{◌≡◌, ℕ, zero, suc, ◌+◌, ◌<◌, ◌↔◌, Bool, true, false, List, [], ◌∷◌, ◌++◌, length, length-set, get_or, set, replicate, take, Some, refl, sym, ap, ◌∙◌, subst, arith, ⊎_elim}
 use Rattle.std.specs.Prelude.{slice_get, nat_le}
 use Rattle.std.proofs.lemmas.Bool.{cases_lt, leb-true, le-leb}
-use Rattle.std.proofs.lemmas.List.{get_or_append_left, get_or_at, take_more}
+use Rattle.std.proofs.lemmas.List.{get_or-set_same, get_or-set_other, length-replicate, take_more}
 use Rattle.pat_bounds.specs.Tables.{IsKnown}
 use Rattle.pat_grid_points.specs.declared.grid.Grid.{Grid}
 use Rattle.pat_grid_tables.specs.declared.board.Board.{Board}
@@ -10,31 +10,29 @@ use Rattle.pat_grid_tables.specs.Views.{setting_of}
 use Rattle.pat_grid_tables.specs.Moves.{entry_at}
 use Rattle.pat_grid.specs.Rows.{TestsBefore, IsRow, AreRows}
 
--- as many tests as numbers so far, each right
+-- a test for each number, and those before m are right
 pub record Tested (b : Board) (entries : List ℕ) (s : ℕ) (held : List Bool) (m : ℕ) : Type 0 where
-  pub count : length held ≡ m
+  pub count : length held ≡ b.points
   pub right : TestsBefore b entries s held m
 
-pub tested_none : (b : Board) (entries : List ℕ) (s : ℕ) (held : List Bool) → held ≡ [] → Tested b entries s held 0
-tested_none b entries s held e = record { count = ap length e; right = λ c l. absurd (omega arith) }
+pub tested_none : (b : Board) (entries : List ℕ) (s : ℕ) (held : List Bool) → held ≡ replicate b.points false → Tested b entries s held 0
+tested_none b entries s held e = record {
+  count = ap length e ∙ length-replicate b.points false;
+  right = λ c l. absurd (omega arith);
+}
 
-pub tested_more : (b : Board) (entries : List ℕ) (s size m : ℕ) (old new : List Bool) → Tested b entries s old m → size ≡ entry_at (setting_of b) entries s m → new ≡ old ++ nat_le size (b.limit + 1) ∷ [] → Tested b entries s new (m + 1)
-tested_more b entries s size m old new h is e =
-    subst (λ held. Tested b entries s held (m + 1)) (sym e) (record {
-      count = long old ∙ ap (λ n. n + 1) h.count;
-      right = λ c l. ⊎_elim
-          (λ k. subst (λ t. (t ≡ true) ↔ IsKnown b.limit (entry_at (setting_of b) entries s c)) (sym (get_or_append_left old (nat_le size (b.limit + 1) ∷ []) false c (let n = h.count in omega arith))) (h.right c k))
-          (λ k.
-          let same : m ≡ c = omega arith in
-          subst (λ i. (get_or (old ++ nat_le size (b.limit + 1) ∷ []) i false ≡ true) ↔ IsKnown b.limit (entry_at (setting_of b) entries s i)) same
-          (subst (λ t. (t ≡ true) ↔ IsKnown b.limit (entry_at (setting_of b) entries s m)) (sym (get_or_at old (nat_le size (b.limit + 1)) [] false m h.count))
-          (λ t. (let l2 = leb-true size (b.limit + 1) t in omega arith), λ k2. le-leb size (b.limit + 1) (omega arith))))
-          (cases_lt c m);
-    })
-  where
-    long : (xs : List Bool) → length (xs ++ nat_le size (b.limit + 1) ∷ []) ≡ length xs + 1
-    long [] = omega arith
-    long (x ∷ xs) = let l = long xs in omega arith
+pub tested_more : (b : Board) (entries : List ℕ) (s size m : ℕ) (old : List Bool) → m < b.points → Tested b entries s old m → size ≡ entry_at (setting_of b) entries s m → Tested b entries s (set old m (nat_le size (b.limit + 1))) (m + 1)
+tested_more b entries s size m old room h is = record {
+  count = length-set old m (nat_le size (b.limit + 1)) ∙ h.count;
+  right = λ c l. ⊎_elim
+      (λ k. subst (λ t. (t ≡ true) ↔ IsKnown b.limit (entry_at (setting_of b) entries s c)) (sym (get_or-set_other old m c (nat_le size (b.limit + 1)) false (λ e. omega arith))) (h.right c k))
+      (λ k.
+      let same : m ≡ c = omega arith in
+      subst (λ i. (get_or (set old m (nat_le size (b.limit + 1))) i false ≡ true) ↔ IsKnown b.limit (entry_at (setting_of b) entries s i)) same
+      (subst (λ t. (t ≡ true) ↔ IsKnown b.limit (entry_at (setting_of b) entries s m)) (sym (get_or-set_same old m (nat_le size (b.limit + 1)) false (let n = h.count in omega arith)))
+      (λ t. (let l2 = leb-true size (b.limit + 1) t in omega arith), λ k2. le-leb size (b.limit + 1) (omega arith))))
+      (cases_lt c m);
+}
 
 pub rows_more : (b : Board) (entries : List ℕ) (s : ℕ) (g : Grid) (numbers : List ℕ) (grids : List Grid) → AreRows b entries numbers grids → IsRow b entries s g → AreRows b entries (numbers ++ s ∷ []) (grids ++ g ∷ [])
 rows_more b entries s g [] [] h r = (r, tt)

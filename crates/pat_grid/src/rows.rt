@@ -15,12 +15,12 @@ pub fn row(alloc: Global, board: &Board, entries: &[u16], s: usize) -> Result<Gr
     requires all { HasAllEntries (setting_of board.now) entries.now }
     ensures { IfOk result (IsRow board.now entries.now s) }
 {
-    let mut held = Sequence::new(alloc);
+    let mut held = vec![in alloc; false; board.points]?;
     for number in 0..board.points {
         let size = entry(board, entries, s, number);
-        held.push(size <= board.limit + 1)?;
+        held[number] = size <= board.limit + 1;
     }
-    Ok(Grid::from_held(board.k, board.tags, held))
+    Ok(Grid::from_held(board.k, board.tags, Sequence::from_vec(held)))
 }
 
 /// Those of each symbol of a list.

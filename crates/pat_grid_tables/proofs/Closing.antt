@@ -20,7 +20,7 @@ use Rattle.pat_grid_symbols.specs.declared.symbol.Symbol.{Symbol as CodeSymbol}
 use Rattle.pat_grid_symbols.specs.Views.{symbol_view, symbols_view}
 use Rattle.pat_grid_tables.specs.declared.board.Board.{Board}
 use Rattle.pat_grid_tables.specs.Views.{setting_of, IsBoard}
-use Rattle.pat_grid_tables.specs.Moves.{entry_at, ClosedAt, TakesPart, PartBefore, TakesParts, PairAt, RowsBefore, Lists, HeldBefore}
+use Rattle.pat_grid_tables.specs.Moves.{entry_at, ClosedAt, TakesPart, PartBefore, TakesParts, PairAt, RowBefore, RowsBefore, WholeRow, WholeRows, Lists, HeldBefore}
 
 -- ---- the symbol of a number
 
@@ -119,16 +119,14 @@ takes_lower g s k a e root table u size h =
 
 -- ---- two parts
 
-pub pairs_closed : (g : Setting) (s a b from : ℕ) (Q : ℕ → Type 0) (firsts seconds entries : List ℕ) → RowsBefore g s a b firsts seconds (length firsts) entries → Lists (λ c. IsKnown g.limit (entry_at g entries a c)) from (points_in g.bound g.tags) firsts → Lists Q 0 (points_in g.bound g.tags) seconds → (v w u : Word) (size : ℕ) → StepByTwo g (table_of g entries) a b v w u size → from ≤ number_of g.bound g.tags v → Q (number_of g.bound g.tags w) → table_of g entries s u ≤ size
-pairs_closed g s a b from Q firsts seconds entries rows lf ls v w u size step l q =
+pairs_closed : (g : Setting) (s a b from : ℕ) (firsts entries : List ℕ) → WholeRows g s a b firsts (length firsts) entries → Lists (λ c. IsKnown g.limit (entry_at g entries a c)) from (points_in g.bound g.tags) firsts → (v w u : Word) (size : ℕ) → StepByTwo g (table_of g entries) a b v w u size → from ≤ number_of g.bound g.tags v → table_of g entries s u ≤ size
+pairs_closed g s a b from firsts entries rows lf v w u size step l =
     let k = g.bound in
     let n = g.tags in
     let x = number_of k n v in
     let y = number_of k n w in
     let f = lf.all x l (number_small k n v step.0) step.2 in
-    let t = ls.all y (omega arith) (number_small k n w step.1) q in
-    let pair : PairAt g s a b x y entries =
-    subst (λ i. PairAt g s a b i y entries) f.2 (subst (λ i. PairAt g s a b (get_or firsts f.0 0) i entries) t.2 (rows f.0 f.1 t.0 t.1)) in
+    let pair : PairAt g s a b x y entries = subst (λ i. PairAt g s a b i y entries) f.2 (rows f.0 f.1 y (number_small k n w step.1)) in
     let less = pair step.2 step.3 in
     let sums : summed k n x y ≡ number_of k n u =
     ap (number_of k n) (ap₂ (λ i j. cut_at k (plus i j)) (number_point k n v step.0) (number_point k n w step.1) ∙ sym step.4) in
@@ -136,20 +134,26 @@ pairs_closed g s a b from Q firsts seconds entries rows lf ls v w u size step l 
     let is = step.5 in
     omega arith
 
+-- where the second part has no tree, nothing is claimed
+pub row_whole : (g : Setting) (s a b v : ℕ) (seconds entries : List ℕ) → Lists (λ c. IsKnown g.limit (entry_at g entries b c)) 0 (points_in g.bound g.tags) seconds → RowBefore g s a b v seconds (length seconds) entries → WholeRow g s a b v entries
+row_whole g s a b v seconds entries ls row w l ka kb =
+    let t = ls.all w (omega arith) l kb in
+    subst (λ i. PairAt g s a b v i entries) t.2 (row t.0 t.1) ka kb
+
 pub closed_product : (g : Setting) (s a b : ℕ) (firsts seconds entries : List ℕ) → symbol_at g.flat s ≡ ProdSymbol a b → RowsBefore g s a b firsts seconds (length firsts) entries → Lists (λ c. IsKnown g.limit (entry_at g entries a c)) 0 (points_in g.bound g.tags) firsts → Lists (λ c. IsKnown g.limit (entry_at g entries b c)) 0 (points_in g.bound g.tags) seconds → ClosedAt g s entries
 closed_product g s a b firsts seconds entries e rows lf ls u size p step =
     let h = subst (λ y. StepAt g (table_of g entries) s y u size) e step in
-    pairs_closed g s a b 0 (λ c. IsKnown g.limit (entry_at g entries b c)) firsts seconds entries rows lf ls h.0 h.1 u size h.2 (omega arith) h.2.3
+    pairs_closed g s a b 0 firsts entries (λ i l. row_whole g s a b (get_or firsts i 0) seconds entries ls (rows i l)) lf h.0 h.1 u size h.2 (omega arith)
 
 pub takes_product : (g : Setting) (s a b v : ℕ) → symbol_at g.flat s ≡ ProdSymbol a b → TakesParts g s a b v
 takes_product g s a b v e table w u size h =
     subst (λ y. StepAt g table s y u size) (sym e) (point_of g.bound g.tags v, w, h)
 
-pub closed_star : (g : Setting) (s a : ℕ) (firsts seconds entries : List ℕ) → symbol_at g.flat s ≡ StarSymbol a → entry_at g entries s 0 ≤ 1 → RowsBefore g s a s firsts seconds (length firsts) entries → Lists (λ c. IsKnown g.limit (entry_at g entries a c)) 1 (points_in g.bound g.tags) firsts → Lists (λ c. Unit {0}) 0 (points_in g.bound g.tags) seconds → ClosedAt g s entries
-closed_star g s a firsts seconds entries e one rows lf ls u size p step =
+pub closed_star : (g : Setting) (s a : ℕ) (firsts entries : List ℕ) → symbol_at g.flat s ≡ StarSymbol a → entry_at g entries s 0 ≤ 1 → WholeRows g s a s firsts (length firsts) entries → Lists (λ c. IsKnown g.limit (entry_at g entries a c)) 1 (points_in g.bound g.tags) firsts → ClosedAt g s entries
+closed_star g s a firsts entries e one rows lf u size p step =
     ⊎_elim
     (λ h. only_at g s 0 entries u no_word size (sym (number_none g.bound g.tags)) one h)
-    (λ h. pairs_closed g s a s 1 (λ c. Unit {0}) firsts seconds entries rows lf ls h.0 h.1 u size h.2 (above h.0 h.2.0 h.3) tt)
+    (λ h. pairs_closed g s a s 1 firsts entries rows lf h.0 h.1 u size h.2 (above h.0 h.2.0 h.3))
     (subst (λ y. StepAt g (table_of g entries) s y u size) e step)
   where
     above : (v : Word) → IsPoint g.bound g.tags v → (v ≡ no_word → ⊥) → 1 ≤ number_of g.bound g.tags v

@@ -1,6 +1,6 @@
 -- A board is one that a table can be made for.
-use Rattle.std.proofs.Common.{◌≡◌, ℕ, ◌<◌, Bool, false, List, ◌++◌, length, take, drop, append-nil, refl, sym, ap, ◌∙◌, subst, arith}
-use Rattle.std.proofs.lemmas.List.{length-map, drop_all, take_all}
+use Rattle.std.proofs.Common.{◌≡◌, ℕ, List, ◌++◌, length, take, drop, append-nil, refl, ap, ◌∙◌, subst, arith}
+use Rattle.std.proofs.lemmas.List.{drop_all, take_all}
 use Rattle.pat_words.specs.Tags.{HasTagsBelow}
 use Rattle.pat_words.specs.Languages.{MemberOf}
 use Rattle.std.specs.Prelude.{Option, Some, None, slice_get}

@@ -1,3 +1,4 @@
+mod Reached
 mod Relaxing
 mod Closing
 mod Turns

@@ -1,8 +1,8 @@
 -- Relaxing, one call after another.
-use Rattle.std.proofs.Common.{◌≡◌, ◌≢◌, ℕ, suc, ◌+◌, ◌*◌, ◌<◌, ◌≤◌, min, ◌⊎◌, inl, inr, ⊎_elim, Bool, true, false, List, [], ◌∷◌, ◌++◌, length, length-set, length-append, append-nil, get_or, set, refl, sym, ap, ap₂, ◌∙◌, subst, arith, suc-mul, mul-le-mul_right}
+use Rattle.std.proofs.Common.{◌≡◌, ◌≢◌, ℕ, suc, ◌+◌, ◌*◌, ◌<◌, ◌≤◌, min, ◌⊎◌, inl, inr, ⊎_elim, Bool, true, false, List, [], ◌∷◌, ◌++◌, length, length-set, length-append, get_or, set, refl, sym, ap, ap₂, ◌∙◌, subst, arith, suc-mul, mul-le-mul_right}
 use Rattle.std.specs.Prelude.{if◌then◌else◌}
 use Rattle.std.proofs.lemmas.Bool.{cases_lt, cases_eq}
-use Rattle.std.proofs.lemmas.List.{get_or-set_same, get_or-set_other, get_or_past, get_or_default, get_or_append_left, get_or_at, length-map}
+use Rattle.std.proofs.lemmas.List.{get_or-set_same, get_or-set_other, get_or_past, get_or_default, length-map}
 use Rattle.pat_words.specs.Words.{plus}
 use Rattle.pat_words.specs.Cuts.{cut_at}
 use Rattle.pat_words.specs.Tags.{HasTagsBelow}
@@ -16,8 +16,11 @@ use Rattle.pat_grid_points.specs.Views.{summed}
 use Rattle.pat_grid_points.proofs.Digits.{summed_below as summed_small}
 use Rattle.pat_grid_symbols.specs.Views.{symbol_view}
 use Rattle.pat_grid_tables.specs.declared.board.Board.{Board}
+use Rattle.pat_grid_tables.specs.declared.sizes.Sizes.{Sizes}
 use Rattle.pat_grid_tables.specs.Views.{setting_of, IsBoard}
-use Rattle.pat_grid_tables.specs.Moves.{entry_at, total, IsPlace, Lowers, Moved, PartAt, PartBefore, AreOthers, PairAt, RowBefore, RowsBefore, HeldBefore, Lists}
+use Rattle.pat_grid_tables.specs.Moves.{entry_at, total, IsPlace, Lowers, Moved, PartAt, PartBefore, ListedBefore, AreOthers, PairAt, RowBefore, RowsBefore, HeldBefore, Among, HasLists, Lists, Picks}
+use Rattle.pat_grid_tables.specs.Waiting.{noted}
+use Rattle.pat_grid_tables.proofs.Reached.{lists_written, lists_forgotten}
 
 -- ---- rows
 
@@ -36,19 +39,21 @@ pub same_row : (g : Setting) (s a c : ℕ) (x y : List ℕ) → Lowers g s x y �
 same_row g s a c x y m l o = ⊎_elim (λ e. ap (λ es. entry_at g es a c) e) (λ d. m.elsewhere a c d l) o
 
 -- nothing was done
-pub moved_none : (g : Setting) (s : ℕ) (Apart : Type 0) (Claim : List ℕ → Type 0) (old : List ℕ) (was : Bool) → Claim old → Moved g s Apart Claim old was old was
+pub moved_none : (g : Setting) (s : ℕ) (Apart : Type 0) (Claim : List ℕ → Type 0) (old : Sizes) (was : Bool) → Claim old.entries → Moved g s Apart Claim old was old was
 moved_none g s Apart Claim old was h = record {
   as_long = refl;
   sound = λ s. s;
   at_most = omega arith;
   falls = λ e. inl e;
   stays = λ e. (e, refl);
-  lowers = lowers_none g s old;
+  lowers = lowers_none g s old.entries;
   claim = λ e. h;
+  lists = λ l. l;
+  news = omega arith;
 }
 
 -- one after the other; what the first one claims is kept by the second one where the parts are apart
-pub moved_both : (g : Setting) (s : ℕ) (Apart : Type 0) (A B C : List ℕ → Type 0) (x y z : List ℕ) (a b c : Bool) → Moved g s Apart A x a y b → Moved g s Apart B y b z c → (Apart → Lowers g s y z → A y → A z) → (A z → B z → C z) → Moved g s Apart C x a z c
+pub moved_both : (g : Setting) (s : ℕ) (Apart : Type 0) (A B C : List ℕ → Type 0) (x y z : Sizes) (a b c : Bool) → Moved g s Apart A x a y b → Moved g s Apart B y b z c → (Apart → Lowers g s y.entries z.entries → A y.entries → A z.entries) → (A z.entries → B z.entries → C z.entries) → Moved g s Apart C x a z c
 moved_both g s Apart A B C x y z a b c first second keeps h = record {
   as_long = second.as_long ∙ first.as_long;
   sound = λ s. second.sound (first.sound s);
@@ -58,15 +63,17 @@ moved_both g s Apart A B C x y z a b c first second keeps h = record {
       (λ l. inr (let p = first.at_most in omega arith))
       (second.falls e);
   stays = λ e. let t = second.stays e in let f = first.stays t.0 in (f.0, t.1 ∙ f.1);
-  lowers = lowers_both g s x y z first.lowers second.lowers;
+  lowers = lowers_both g s x.entries y.entries z.entries first.lowers second.lowers;
   claim = λ e. ⊎_elim
       (λ f. let t = second.stays f in h (subst A (sym t.1) (first.claim (inl t.0))) (second.claim (inl f)))
       (λ p. h (keeps p second.lowers (first.claim (inr p))) (second.claim (inr p)))
       e;
+  lists = λ l. second.lists (first.lists l);
+  news = let p = first.news in let q = second.news in omega arith;
 }
 
 -- what is claimed may be said otherwise, and of parts that are apart in another sense
-pub moved_as : (g : Setting) (s : ℕ) (P Q : Type 0) (A B : List ℕ → Type 0) (x y : List ℕ) (a b : Bool) → Moved g s P A x a y b → (Q → P) → ((y ≡ x) ⊎ Q → A y → B y) → Moved g s Q B x a y b
+pub moved_as : (g : Setting) (s : ℕ) (P Q : Type 0) (A B : List ℕ → Type 0) (x y : Sizes) (a b : Bool) → Moved g s P A x a y b → (Q → P) → ((y.entries ≡ x.entries) ⊎ Q → A y.entries → B y.entries) → Moved g s Q B x a y b
 moved_as g s P Q A B x y a b m to h = record {
   as_long = m.as_long;
   sound = m.sound;
@@ -75,6 +82,22 @@ moved_as g s P Q A B x y a b m to h = record {
   stays = m.stays;
   lowers = m.lowers;
   claim = λ e. ⊎_elim (λ f. h (inl (m.stays f).1) (m.claim (inl f))) (λ q. h (inr q) (m.claim (inr (to q)))) e;
+  lists = m.lists;
+  news = m.news;
+}
+
+-- what was new was forgotten before
+pub moved_from : (g : Setting) (s : ℕ) (Apart : Type 0) (Claim : List ℕ → Type 0) (w x y : Sizes) (a b : Bool) → x.entries ≡ w.entries → x.reached ≡ w.reached → x.news ≡ [] → Moved g s Apart Claim x a y b → Moved g s Apart Claim w a y b
+moved_from g s Apart Claim w x y a b e f n m = record {
+  as_long = m.as_long ∙ ap length e;
+  sound = λ k. m.sound (subst (λ es. IsSound g (table_of g es)) (sym e) k);
+  at_most = subst (λ es. total y.entries ≤ total es) e m.at_most;
+  falls = λ k. ⊎_elim (λ i. inl i) (λ l. inr (subst (λ es. total y.entries < total es) e l)) (m.falls k);
+  stays = λ k. let t = m.stays k in (t.0, t.1 ∙ e);
+  lowers = subst (λ es. Lowers g s es y.entries) e m.lowers;
+  claim = m.claim;
+  lists = λ l. m.lists (lists_forgotten g w x e f n l);
+  news = let p = subst (λ es. total y.entries + length y.news ≤ total es + length x.news) e m.news in let z = ap length n in omega arith;
 }
 
 -- ---- entries
@@ -114,50 +137,68 @@ other_place p a s c d n l m e =
     (cases_lt s a))
     (cases_lt a s)
 
+-- an entry at another place stays
+entry_other : (g : Setting) (entries : List ℕ) (s d size a c : ℕ) → d < points_in g.bound g.tags → c < points_in g.bound g.tags → (a ≡ s → ⊥) ⊎ (c ≡ d → ⊥) → entry_at g (set entries (s * points_in g.bound g.tags + d) size) a c ≡ entry_at g entries a c
+entry_other g entries s d size a c l m o =
+    get_or-set_other entries (s * points_in g.bound g.tags + d) (a * points_in g.bound g.tags + c) size (unknown g.limit)
+    (⊎_elim
+    (λ n. other_place (points_in g.bound g.tags) a s c d n m l)
+    (λ n. ⊎_elim
+    (λ e f. n (let i = ap (λ x. x * points_in g.bound g.tags) e in omega arith))
+    (λ n2. other_place (points_in g.bound g.tags) a s c d n2 m l)
+    (cases_eq a s))
+    o)
+
 lowers_one : (g : Setting) (entries : List ℕ) (s d size : ℕ) → d < points_in g.bound g.tags → s * points_in g.bound g.tags + d < length entries → size ≤ entry_at g entries s d → Lowers g s entries (set entries (s * points_in g.bound g.tags + d) size)
 lowers_one g entries s d size l within less = record {
-  elsewhere = λ a c n m. get_or-set_other entries (s * points_in g.bound g.tags + d) (a * points_in g.bound g.tags + c) size (unknown g.limit) (other_place (points_in g.bound g.tags) a s c d n m l);
+  elsewhere = λ a c n m. entry_other g entries s d size a c l m (inl n);
   here = λ c m. ⊎_elim
       (λ e. let h = ap (λ i. get_or (set entries (s * points_in g.bound g.tags + d) size) (s * points_in g.bound g.tags + i) (unknown g.limit)) e in let same = get_or-set_same entries (s * points_in g.bound g.tags + d) size (unknown g.limit) within in let at = ap (entry_at g entries s) e in omega arith)
-      (λ n. let h = get_or-set_other entries (s * points_in g.bound g.tags + d) (s * points_in g.bound g.tags + c) size (unknown g.limit) (λ e. n (omega arith)) in omega arith)
+      (λ n. let h = entry_other g entries s d size s c l m (inr n) in omega arith)
       (cases_eq c d);
 }
 
--- an entry was lowered
-pub lowered : (b : Board) (entries : List ℕ) (was : Bool) (s c size : ℕ) → IsBoard b → HasAllEntries (setting_of b) entries → IsPlace b s c → Step (setting_of b) (table_of (setting_of b) entries) s (point_of b.k b.tags c) size → size < get_or entries (s * b.points + c) 0 → Moved (setting_of b) s (Unit {0}) (λ es. entry_at (setting_of b) es s c ≤ size) entries was (set entries (s * b.points + c) size) true
-lowered b entries was s c size board all place step less =
+-- an entry was lowered, and the number noted where there was no tree
+pub lowered : (b : Board) (x y : Sizes) (was wanted : Bool) (s c d size : ℕ) → d ≡ c → IsBoard b → HasAllEntries (setting_of b) x.entries → IsPlace b s c → Step (setting_of b) (table_of (setting_of b) x.entries) s (point_of b.k b.tags c) size → size < get_or x.entries (s * b.points + c) 0 → (wanted ≡ false → get_or x.entries (s * b.points + c) 0 ≤ b.limit + 1) → y.entries ≡ set x.entries (s * b.points + c) size → y.reached ≡ (if wanted then noted x.reached s d else x.reached) → y.news ≡ x.news ++ (c ∷ []) → Moved (setting_of b) s (Unit {0}) (λ es. entry_at (setting_of b) es s c ≤ size) x was y true
+lowered b x y was wanted s c d size same board all place step less few written noting news =
     let g = setting_of b in
-    let m : c < points_in b.k b.tags = subst (λ x. c < x) board.points place.1 in
+    let entries = x.entries in
+    let m : c < points_in b.k b.tags = subst (λ p. c < p) board.points place.1 in
     let l : s < length g.flat.symbols = symbol_within b s place.0 in
     let u = point_of b.k b.tags c in
     let i = s * b.points + c in
-    let at : place_of g s u ≡ i = ap₂ (λ x y. s * x + y) (sym board.points) (point_number b.k b.tags c m) in
-    let within : i < length entries = subst (λ x. s * x + c < length entries) (sym board.points) (entry_within g entries s c all l m) in
+    let at : place_of g s u ≡ i = ap₂ (λ p q. s * p + q) (sym board.points) (point_number b.k b.tags c m) in
+    let within : i < length entries = subst (λ p. s * p + c < length entries) (sym board.points) (entry_within g entries s c all l m) in
     let fall : total (set entries i size) < total entries = write_falls entries i size within less in
-    let steps = write_steps g entries s u size (point_fits b.k b.tags c) (subst (λ x. x < length entries) (sym at) within) step in
+    let steps = write_steps g entries s u size (point_fits b.k b.tags c) (subst (λ p. p < length entries) (sym at) within) step in
     let here : get_or (set entries i size) (s * points_in b.k b.tags + c) (unknown g.limit) ≡ size =
-    ap (λ x. get_or (set entries i size) (s * x + c) (unknown g.limit)) (sym board.points) ∙ get_or-set_same entries i size (unknown g.limit) within in
+    ap (λ p. get_or (set entries i size) (s * p + c) (unknown g.limit)) (sym board.points) ∙ get_or-set_same entries i size (unknown g.limit) within in
     let old : get_or entries i 0 ≡ entry_at g entries s c =
-    get_or_default entries i 0 (unknown g.limit) within ∙ ap (λ x. get_or entries (s * x + c) (unknown g.limit)) board.points in
+    get_or_default entries i 0 (unknown g.limit) within ∙ ap (λ p. get_or entries (s * p + c) (unknown g.limit)) board.points in
+    let rows : y.entries ≡ set entries (s * points_in b.k b.tags + c) size = written ∙ ap (λ p. set entries (s * p + c) size) board.points in
+    let sum = ap total written in
     record {
-      as_long = length-set entries i size;
-      sound = λ h. subst (λ x. IsSound g (table_of g (set entries x size))) at (steps_sound g (table_of g entries) (table_of g (set entries (place_of g s u) size)) h steps);
+      as_long = ap length written ∙ length-set entries i size;
+      sound = λ h. subst (λ es. IsSound g (table_of g es)) (sym written) (subst (λ p. IsSound g (table_of g (set entries p size))) at (steps_sound g (table_of g entries) (table_of g (set entries (place_of g s u) size)) h steps));
       at_most = omega arith;
-      falls = λ e. inr fall;
+      falls = λ e. inr (omega arith);
       stays = λ e. absurd (cc);
-      lowers = subst (λ x. Lowers g s entries (set entries (s * x + c) size)) (sym board.points) (lowers_one g entries s c size m (entry_within g entries s c all l m) (omega arith));
-      claim = λ e. omega arith;
+      lowers = subst (Lowers g s entries) (sym rows) (lowers_one g entries s c size m (entry_within g entries s c all l m) (omega arith));
+      claim = λ e. let at2 = ap (λ es. entry_at g es s c) written in omega arith;
+      lists = λ h. lists_written g x y s c l m (λ a i n o. ap (λ es. entry_at g es a i) rows ∙ entry_other g entries s c size a i m n o) news h wanted (λ e. let f = few e in omega arith) (subst (λ i. y.reached ≡ (if wanted then noted x.reached s i else x.reached)) same noting);
+      news = let n = ap length news in let k = length-append x.news (c ∷ []) in omega arith;
     }
 
 -- it wasn't greater
-pub not_lowered : (b : Board) (entries : List ℕ) (was : Bool) (s c size : ℕ) → IsBoard b → HasAllEntries (setting_of b) entries → IsPlace b s c → get_or entries (s * b.points + c) 0 ≤ size → Moved (setting_of b) s (Unit {0}) (λ es. entry_at (setting_of b) es s c ≤ size) entries was entries was
-not_lowered b entries was s c size board all place least =
+pub not_lowered : (b : Board) (x : Sizes) (was : Bool) (s c size : ℕ) → IsBoard b → HasAllEntries (setting_of b) x.entries → IsPlace b s c → get_or x.entries (s * b.points + c) 0 ≤ size → Moved (setting_of b) s (Unit {0}) (λ es. entry_at (setting_of b) es s c ≤ size) x was x was
+not_lowered b x was s c size board all place least =
     let g = setting_of b in
+    let entries = x.entries in
     let m : c < points_in b.k b.tags = subst (λ x. c < x) board.points place.1 in
     let within : s * b.points + c < length entries = subst (λ x. s * x + c < length entries) (sym board.points) (entry_within g entries s c all (symbol_within b s place.0) m) in
-    moved_none g s (Unit {0}) (λ es. entry_at g es s c ≤ size) entries was
-    (subst (λ x. get_or entries (s * x + c) (unknown g.limit) ≤ size) board.points
-    (subst (λ x. x ≤ size) (get_or_default entries (s * b.points + c) 0 (unknown g.limit) within) least))
+    moved_none g s (Unit {0}) (λ es. entry_at g es s c ≤ size) x was
+    (subst (λ p. get_or entries (s * p + c) (unknown g.limit) ≤ size) board.points
+    (subst (λ p. p ≤ size) (get_or_default entries (s * b.points + c) 0 (unknown g.limit) within) least))
 
 -- ---- steps by parts
 
@@ -185,24 +226,24 @@ pair_step g entries a b v w e f number r lv lw he hf ke kf sums is =
 
 -- ---- what was claimed at each turn
 
-pub part_at : (g : Setting) (s a c e r : ℕ) (x y : List ℕ) (p q : Bool) → c < points_in g.bound g.tags → e ≡ entry_at g x a c → r ≡ min (e + 1) (g.limit + 1) → Moved g s (Unit {0}) (λ es. entry_at g es s c ≤ r) x p y q → Moved g s (a ≡ s → ⊥) (PartAt g s a c) x p y q
+pub part_at : (g : Setting) (s a c e r : ℕ) (x y : Sizes) (p q : Bool) → c < points_in g.bound g.tags → e ≡ entry_at g x.entries a c → r ≡ min (e + 1) (g.limit + 1) → Moved g s (Unit {0}) (λ es. entry_at g es s c ≤ r) x p y q → Moved g s (a ≡ s → ⊥) (PartAt g s a c) x p y q
 part_at g s a c e r x y p q l h is m =
     moved_as g s (Unit {0}) (a ≡ s → ⊥) (λ es. entry_at g es s c ≤ r) (PartAt g s a c) x y p q m (λ d. tt)
-    (λ o least known. let same = same_row g s a c x y m.lowers l o in omega arith)
+    (λ o least known. let same = same_row g s a c x.entries y.entries m.lowers l o in omega arith)
 
-pub part_unknown : (g : Setting) (s a c e : ℕ) (x : List ℕ) (p : Bool) → e ≡ entry_at g x a c → g.limit + 1 < e → Moved g s (a ≡ s → ⊥) (PartAt g s a c) x p x p
+pub part_unknown : (g : Setting) (s a c e : ℕ) (x : Sizes) (p : Bool) → e ≡ entry_at g x.entries a c → g.limit + 1 < e → Moved g s (a ≡ s → ⊥) (PartAt g s a c) x p x p
 part_unknown g s a c e x p h l = moved_none g s (a ≡ s → ⊥) (PartAt g s a c) x p (λ known. absurd (omega arith))
 
-pub pair_at : (g : Setting) (s a b v w e f number r : ℕ) (x y : List ℕ) (p q : Bool) → v < points_in g.bound g.tags → w < points_in g.bound g.tags → e ≡ entry_at g x a v → f ≡ entry_at g x b w → number ≡ summed g.bound g.tags v w → r ≡ min (e + f + 1) (g.limit + 1) → Moved g s (Unit {0}) (λ es. entry_at g es s number ≤ r) x p y q → Moved g s (AreOthers a b s) (PairAt g s a b v w) x p y q
+pub pair_at : (g : Setting) (s a b v w e f number r : ℕ) (x y : Sizes) (p q : Bool) → v < points_in g.bound g.tags → w < points_in g.bound g.tags → e ≡ entry_at g x.entries a v → f ≡ entry_at g x.entries b w → number ≡ summed g.bound g.tags v w → r ≡ min (e + f + 1) (g.limit + 1) → Moved g s (Unit {0}) (λ es. entry_at g es s number ≤ r) x p y q → Moved g s (AreOthers a b s) (PairAt g s a b v w) x p y q
 pair_at g s a b v w e f number r x y p q lv lw he hf sums is m =
     moved_as g s (Unit {0}) (AreOthers a b s) (λ es. entry_at g es s number ≤ r) (PairAt g s a b v w) x y p q m (λ d. tt)
     (λ o least ka kb.
-    let l2 = subst (λ i. entry_at g y s i ≤ r) sums least in
-    let one = same_row g s a v x y m.lowers lv (⊎_elim (λ t. inl t) (λ t. inr t.0) o) in
-    let other = same_row g s b w x y m.lowers lw (⊎_elim (λ t. inl t) (λ t. inr t.1) o) in
+    let l2 = subst (λ i. entry_at g y.entries s i ≤ r) sums least in
+    let one = same_row g s a v x.entries y.entries m.lowers lv (⊎_elim (λ t. inl t) (λ t. inr t.0) o) in
+    let other = same_row g s b w x.entries y.entries m.lowers lw (⊎_elim (λ t. inl t) (λ t. inr t.1) o) in
     omega arith)
 
-pub pair_unknown : (g : Setting) (s a b v w : ℕ) (x : List ℕ) (p : Bool) → (g.limit + 1 < entry_at g x a v) ⊎ (g.limit + 1 < entry_at g x b w) → Moved g s (AreOthers a b s) (PairAt g s a b v w) x p x p
+pub pair_unknown : (g : Setting) (s a b v w : ℕ) (x : Sizes) (p : Bool) → (g.limit + 1 < entry_at g x.entries a v) ⊎ (g.limit + 1 < entry_at g x.entries b w) → Moved g s (AreOthers a b s) (PairAt g s a b v w) x p x p
 pair_unknown g s a b v w x p l =
     moved_none g s (AreOthers a b s) (PairAt g s a b v w) x p (λ ka kb. ⊎_elim (λ h. absurd (omega arith)) (λ h. absurd (omega arith)) l)
 
@@ -217,6 +258,9 @@ part_kept g s a c y z l d m h known =
 
 pub parts_kept : (g : Setting) (s a m : ℕ) (y z : List ℕ) → m ≤ points_in g.bound g.tags → (a ≡ s → ⊥) → Lowers g s y z → PartBefore g s a m y → PartBefore g s a m z
 parts_kept g s a m y z l d lowers h c k = part_kept g s a c y z (omega arith) d lowers (h c k)
+
+pub listed_kept : (g : Setting) (s a m : ℕ) (numbers y z : List ℕ) → ((i : ℕ) → i < m → get_or numbers i 0 < points_in g.bound g.tags) → (a ≡ s → ⊥) → Lowers g s y z → ListedBefore g s a numbers m y → ListedBefore g s a numbers m z
+listed_kept g s a m numbers y z l d lowers h i k = part_kept g s a (get_or numbers i 0) y z (l i k) d lowers (h i k)
 
 pub pair_kept : (g : Setting) (s a b v w : ℕ) (y z : List ℕ) → v < points_in g.bound g.tags → w < points_in g.bound g.tags → AreOthers a b s → Lowers g s y z → PairAt g s a b v w y → PairAt g s a b v w z
 pair_kept g s a b v w y z lv lw d m h ka kb =
@@ -250,27 +294,30 @@ before_more P m before here c l =
 
 -- ---- lists of numbers
 
-pub lists_none : (P : ℕ → Type 0) (from : ℕ) (numbers : List ℕ) → numbers ≡ [] → Lists P from from numbers
-lists_none P from numbers e = subst (Lists P from from) (sym e) (record {
-  within = λ i l. absurd (omega arith);
-  all = λ c l m h. absurd (omega arith);
-})
+-- the list of a symbol, from a number on
+pub known_listed : (b : Board) (x : Sizes) (s from : ℕ) (list numbers : List ℕ) → IsBoard b → HasAllEntries (setting_of b) x.entries → HasLists (setting_of b) x → list ≡ get_or x.reached s [] → Picks from b.points list (length list) numbers → Lists (λ c. IsKnown (setting_of b).limit (entry_at (setting_of b) x.entries s c)) from b.points numbers
+known_listed b x s from list numbers board all lists e h = record {
+  within = h.within;
+  all = λ c l m known. ⊎_elim
+      (λ there.
+      let i : Among c list = subst (Among c) (sym e) (lists.all s c there (let p = board.points in omega arith) known) in
+      subst (λ d. Among d numbers) i.2 (h.all i.0 i.1 (let f = i.2 in omega arith)))
+      (λ past. let f = entry_past (setting_of b) x.entries s c all past in absurd (omega arith))
+      (cases_lt s (length (setting_of b).flat.symbols));
+}
 
-pub lists_more : (P : ℕ → Type 0) (from m : ℕ) (wanted : Bool) (old new : List ℕ) → from ≤ m → Lists P from m old → (P m → wanted ≡ true) → new ≡ old ++ (if wanted then m ∷ [] else []) → Lists P from (m + 1) new
-lists_more P from m true old new l h w e = subst (Lists P from (m + 1)) (sym e) (record {
-  within = λ i k. ⊎_elim
-      (λ s. let p = h.within i s in let q = get_or_append_left old (m ∷ []) 0 i s in (omega arith, omega arith))
-      (λ s. let z = length-append old (m ∷ []) in let f : length old ≡ i = omega arith in let q = get_or_at old m [] 0 i f in (omega arith, omega arith))
-      (cases_lt i (length old));
-  all = λ c a b k. ⊎_elim
-      (λ s. let p = h.all c a s k in (p.0, let z = length-append old (m ∷ []) in let y = p.1 in omega arith, get_or_append_left old (m ∷ []) 0 p.0 p.1 ∙ p.2))
-      (λ s. (length old, let z = length-append old (m ∷ []) in omega arith, get_or_at old m [] 0 (length old) refl ∙ (let f : m ≡ c = omega arith in f)))
-      (cases_lt c m);
-})
-lists_more P from m false old new l h w e = subst (Lists P from (m + 1)) (sym (e ∙ append-nil old)) (record {
-  within = λ i k. let p = h.within i k in (p.0, omega arith);
-  all = λ c a b k. ⊎_elim
-      (λ s. h.all c a s k)
-      (λ s. let f : c ≡ m = omega arith in let n = w (subst P f k) in absurd (cc))
-      (cases_lt c m);
-})
+-- what is listed are numbers of points of the board
+pub listed_points : (b : Board) (x : Sizes) (s i : ℕ) (list : List ℕ) → IsBoard b → HasLists (setting_of b) x → list ≡ get_or x.reached s [] → i < length list → get_or list i 0 < b.points
+listed_points b x s i list board lists e l =
+    subst (λ p. get_or list i 0 < p) (sym board.points)
+    (subst (λ ns. get_or ns i 0 < points_in b.k b.tags) (sym e) (lists.within s i (subst (λ ns. i < length ns) e l)))
+
+-- where the part has no tree, nothing is claimed
+pub listed_whole : (b : Board) (s a : ℕ) (numbers : List ℕ) (x y : Sizes) (p q : Bool) → IsBoard b → Lists (λ c. IsKnown (setting_of b).limit (entry_at (setting_of b) x.entries a c)) 0 b.points numbers → Moved (setting_of b) s (a ≡ s → ⊥) (ListedBefore (setting_of b) s a numbers (length numbers)) x p y q → Moved (setting_of b) s (a ≡ s → ⊥) (PartBefore (setting_of b) s a b.points) x p y q
+listed_whole b s a numbers x y p q board lists m =
+    let g = setting_of b in
+    moved_as g s (a ≡ s → ⊥) (a ≡ s → ⊥) (ListedBefore g s a numbers (length numbers)) (PartBefore g s a b.points) x y p q m (λ d. d)
+    (λ o before c l known.
+    let same = same_row g s a c x.entries y.entries m.lowers (let e = board.points in omega arith) o in
+    let i = lists.all c (omega arith) l (subst (IsKnown g.limit) same known) in
+    subst (λ d. PartAt g s a d y.entries) i.2 (before i.0 i.1) known)

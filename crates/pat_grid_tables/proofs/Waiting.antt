@@ -1,21 +1,24 @@
 -- Which symbols wait: those at which a step may give less than the table has.
-use Rattle.std.proofs.Common.{◌≡◌, ◌≢◌, ℕ, zero, suc, ◌+◌, ◌*◌, ◌<◌, ◌≤◌, ◌⊎◌, inl, inr, ⊎_elim, Bool, true, false, List, [], ◌∷◌, ◌++◌, length, length-set, length-append, get_or, set, replicate, refl, sym, ap, ap₂, ◌∙◌, subst, arith}
+use Rattle.std.proofs.Common.{◌≡◌, ℕ, zero, suc, ◌+◌, ◌*◌, ◌<◌, ◌⊎◌, inl, inr, ⊎_elim, Bool, true, false, List, [], ◌∷◌, length, length-set, get_or, set, replicate, refl, sym, ap, ap₂, ◌∙◌, subst, arith}
 use Rattle.std.specs.Prelude.{Ok, Err, OnOk}
 use Rattle.std.specs.declared.result.Result.{Result}
 use Rattle.std.proofs.lemmas.Bool.{cases_lt, cases_eq}
-use Rattle.std.proofs.lemmas.List.{get_or-set_same, get_or-set_other, get_or_append_left, get_or_at, set_past, set-get_or, get_or-replicate, length-replicate, length-map}
-use Rattle.pat_words.specs.Words.{Word, no_word}
+use Rattle.std.proofs.lemmas.List.{get_or-set_same, get_or-set_other, get_or_past, set_past, set-get_or, get_or-replicate, length-replicate, length-map}
+use Rattle.pat_words.specs.Words.{Word}
 use Rattle.pat_bounds.specs.CutSets.{IsPoint}
 use Rattle.pat_bounds.specs.Symbols.{Symbol, NoSymbol, OneSymbol, TagSymbol, SumSymbol, ProdSymbol, StarSymbol, LowerSymbol, GivenSymbol, symbol_at, root_at}
-use Rattle.pat_bounds.specs.Tables.{Setting, IsKnown, IsSound, IsDone, Step, StepAt, StepByOne, StepByTwo, capped}
-use Rattle.pat_bounds.specs.Numbers.{points_in, number_of, table_of, HasAllEntries}
+use Rattle.pat_bounds.specs.Tables.{Setting, IsKnown, IsDone, StepAt, StepByOne, StepByTwo, capped}
+use Rattle.pat_bounds.specs.Numbers.{points_in, number_of, table_of}
 use Rattle.pat_bounds_laws.proofs.NumberLaws.{number_small, pass_closed}
+use Rattle.pat_bounds_laws.proofs.TableLaws.{start_sound}
 use Rattle.pat_grid_symbols.specs.Views.{symbol_view}
 use Rattle.pat_grid_tables.specs.declared.board.Board.{Board}
+use Rattle.pat_grid_tables.specs.declared.sizes.Sizes.{Sizes}
 use Rattle.pat_grid_tables.specs.Views.{setting_of, IsBoard}
-use Rattle.pat_grid_tables.specs.Moves.{entry_at, total, Lowers, Moved, ClosedAt}
-use Rattle.pat_grid_tables.specs.Waiting.{IsPartOf, IsPart, IsNoPart, Among, HasUsersBefore, HasUsers, noted, Notes, Begins, Stands, with_waits, Waits, Looked, Passed}
+use Rattle.pat_grid_tables.specs.Moves.{entry_at, Among, Lowers, Moved, ClosedAt}
+use Rattle.pat_grid_tables.specs.Waiting.{IsPartOf, IsPart, IsNoPart, HasUsersBefore, HasUsers, noted, Notes, Begins, Stands, with_waits, Waits, Looked, Passed}
 use Rattle.pat_grid_tables.proofs.Done.{board_fit}
+use Rattle.pat_grid_tables.proofs.Reached.{noted_kept, noted_there, noted_many}
 
 pub on_ok : {A E : Type 0} (r : Result A E) (P Q : Type 0) → (P → Q) → OnOk r P → OnOk r Q
 on_ok (Ok x) P Q f h = f h
@@ -60,31 +63,6 @@ module _ (g : Setting) (s t : ℕ) (x y : List ℕ) (m : Lowers g s x y) (other 
       omega arith
 
 -- ---- who is made of a symbol
-
-among_pushed : (t s : ℕ) (xs : List ℕ) → Among t xs → Among t (xs ++ (s ∷ []))
-among_pushed t s xs h =
-    (h.0, let l = length-append xs (s ∷ []) in let i = h.1 in omega arith, get_or_append_left xs (s ∷ []) 0 h.0 h.1 ∙ h.2)
-
-among_last : (s : ℕ) (xs : List ℕ) → Among s (xs ++ (s ∷ []))
-among_last s xs = (length xs, let l = length-append xs (s ∷ []) in omega arith, get_or_at xs s [] 0 (length xs) refl)
-
-noted_kept : (users : List (List ℕ)) (a s b t : ℕ) → Among t (get_or users b []) → Among t (get_or (noted users a s) b [])
-noted_kept users a s b t h =
-    ⊎_elim
-    (λ l. ⊎_elim
-    (λ e. subst (λ i. Among t (get_or (noted users a s) i [])) (sym e)
-    (subst (Among t) (sym (get_or-set_same users a (get_or users a [] ++ (s ∷ [])) [] l)) (among_pushed t s (get_or users a []) (subst (λ i. Among t (get_or users i [])) e h))))
-    (λ n. subst (Among t) (sym (get_or-set_other users a b (get_or users a [] ++ (s ∷ [])) [] n)) h)
-    (cases_eq b a))
-    (λ l. subst (λ us. Among t (get_or us b [])) (sym (set_past users a (get_or users a [] ++ (s ∷ [])) l)) h)
-    (cases_lt a (length users))
-
-noted_there : (users : List (List ℕ)) (a s : ℕ) → a < length users → Among s (get_or (noted users a s) a [])
-noted_there users a s l =
-    subst (Among s) (sym (get_or-set_same users a (get_or users a [] ++ (s ∷ [])) [] l)) (among_last s (get_or users a []))
-
-noted_many : (users : List (List ℕ)) (a s : ℕ) → length (noted users a s) ≡ length users
-noted_many users a s = length-set users a (get_or users a [] ++ (s ∷ []))
 
 module _ (g : Setting) (s : ℕ) (users : List (List ℕ)) where
   -- two parts
@@ -158,7 +136,7 @@ waits_all (n ∷ numbers) waits =
 -- ---- a symbol is looked at
 
 -- it doesn't wait
-pub not_looked : (g : Setting) (s : ℕ) (x : List ℕ) (waited waits : List Bool) (was : Bool) → Stands g x waited → get_or waited s false ≡ false → waits ≡ set waited s false → Looked g s x waited was x waits was
+pub not_looked : (g : Setting) (s : ℕ) (x : Sizes) (waited waits : List Bool) (was : Bool) → Stands g x waited → get_or waited s false ≡ false → waits ≡ set waited s false → Looked g s x.entries waited was x waits was
 not_looked g s x waited waits was h off e =
     let same : waits ≡ waited = e ∙ ap (set waited s) (sym off) ∙ set-get_or waited s false in
     record {
@@ -169,18 +147,19 @@ not_looked g s x waited waits was h off e =
     }
 
 -- it waits no longer
-module _ (g : Setting) (s : ℕ) (x : List ℕ) (waited : List Bool) (y : List ℕ) (lowered : Bool) (h : Stands g x waited) (there : s < length g.flat.symbols) (m : Moved g s (IsNoPart g s) (ClosedAt g s) x false y lowered) where
+module _ (g : Setting) (s : ℕ) (x : Sizes) (waited : List Bool) (y : Sizes) (lowered : Bool) (h : Stands g x waited) (there : s < length g.flat.symbols) (m : Moved g s (IsNoPart g s) (ClosedAt g s) x false y lowered) where
   -- nothing was lowered
-  pub looked_in_vain : (was : Bool) → lowered ≡ false → Looked g s x waited was y (set waited s false) was
+  pub looked_in_vain : (was : Bool) → lowered ≡ false → Looked g s x.entries waited was y (set waited s false) was
   looked_in_vain was e =
       let same = (m.stays e).1 in
       record {
         stands = record {
           all = m.as_long ∙ h.all;
           sound = m.sound h.sound;
+          lists = m.lists h.lists;
           as_many = length-set waited s false ∙ h.as_many;
           closed = λ t l i. ⊎_elim
-              (λ f. subst (λ j. ClosedAt g j y) (sym f) (m.claim (inl e)))
+              (λ f. subst (λ j. ClosedAt g j y.entries) (sym f) (m.claim (inl e)))
               (λ n. subst (ClosedAt g t) (sym same) (h.closed t l (sym (get_or-set_other waited s t false false n) ∙ i)))
               (cases_eq t s);
         };
@@ -190,15 +169,16 @@ module _ (g : Setting) (s : ℕ) (x : List ℕ) (waited : List Bool) (y : List �
       }
 
   -- something was lowered, and those that are made of the symbol wait
-  pub looked_and_lowered : (users : List (List ℕ)) (numbers : List ℕ) (waits : List Bool) (was : Bool) → HasUsers g users → numbers ≡ get_or users s [] → lowered ≡ true → Waits numbers (set waited s false) waits → Looked g s x waited was y waits true
+  pub looked_and_lowered : (users : List (List ℕ)) (numbers : List ℕ) (waits : List Bool) (was : Bool) → HasUsers g users → numbers ≡ get_or users s [] → lowered ≡ true → Waits numbers (set waited s false) waits → Looked g s x.entries waited was y waits true
   looked_and_lowered users numbers waits was has is e w = record {
     stands = record {
       all = m.as_long ∙ h.all;
       sound = m.sound h.sound;
+      lists = m.lists h.lists;
       as_many = w.as_many ∙ length-set waited s false ∙ h.as_many;
       closed = λ t l i. ⊎_elim
-          (λ f. subst (λ j. ClosedAt g j y) (sym f) (m.claim (inr (λ own. no_part t l i (subst (λ j. IsPart g j s) (sym f) own)))))
-          (λ n. stays_closed g s t x y m.lowers n (no_part t l i) (h.closed t l (sym (get_or-set_other waited s t false false n) ∙ w.kept t i)))
+          (λ f. subst (λ j. ClosedAt g j y.entries) (sym f) (m.claim (inr (λ own. no_part t l i (subst (λ j. IsPart g j s) (sym f) own)))))
+          (λ n. stays_closed g s t x.entries y.entries m.lowers n (no_part t l i) (h.closed t l (sym (get_or-set_other waited s t false false n) ∙ w.kept t i)))
           (cases_eq t s);
     };
     at_most = m.at_most;
@@ -214,7 +194,7 @@ module _ (g : Setting) (s : ℕ) (x : List ℕ) (waited : List Bool) (y : List �
 
 -- ---- a pass
 
-pub pass_begins : (g : Setting) (x : List ℕ) (waits : List Bool) → Stands g x waits → Passed g 0 x x waits false
+pub pass_begins : (g : Setting) (x : Sizes) (waits : List Bool) → Stands g x waits → Passed g 0 x.entries x waits false
 pass_begins g x waits h = record {
   stands = h;
   at_most = omega arith;
@@ -222,7 +202,7 @@ pass_begins g x waits h = record {
   rests = λ e s l. absurd (omega arith);
 }
 
-pub pass_goes_on : (g : Setting) (s : ℕ) (x y z : List ℕ) (waited waits : List Bool) (was is : Bool) → s < length g.flat.symbols → Passed g s x y waited was → Looked g s y waited was z waits is → Passed g (s + 1) x z waits is
+pub pass_goes_on : (g : Setting) (s : ℕ) (x : List ℕ) (y z : Sizes) (waited waits : List Bool) (was is : Bool) → s < length g.flat.symbols → Passed g s x y waited was → Looked g s y.entries waited was z waits is → Passed g (s + 1) x z waits is
 pass_goes_on g s x y z waited waits was is there h l = record {
   stands = l.stands;
   at_most = let i = h.at_most in let j = l.at_most in omega arith;
@@ -236,11 +216,35 @@ pass_goes_on g s x y z waited waits was is there h l = record {
       (cases_eq t s));
 }
 
+-- ---- the beginning
+
+replicated : {A : Type 0} (n i : ℕ) (a : A) → get_or (replicate n a) i a ≡ a
+replicated n i a =
+    ⊎_elim (λ l. get_or-replicate n i a a l) (λ l. get_or_past (replicate n a) i a (let e = length-replicate n a in omega arith)) (cases_lt i n)
+
+-- nothing is known
+pub begins : (b : Board) (z : Sizes) → IsBoard b → z.entries ≡ replicate (length b.symbols.now * b.points) (b.limit + 2) → z.reached ≡ replicate (length b.symbols.now) [] → z.news ≡ [] → Begins (setting_of b) z
+begins b z board e r n =
+    let g = setting_of b in
+    let none : (s c : ℕ) → IsKnown g.limit (entry_at g z.entries s c) → ⊥ =
+    λ s c k. let at = ap (λ es. entry_at g es s c) e ∙ replicated (length b.symbols.now * b.points) (s * points_in b.k b.tags + c) (b.limit + 2) in absurd (omega arith) in
+    record {
+      all = ap length e ∙ length-replicate (length b.symbols.now * b.points) (b.limit + 2) ∙ ap₂ (λ i j. i * j) (sym (length-map b.symbols.now symbol_view)) board.points;
+      sound = start_sound g (table_of g z.entries) (λ s u p k. none s (number_of g.bound g.tags u) k);
+      lists = record {
+        as_many = ap length r ∙ length-replicate (length b.symbols.now) [] ∙ sym (length-map b.symbols.now symbol_view);
+        within = λ a i l. let empty = ap length (ap (λ us. get_or us a []) r ∙ replicated (length b.symbols.now) a []) in absurd (omega arith);
+        all = λ a c l m k. absurd (none a c k);
+        news = λ i l. let empty = ap length n in absurd (omega arith);
+      };
+    }
+
 -- all wait
-pub all_wait : (b : Board) (entries : List ℕ) (waits : List Bool) → Begins (setting_of b) entries → waits ≡ replicate (length b.symbols.now) true → Stands (setting_of b) entries waits
-all_wait b entries waits h e = record {
+pub all_wait : (b : Board) (sizes : Sizes) (waits : List Bool) → Begins (setting_of b) sizes → waits ≡ replicate (length b.symbols.now) true → Stands (setting_of b) sizes waits
+all_wait b sizes waits h e = record {
   all = h.all;
   sound = h.sound;
+  lists = h.lists;
   as_many = ap length e ∙ length-replicate (length b.symbols.now) true ∙ sym (length-map b.symbols.now symbol_view);
   closed = λ s l i.
       let n : s < length b.symbols.now = subst (λ x. s < x) (length-map b.symbols.now symbol_view) l in
@@ -249,11 +253,11 @@ all_wait b entries waits h e = record {
 }
 
 -- none waits any more
-pub none_waits : (b : Board) (old new : List ℕ) (waits : List Bool) (changed : Bool) → IsBoard b → changed ≡ false → Passed (setting_of b) (length b.symbols.now) old new waits changed → IsDone (setting_of b) (table_of (setting_of b) new)
+pub none_waits : (b : Board) (old : List ℕ) (new : Sizes) (waits : List Bool) (changed : Bool) → IsBoard b → changed ≡ false → Passed (setting_of b) (length b.symbols.now) old new waits changed → IsDone (setting_of b) (table_of (setting_of b) new.entries)
 none_waits b old new waits changed board e h =
     let g = setting_of b in
     record {
       fit = board_fit b board;
-      closed = pass_closed g (table_of g new) (λ s u size l p step. h.stands.closed s l (h.rests e s (subst (λ n. s < n) (length-map b.symbols.now symbol_view) l)) u size p step);
+      closed = pass_closed g (table_of g new.entries) (λ s u size l p step. h.stands.closed s l (h.rests e s (subst (λ n. s < n) (length-map b.symbols.now symbol_view) l)) u size p step);
       sound = h.stands.sound;
     }

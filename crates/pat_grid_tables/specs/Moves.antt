@@ -1,12 +1,13 @@
 -- What relaxing does to the entries of a table.
-use Rattle.std.specs.Prelude.{◌≡◌, ℕ, suc, ◌+◌, ◌*◌, ◌<◌, ◌≤◌, ◌⊎◌, Bool, true, false, List, length, get_or}
+use Rattle.std.specs.Prelude.{◌≡◌, ℕ, suc, ◌+◌, ◌*◌, ◌<◌, ◌≤◌, ◌⊎◌, Bool, true, false, List, [], length, get_or}
 use Rattle.std.specs.List.{sum_by}
 use Rattle.pat_words.specs.Words.{Word}
 use Rattle.pat_bounds.specs.CutSets.{IsPoint}
 use Rattle.pat_bounds.specs.Tables.{Setting, Table, IsKnown, IsSound, Step, StepByOne, StepByTwo, capped}
-use Rattle.pat_bounds.specs.Numbers.{points_in, point_of, table_of, unknown, HasAllEntries}
+use Rattle.pat_bounds.specs.Numbers.{points_in, point_of, table_of, unknown}
 use Rattle.pat_grid_points.specs.Views.{summed}
 use Rattle.pat_grid_tables.specs.declared.board.Board.{Board}
+use Rattle.pat_grid_tables.specs.declared.sizes.Sizes.{Sizes}
 
 -- the entry of the symbol at the point with the number
 abbrev pub entry_at : Setting → List ℕ → ℕ → ℕ → ℕ
@@ -25,15 +26,32 @@ pub record Lowers (g : Setting) (s : ℕ) (old new : List ℕ) : Type 0 where
   pub elsewhere : (a c : ℕ) → (a ≡ s → ⊥) → c < points_in g.bound g.tags → entry_at g new a c ≡ entry_at g old a c
   pub here : (c : ℕ) → c < points_in g.bound g.tags → entry_at g new s c ≤ entry_at g old s c
 
+-- the number is in the list
+abbrev pub Among : ℕ → List ℕ → Type 0
+Among t numbers = (i : ℕ) × (i < length numbers) × (get_or numbers i 0 ≡ t)
+
+-- all of the list are numbers of points
+abbrev pub ArePoints : Setting → List ℕ → Type 0
+ArePoints g numbers = (i : ℕ) → i < length numbers → get_or numbers i 0 < points_in g.bound g.tags
+
+-- of each symbol the numbers at which it has a tree are listed, and what is listed are numbers of points
+pub record HasLists (g : Setting) (z : Sizes) : Type 0 where
+  pub as_many : length z.reached ≡ length g.flat.symbols
+  pub within : (a : ℕ) → ArePoints g (get_or z.reached a [])
+  pub all : (a c : ℕ) → a < length g.flat.symbols → c < points_in g.bound g.tags → IsKnown g.limit (entry_at g z.entries a c) → Among c (get_or z.reached a [])
+  pub news : ArePoints g z.news
+
 -- entries of symbol s were lowered, each to what a step gives; what is claimed holds then where none was, or where the parts are apart
-pub record Moved (g : Setting) (s : ℕ) (Apart : Type 0) (Claim : List ℕ → Type 0) (old : List ℕ) (was : Bool) (new : List ℕ) (is : Bool) : Type 0 where
-  pub as_long : length new ≡ length old
-  pub sound : IsSound g (table_of g old) → IsSound g (table_of g new)
-  pub at_most : total new ≤ total old
-  pub falls : is ≡ true → (was ≡ true) ⊎ (total new < total old)
-  pub stays : is ≡ false → (was ≡ false) × (new ≡ old)
-  pub lowers : Lowers g s old new
-  pub claim : (is ≡ false) ⊎ Apart → Claim new
+pub record Moved (g : Setting) (s : ℕ) (Apart : Type 0) (Claim : List ℕ → Type 0) (old : Sizes) (was : Bool) (new : Sizes) (is : Bool) : Type 0 where
+  pub as_long : length new.entries ≡ length old.entries
+  pub sound : IsSound g (table_of g old.entries) → IsSound g (table_of g new.entries)
+  pub at_most : total new.entries ≤ total old.entries
+  pub falls : is ≡ true → (was ≡ true) ⊎ (total new.entries < total old.entries)
+  pub stays : is ≡ false → (was ≡ false) × (new.entries ≡ old.entries)
+  pub lowers : Lowers g s old.entries new.entries
+  pub claim : (is ≡ false) ⊎ Apart → Claim new.entries
+  pub lists : HasLists g old → HasLists g new
+  pub news : total new.entries + length new.news ≤ total old.entries + length old.news
 
 -- no step at the symbol gives less than the table has
 abbrev pub ClosedAt : Setting → ℕ → List ℕ → Type 0
@@ -54,6 +72,10 @@ PartAt g s a c entries =
 -- so it is at each number below m
 abbrev pub PartBefore : Setting → ℕ → ℕ → ℕ → List ℕ → Type 0
 PartBefore g s a m entries = (c : ℕ) → c < m → PartAt g s a c entries
+
+-- so it is at each of the first m numbers of the list
+abbrev pub ListedBefore : Setting → ℕ → ℕ → List ℕ → ℕ → List ℕ → Type 0
+ListedBefore g s a numbers m entries = (i : ℕ) → i < m → PartAt g s a (get_or numbers i 0) entries
 
 -- ---- by two parts
 
@@ -85,12 +107,25 @@ abbrev pub RowsBefore : Setting → ℕ → ℕ → ℕ → List ℕ → List �
 RowsBefore g s a b firsts seconds m entries =
     (i : ℕ) → i < m → RowBefore g s a b (get_or firsts i 0) seconds (length seconds) entries
 
+-- so it is for v and each number of a point
+abbrev pub WholeRow : Setting → ℕ → ℕ → ℕ → ℕ → List ℕ → Type 0
+WholeRow g s a b v entries = (w : ℕ) → w < points_in g.bound g.tags → PairAt g s a b v w entries
+
+-- and for each of the first m numbers of the list and each number of a point
+abbrev pub WholeRows : Setting → ℕ → ℕ → ℕ → List ℕ → ℕ → List ℕ → Type 0
+WholeRows g s a b firsts m entries = (i : ℕ) → i < m → WholeRow g s a b (get_or firsts i 0) entries
+
 -- ---- lists of numbers
 
 -- the numbers lie between both, and those that have what is asked are all there
 pub record Lists (P : ℕ → Type 0) (from upto : ℕ) (numbers : List ℕ) : Type 0 where
   pub within : (i : ℕ) → i < length numbers → (from ≤ get_or numbers i 0) × (get_or numbers i 0 < upto)
-  pub all : (c : ℕ) → from ≤ c → c < upto → P c → (i : ℕ) × (i < length numbers) × (get_or numbers i 0 ≡ c)
+  pub all : (c : ℕ) → from ≤ c → c < upto → P c → Among c numbers
+
+-- the numbers lie between both, and those of the first m of the list that do are all there
+pub record Picks (from upto : ℕ) (list : List ℕ) (m : ℕ) (numbers : List ℕ) : Type 0 where
+  pub within : (i : ℕ) → i < length numbers → (from ≤ get_or numbers i 0) × (get_or numbers i 0 < upto)
+  pub all : (j : ℕ) → j < m → from ≤ get_or list j 0 → Among (get_or list j 0) numbers
 
 -- ---- given points
 

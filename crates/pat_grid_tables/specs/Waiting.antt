@@ -3,7 +3,8 @@ use Rattle.std.specs.Prelude.{◌≡◌, ℕ, ◌<◌, ◌≤◌, ◌⊎◌, Boo
 use Rattle.pat_bounds.specs.Symbols.{Symbol, SumSymbol, ProdSymbol, StarSymbol, LowerSymbol, Flat, symbol_at, root_at}
 use Rattle.pat_bounds.specs.Tables.{Setting, IsSound}
 use Rattle.pat_bounds.specs.Numbers.{table_of, HasAllEntries}
-use Rattle.pat_grid_tables.specs.Moves.{total, ClosedAt}
+use Rattle.pat_grid_tables.specs.Moves.{total, Among, HasLists, ClosedAt}
+use Rattle.pat_grid_tables.specs.declared.sizes.Sizes.{Sizes}
 
 -- the symbol is made of the one with number a; a star is also made of itself
 abbrev pub IsPartOf : Flat → ℕ → Symbol → ℕ → Type 0
@@ -20,10 +21,6 @@ IsPart g s a = IsPartOf g.flat s (symbol_at g.flat s) a
 -- the symbol isn't made of itself
 abbrev pub IsNoPart : Setting → ℕ → Type 0
 IsNoPart g s = IsPart g s s → ⊥
-
--- the number is in the list
-abbrev pub Among : ℕ → List ℕ → Type 0
-Among t numbers = (i : ℕ) × (i < length numbers) × (get_or numbers i 0 ≡ t)
 
 -- of each symbol those of the first m that are made of it are listed
 pub record HasUsersBefore (g : Setting) (m : ℕ) (users : List (List ℕ)) : Type 0 where
@@ -45,11 +42,12 @@ pub record Notes (g : Setting) (s : ℕ) (old new : List (List ℕ)) : Type 0 wh
   pub all : (a : ℕ) → IsPart g s a → a < length old → Among s (get_or new a [])
 
 -- all entries are there, what they say is so, and each symbol at which a step gives less waits
-pub record Stands (g : Setting) (entries : List ℕ) (waits : List Bool) : Type 0 where
-  pub all : HasAllEntries g entries
-  pub sound : IsSound g (table_of g entries)
+pub record Stands (g : Setting) (z : Sizes) (waits : List Bool) : Type 0 where
+  pub all : HasAllEntries g z.entries
+  pub sound : IsSound g (table_of g z.entries)
+  pub lists : HasLists g z
   pub as_many : length waits ≡ length g.flat.symbols
-  pub closed : (s : ℕ) → s < length g.flat.symbols → get_or waits s false ≡ false → ClosedAt g s entries
+  pub closed : (s : ℕ) → s < length g.flat.symbols → get_or waits s false ≡ false → ClosedAt g s z.entries
 
 -- those in the list wait
 abbrev pub with_waits : List ℕ → List Bool → List Bool
@@ -63,20 +61,21 @@ pub record Waits (numbers : List ℕ) (old new : List Bool) : Type 0 where
   pub kept : (t : ℕ) → get_or new t false ≡ false → get_or old t false ≡ false
 
 -- the symbol with number s was looked at
-pub record Looked (g : Setting) (s : ℕ) (old : List ℕ) (waited : List Bool) (was : Bool) (new : List ℕ) (waits : List Bool) (is : Bool) : Type 0 where
+pub record Looked (g : Setting) (s : ℕ) (old : List ℕ) (waited : List Bool) (was : Bool) (new : Sizes) (waits : List Bool) (is : Bool) : Type 0 where
   pub stands : Stands g new waits
-  pub at_most : total new ≤ total old
-  pub falls : is ≡ true → (was ≡ true) ⊎ (total new < total old)
+  pub at_most : total new.entries ≤ total old
+  pub falls : is ≡ true → (was ≡ true) ⊎ (total new.entries < total old)
   pub rests : is ≡ false → (was ≡ false) × (waits ≡ set waited s false)
 
 -- those of the first m symbols that waited were looked at
-pub record Passed (g : Setting) (m : ℕ) (old new : List ℕ) (waits : List Bool) (changed : Bool) : Type 0 where
+pub record Passed (g : Setting) (m : ℕ) (old : List ℕ) (new : Sizes) (waits : List Bool) (changed : Bool) : Type 0 where
   pub stands : Stands g new waits
-  pub at_most : total new ≤ total old
-  pub falls : changed ≡ true → total new < total old
+  pub at_most : total new.entries ≤ total old
+  pub falls : changed ≡ true → total new.entries < total old
   pub rests : changed ≡ false → (s : ℕ) → s < m → get_or waits s false ≡ false
 
 -- all entries are there, and what they say is so
-pub record Begins (g : Setting) (entries : List ℕ) : Type 0 where
-  pub all : HasAllEntries g entries
-  pub sound : IsSound g (table_of g entries)
+pub record Begins (g : Setting) (z : Sizes) : Type 0 where
+  pub all : HasAllEntries g z.entries
+  pub sound : IsSound g (table_of g z.entries)
+  pub lists : HasLists g z

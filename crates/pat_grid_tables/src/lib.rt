@@ -5,6 +5,7 @@ mod board;
 mod entries;
 mod listing;
 mod passes;
+mod sizes;
 mod steps;
 mod symbols;
 mod users;

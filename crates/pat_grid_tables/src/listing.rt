@@ -3,10 +3,10 @@ ghost use Rattle.std.specs.Prelude.{◌≡◌, ◌<◌, ◌≤◌, ◌++◌, ◌
 ghost use Rattle.pat_bounds.specs.Tables.{IsKnown};
 ghost use Rattle.pat_bounds.specs.Numbers.{HasAllEntries};
 ghost use Rattle.pat_grid_tables.specs.Views.{setting_of, IsBoard};
-ghost use Rattle.pat_grid_tables.specs.Moves.{entry_at, Lists};
+ghost use Rattle.pat_grid_tables.specs.Moves.{entry_at, HasLists, Lists};
 
 use crate::board::Board;
-use crate::entries::entry;
+use crate::sizes::{Sizes, reached_at};
 use pat_sequences::Sequence;
 use std::alloc::{AllocError, Global};
 
@@ -14,19 +14,20 @@ use std::alloc::{AllocError, Global};
 pub fn known(
     alloc: Global,
     board: &Board,
-    entries: &[u16],
+    sizes: &Sizes,
     s: usize,
     from: usize,
 ) -> Result<Sequence<usize>, AllocError>
     requires board { IsBoard board.now }
-    requires all { HasAllEntries (setting_of board.now) entries.now }
-    requires from { from ≤ board.now.points }
-    ensures { let g = setting_of board.now in IfOk result (λ numbers. Lists (λ c. IsKnown g.limit (entry_at g entries.now s c)) from board.now.points numbers) }
+    requires all { HasAllEntries (setting_of board.now) sizes.now.entries }
+    requires lists { HasLists (setting_of board.now) sizes.now }
+    ensures { let g = setting_of board.now in IfOk result (λ numbers. Lists (λ c. IsKnown g.limit (entry_at g sizes.now.entries s c)) from board.now.points numbers) }
 {
+    let reached = reached_at(sizes, s);
     let mut numbers = Sequence::new(alloc);
-    for number in from..board.points {
-        let size = entry(board, entries, s, number);
-        push_if(size <= board.limit + 1, number, &mut numbers)?;
+    for number in reached {
+        let number = *number as usize;
+        push_if(number >= from, number, &mut numbers)?;
     }
     Ok(numbers)
 }
@@ -39,15 +40,4 @@ fn push_if(wanted: bool, number: usize, numbers: &mut Sequence<usize>) -> Result
         numbers.push(number)?;
     }
     Ok(())
-}
-
-/// All numbers of points.
-pub fn all_numbers(alloc: Global, board: &Board) -> Result<Sequence<usize>, AllocError>
-    ensures { IfOk result (λ numbers. Lists (λ c. Unit {0}) 0 board.now.points numbers) }
-{
-    let mut numbers = Sequence::new(alloc);
-    for number in 0..board.points {
-        numbers.push(number)?;
-    }
-    Ok(numbers)
 }

@@ -1,11 +1,12 @@
 // Passes over the symbols that wait, until none does.
-ghost use Rattle.std.specs.Prelude.{◌≡◌, ◌<◌, [], length, get_or, set, IfOk, OnOk, true, false};
+ghost use Rattle.std.specs.Prelude.{◌≡◌, ◌<◌, [], length, get_or, set, replicate, ◌*◌, ◌+◌, IfOk, OnOk, true, false};
 ghost use Rattle.pat_bounds.specs.Tables.{IsDone};
 ghost use Rattle.pat_bounds.specs.Numbers.{HasAllEntries, table_of};
 ghost use Rattle.pat_grid_tables.specs.Views.{setting_of, IsBoard};
 ghost use Rattle.pat_grid_tables.specs.Waiting.{HasUsers, Begins, Stands, with_waits, Looked, Passed};
 
 use crate::board::Board;
+use crate::sizes::{Sizes, forget, none_reached};
 use crate::symbols::relax_symbol;
 use crate::users::users_of;
 use pat_sequences::Sequence;
@@ -20,23 +21,40 @@ pub fn least_sizes(alloc: Global, board: &Board) -> Result<Sequence<u16>, AllocE
     ensures done { IfOk result (λ entries. IsDone (setting_of board.now) (table_of (setting_of board.now) entries)) }
 {
     let users = users_of(alloc, board)?;
-    let mut entries = unknown_sizes(alloc, board)?;
+    let mut sizes = unknown_sizes(alloc, board)?;
     let mut waits = vec![in alloc; true; board.symbols.len()]?;
     loop {
-        let changed = pass(alloc, board, users.as_slice(), &mut entries, &mut waits)?;
+        let changed = pass(alloc, board, users.as_slice(), &mut sizes, &mut waits)?;
         if !changed {
-            return Ok(Sequence::from_vec(entries));
+            return Ok(sizes.entries);
         }
     }
 }
 
-/// The entries before anything is known.
-fn unknown_sizes(alloc: Global, board: &Board) -> Result<Vec<u16>, AllocError>
+/// The sizes before anything is known.
+fn unknown_sizes(alloc: Global, board: &Board) -> Result<Sizes, AllocError>
     requires { IsBoard board.now }
-    ensures { IfOk result (λ entries. Begins (setting_of board.now) entries.items) }
+    ensures { IfOk result (λ sizes. Begins (setting_of board.now) sizes) }
+{
+    let entries = unknown_entries(alloc, board)?;
+    let reached = none_reached(alloc, board.symbols.len())?;
+    Ok(Sizes {
+        entries,
+        reached,
+        news: Sequence::new(alloc),
+    })
+}
+
+/// An entry of no tree for each symbol and point.
+fn unknown_entries(alloc: Global, board: &Board) -> Result<Sequence<u16>, AllocError>
+    requires { IsBoard board.now }
+    ensures { IfOk result (λ entries. entries ≡ replicate (length board.now.symbols.now * board.now.points) (board.now.limit + 2)) }
 {
     match board.symbols.len().checked_mul(board.points) {
-        Some(count) => vec![in alloc; board.limit + 2; count],
+        Some(count) => {
+            let entries = vec![in alloc; board.limit + 2; count]?;
+            Ok(Sequence::from_vec(entries))
+        }
         None => Err(AllocError),
     }
 }
@@ -46,17 +64,17 @@ fn pass(
     alloc: Global,
     board: &Board,
     users: &[Sequence<usize>],
-    entries: &mut [u16],
+    sizes: &mut Sizes,
     waits: &mut [bool],
 ) -> Result<bool, AllocError>
     requires board { IsBoard board.now }
     requires users { HasUsers (setting_of board.now) users.now }
-    requires stands { Stands (setting_of board.now) entries.old waits.old }
-    ensures { IfOk result (λ changed. Passed (setting_of board.now) (length board.now.symbols.now) entries.old entries.new waits.new changed) }
+    requires stands { Stands (setting_of board.now) sizes.old waits.old }
+    ensures { IfOk result (λ changed. Passed (setting_of board.now) (length board.now.symbols.now) sizes.old.entries sizes.new waits.new changed) }
 {
     let mut changed = false;
     for s in 0..board.symbols.len() {
-        look(alloc, board, users, s, entries, waits, &mut changed)?;
+        look(alloc, board, users, s, sizes, waits, &mut changed)?;
     }
     Ok(changed)
 }
@@ -67,22 +85,23 @@ fn look(
     board: &Board,
     users: &[Sequence<usize>],
     s: usize,
-    entries: &mut [u16],
+    sizes: &mut Sizes,
     waits: &mut [bool],
     changed: &mut bool,
 ) -> Result<(), AllocError>
     requires board { IsBoard board.now }
     requires users { HasUsers (setting_of board.now) users.now }
-    requires stands { Stands (setting_of board.now) entries.old waits.old }
+    requires stands { Stands (setting_of board.now) sizes.old waits.old }
     requires there { s < length board.now.symbols.now }
-    ensures { OnOk result (Looked (setting_of board.now) s entries.old waits.old changed.old entries.new waits.new changed.new) }
+    ensures { OnOk result (Looked (setting_of board.now) s sizes.old.entries waits.old changed.old sizes.new waits.new changed.new) }
 {
     let waited = stop_waiting(waits, s);
     if !waited {
         return Ok(());
     }
     let mut lowered = false;
-    relax_symbol(alloc, board, entries, s, &mut lowered)?;
+    forget(&mut sizes.news);
+    relax_symbol(alloc, board, sizes, s, &mut lowered)?;
     if lowered {
         let numbers = users_at(users, s);
         let_wait(numbers, waits);

@@ -16,40 +16,40 @@ pub fn write(alloc: Global, entries: &[Entry]) -> Result<Vec<u8>, AllocError>
 {
     let mut text = b"%%history\n".to_vec(alloc)?;
     for entry in entries {
-        push_entry(alloc, &mut text, entry)?;
+        push_entry(&mut text, entry)?;
     }
     Ok(text)
 }
 
-fn push_entry(alloc: Global, text: &mut Vec<u8>, entry: &Entry) -> Result<(), AllocError>
+fn push_entry(text: &mut Vec<u8>, entry: &Entry) -> Result<(), AllocError>
     requires { IsSharedOrNone (option_map act_view entry.now.shared) }
     ensures { OnOk result (text.new.items ≡ text.old.items ++ entry_line (entry_view entry.now)) }
 {
-    push_field(alloc, text, entry.worker)?;
-    push_field(alloc, text, entry.thread)?;
-    push_field(alloc, text, entry.local)?;
-    push_act(alloc, text, entry.shared)?;
+    push_field(text, entry.worker)?;
+    push_field(text, entry.thread)?;
+    push_field(text, entry.local)?;
+    push_act(text, entry.shared)?;
     text.push(b'\n')?;
     Ok(())
 }
 
 // A number and a space.
-fn push_field(alloc: Global, text: &mut Vec<u8>, n: u32) -> Result<(), AllocError>
+fn push_field(text: &mut Vec<u8>, n: u32) -> Result<(), AllocError>
     ensures { OnOk result (text.new.items ≡ text.old.items ++ (decimal n ++ 32 ∷ [])) }
 {
-    push_number(alloc, text, n as u64)?;
+    push_number(text, n as u64)?;
     text.push(b' ')?;
     Ok(())
 }
 
-fn push_act(alloc: Global, text: &mut Vec<u8>, shared: Option<Act>) -> Result<(), AllocError>
+fn push_act(text: &mut Vec<u8>, shared: Option<Act>) -> Result<(), AllocError>
     requires { IsSharedOrNone (option_map act_view shared) }
     ensures { OnOk result (text.new.items ≡ text.old.items ++ act_word (option_map act_view shared)) }
 {
     match shared {
         Some(Act::Receive(number)) => {
             text.extend_from_slice(b"receive ")?;
-            push_number(alloc, text, number as u64)
+            push_number(text, number as u64)
         }
         Some(act) => {
             text.extend_from_slice(word_of(act))?;

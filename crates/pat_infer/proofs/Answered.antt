@@ -22,7 +22,8 @@ use Rattle.pat_infer_problems.specs.Growing.{settled}
 use Rattle.pat_infer_problems.specs.declared.problem.Problem.{Problem}
 use Rattle.pat_infer_problems.specs.declared.error.InferError.{InferError}
 use Rattle.pat_infer_problems.specs.declared.error.InferError.TheVariants.{Untypable, NoMemory}
-use Rattle.pat_infer.specs.Problems.{IsProblemOf, IsEnough, IsUntypable, IsMade, Answers}
+use Rattle.pat_infer_problems.specs.Problems.{IsProblemOf, IsEnough}
+use Rattle.pat_infer.specs.Answers.{IsUntypable, IsMade, Answers}
 
 -- ---- types that are set one after another
 

@@ -22,7 +22,7 @@ use Rattle.pat_infer_signatures.specs.Opened.{signature_end, signatures_from}
 use Rattle.pat_infer_signatures.specs.Views.{signature_view}
 use Rattle.pat_infer_signatures.specs.declared.signatures.Signature.{Signature}
 use Rattle.pat_infer_walk.specs.Walking.{HasGrown}
-use Rattle.pat_infer.specs.Problems.{IsMade, IsEmpty}
+use Rattle.pat_infer.specs.Answers.{IsMade, IsEmpty}
 
 -- what is found so far, with what is found of the functions that are left, is what is found of all
 pub record Walking (p : Program) (old now : Problem) (n : ℕ) (left : List Function) (k : ℕ) : Type 0 where

@@ -4,7 +4,8 @@ ghost use Rattle.pat_model.specs.WellFormed.{WellFormed};
 ghost use Rattle.pat_inference.specs.Walk.{inferred};
 ghost use Rattle.pat_core.specs.Views.{program_view};
 ghost use Rattle.pat_infer_problems.specs.Results.{Refuses};
-ghost use Rattle.pat_infer.specs.Problems.{IsProblemOf, IsUntypable, IsEnough};
+ghost use Rattle.pat_infer_problems.specs.Problems.{IsProblemOf, IsEnough};
+ghost use Rattle.pat_infer.specs.Answers.{IsUntypable};
 
 use crate::making::problem_of;
 use pat_core::Program;

@@ -4,7 +4,7 @@ ghost use Rattle.pat_model.specs.Programs.{Function as GhostFunction};
 ghost use Rattle.pat_inference.specs.Walk.{walk_function as found_of_function, walk_functions as found_of_functions};
 ghost use Rattle.pat_core.specs.Views.{program_view};
 ghost use Rattle.pat_infer_walk.specs.Walking.{IsSigned, Finds};
-ghost use Rattle.pat_infer.specs.Problems.{Answers, IsEmpty};
+ghost use Rattle.pat_infer.specs.Answers.{Answers, IsEmpty};
 
 use pat_core::Program;
 use pat_infer_problems::{InferError, Problem};

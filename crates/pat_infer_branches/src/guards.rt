@@ -63,14 +63,13 @@ pub fn guard_needs(
     let binders = binders_of(alloc, program, guarded, arms)?;
     check_names(program, guarded.function as usize, binders.as_slice())?;
     constrain_names(
-        alloc,
         program,
         guarded.function as usize,
         binders.as_slice(),
         problem,
     )?;
     let mut all = gather_arms(alloc, program, guarded.node, arms, problem)?;
-    let pattern = guarded.pattern.copy(alloc)?;
+    let pattern = guarded.pattern.copy()?;
     put(
         &mut all,
         guarded.variable,
@@ -267,7 +266,7 @@ fn add_clause(
         pattern: rest,
         usage: Usage::Returnable,
     };
-    let binder = bind(alloc, clause.from as usize, left, needs)?;
+    let binder = bind(clause.from as usize, left, needs)?;
     binders.push(binder)?;
     add_payloads(
         alloc,
@@ -291,6 +290,6 @@ fn add_payloads(
     ensures { OnOk result (map binder_view binders.new ≡ map binder_view binders.old ++ names_bound (declared_types (option_map (λ t. tag_view t.now) tag.entry)) 0 names.now (needs_view needs.now)) }
 {
     let types = types_of_tag(alloc, tag)?;
-    bind_all(alloc, types.as_slice(), names, needs, binders)?;
+    bind_all(types.as_slice(), names, needs, binders)?;
     Ok(())
 }

@@ -25,7 +25,6 @@ use std::alloc::{AllocError, Global};
 
 /// What a bound part is asked for, where the body needs this of the name: `I!1` where it needs nothing.
 pub fn asked_of(
-    alloc: Global,
     program: &Program,
     part: u32,
     name: Option<u32>,
@@ -36,7 +35,7 @@ pub fn asked_of(
     let need = needed_of(name, body);
     match program.nodes.as_slice().get(part as usize) {
         None => Ok(TypeOf::Base(Base::Unit)),
-        Some(there) => asked_as(alloc, there.kind, need),
+        Some(there) => asked_as(there.kind, need),
     }
 }
 
@@ -49,7 +48,7 @@ fn needed_of(name: Option<u32>, body: &[(u32, MailboxType)]) -> Option<&MailboxT
     }
 }
 
-fn asked_as(alloc: Global, kind: Kind, need: Option<&MailboxType>) -> Result<TypeOf, AllocError>
+fn asked_as(kind: Kind, need: Option<&MailboxType>) -> Result<TypeOf, AllocError>
     ensures { IfOk result (λ t. result_view t ≡ asked_as_of (kind_view kind) (need_ref need.entry)) }
 {
     match kind {
@@ -64,7 +63,7 @@ fn asked_as(alloc: Global, kind: Kind, need: Option<&MailboxType>) -> Result<Typ
                 pattern: Pattern::One,
             }),
             Some(of) => {
-                let pattern = of.pattern.copy(alloc)?;
+                let pattern = of.pattern.copy()?;
                 Ok(TypeOf::Mailbox {
                     interface,
                     polarity: of.polarity,

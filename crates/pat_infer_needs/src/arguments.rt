@@ -38,7 +38,7 @@ pub fn args_needs(
     while place > 0 {
         place -= 1;
         let of = type_at(types, place);
-        add_argument(alloc, of, &args[place], &mut all)?;
+        add_argument(of, &args[place], &mut all)?;
     }
     Ok(all)
 }
@@ -54,31 +54,21 @@ pub fn type_at(types: &[Option<MailboxType>], place: usize) -> Option<&MailboxTy
 }
 
 /// Adds what an argument needs, before what those behind it need.
-fn add_argument(
-    alloc: Global,
-    of: Option<&MailboxType>,
-    arg: &Expr,
-    all: &mut Arguments,
-) -> Result<(), AllocError>
+fn add_argument(of: Option<&MailboxType>, arg: &Expr, all: &mut Arguments) -> Result<(), AllocError>
     ensures needs { OnOk result (needs_view all.new.needs ≡ with_argument (option_map (λ a. type_view a.now) of.entry) (expr_view arg.now) (needs_view all.old.needs)) }
     ensures twice { OnOk result (all.new.has_twice ≡ twice_with (option_map (λ a. type_view a.now) of.entry) (expr_view arg.now) (needs_view all.old.needs) all.old.has_twice) }
 {
     match (of, arg) {
-        (Some(of), Expr::Var(variable)) => add_variable(alloc, of, *variable, all),
+        (Some(of), Expr::Var(variable)) => add_variable(of, *variable, all),
         _ => Ok(()),
     }
 }
 
-fn add_variable(
-    alloc: Global,
-    of: &MailboxType,
-    variable: u32,
-    all: &mut Arguments,
-) -> Result<(), AllocError>
+fn add_variable(of: &MailboxType, variable: u32, all: &mut Arguments) -> Result<(), AllocError>
     ensures needs { OnOk result (needs_view all.new.needs ≡ put_need variable (type_view of.now) (needs_view all.old.needs)) }
     ensures twice { OnOk result (all.new.has_twice ≡ (is_some (need_of (needs_view all.old.needs) variable) || all.old.has_twice)) }
 {
-    let copy = of.copy(alloc)?;
+    let copy = of.copy()?;
     all.has_twice = find(all.needs.as_slice(), variable as usize).is_some() || all.has_twice;
     put(&mut all.needs, variable, copy)
 }

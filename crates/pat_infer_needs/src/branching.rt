@@ -67,9 +67,7 @@ pub fn join_branches(
         None => Ok(None),
         Some(first) => match first.polarity {
             Polarity::Sending => send_in(alloc, first, needs),
-            Polarity::Receiving => {
-                receive_in(alloc, program, node, variable, first, needs, problem)
-            }
+            Polarity::Receiving => { receive_in(program, node, variable, first, needs, problem) }
         },
     }
 }
@@ -110,20 +108,20 @@ fn sum_of(alloc: Global, needs: &[Option<&MailboxType>]) -> Result<Pattern, Allo
     let Some((first, rest)) = needs.split_first() else {
         return Ok(Pattern::One);
     };
-    let mut all = pattern_of(alloc, *first)?;
+    let mut all = pattern_of(*first)?;
     for need in rest {
-        let more = pattern_of(alloc, *need)?;
+        let more = pattern_of(*need)?;
         all = sum(alloc, all, more)?;
     }
     Ok(all)
 }
 
 /// The pattern of a need, and 1 where there is none.
-fn pattern_of(alloc: Global, need: Option<&MailboxType>) -> Result<Pattern, AllocError>
+fn pattern_of(need: Option<&MailboxType>) -> Result<Pattern, AllocError>
     ensures { IfOk result (λ e. pattern_view e ≡ pattern_or_one (need_ref need.entry)) }
 {
     match need {
-        Some(of) => of.pattern.copy(alloc),
+        Some(of) => of.pattern.copy(),
         None => Ok(Pattern::One),
     }
 }
@@ -142,7 +140,6 @@ fn usage_of(needs: &[Option<&MailboxType>]) -> Usage
 
 /// All branches receive: by the pattern that each of them has, or by a new variable.
 fn receive_in(
-    alloc: Global,
     program: &Program,
     node: u32,
     variable: u32,
@@ -154,7 +151,7 @@ fn receive_in(
 {
     let usage = usage_of(needs);
     if have_all(&first.pattern, needs) {
-        let pattern = first.pattern.copy(alloc)?;
+        let pattern = first.pattern.copy()?;
         return Ok(Some(MailboxType {
             interface: first.interface,
             polarity: Polarity::Receiving,
@@ -170,15 +167,7 @@ fn receive_in(
             span: node_span(program, node),
         },
     )?;
-    add_each(
-        alloc,
-        program,
-        node,
-        number,
-        first.interface,
-        needs,
-        problem,
-    )?;
+    add_each(program, node, number, first.interface, needs, problem)?;
     Ok(Some(MailboxType {
         interface: first.interface,
         polarity: Polarity::Receiving,
@@ -210,7 +199,6 @@ fn has_pattern(pattern: &Pattern, need: Option<&MailboxType>) -> bool
 
 /// What comes by the variable is a word of each need.
 fn add_each(
-    alloc: Global,
     program: &Program,
     node: u32,
     number: u32,
@@ -223,7 +211,7 @@ fn add_each(
     let span = node_span(program, node);
     for need in needs {
         if let Some(of) = need {
-            let right = of.pattern.copy(alloc)?;
+            let right = of.pattern.copy()?;
             add_constraint(problem, interface, Pattern::Var(number), right, span)?;
         }
     }

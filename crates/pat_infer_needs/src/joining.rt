@@ -32,11 +32,11 @@ pub fn join_parts(
     match (bound, body) {
         (None, None) => Ok(None),
         (Some(bound), None) => {
-            let copy = bound.copy(alloc)?;
+            let copy = bound.copy()?;
             Ok(Some(copy))
         }
         (None, Some(body)) => {
-            let copy = body.copy(alloc)?;
+            let copy = body.copy()?;
             Ok(Some(copy))
         }
         (Some(bound), Some(body)) => {
@@ -89,8 +89,8 @@ fn send_both(
 ) -> Result<Option<MailboxType>, AllocError>
     ensures { IfOk result (λ o. option_map type_view o ≡ Some (mailbox_type body.now.interface Sending (prod_of (pattern_view bound.now.pattern) (pattern_view body.now.pattern)) (usage_view body.now.usage))) }
 {
-    let first = bound.pattern.copy(alloc)?;
-    let second = body.pattern.copy(alloc)?;
+    let first = bound.pattern.copy()?;
+    let second = body.pattern.copy()?;
     let pattern = product(alloc, first, second)?;
     Ok(Some(MailboxType {
         interface: body.interface,
@@ -122,9 +122,9 @@ fn receive(
             span,
         },
     )?;
-    let sent = sent.copy(alloc)?;
+    let sent = sent.copy()?;
     let left = product(alloc, sent, Pattern::Var(number))?;
-    let right = received.copy(alloc)?;
+    let right = received.copy()?;
     add_constraint(problem, of.interface, left, right, span)?;
     Ok(Some(MailboxType {
         interface: of.interface,

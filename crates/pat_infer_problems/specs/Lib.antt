@@ -3,3 +3,4 @@ pub mod Views
 pub mod Results
 pub mod Growing
 pub mod Walked
+pub mod Problems

@@ -67,7 +67,7 @@ fn open_function(
     ensures count { OnOk result (1 + length problem.new.vars ≡ signature_end (1 + length problem.old.vars) (function_view function.now)) }
 {
     let params = open_parameters(alloc, function.params.as_slice(), problem)?;
-    let result = open_result(alloc, &function.result, problem)?;
+    let result = open_result(&function.result, problem)?;
     Ok(Signature { params, result })
 }
 
@@ -82,17 +82,13 @@ fn open_parameters(
 {
     let mut types = Sequence::new(alloc);
     for sort in sorts {
-        let of = open_parameter(alloc, sort, problem)?;
+        let of = open_parameter(sort, problem)?;
         types.push(of)?;
     }
     Ok(types)
 }
 
-fn open_parameter(
-    alloc: Global,
-    sort: &Sort,
-    problem: &mut Problem,
-) -> Result<Option<MailboxType>, AllocError>
+fn open_parameter(sort: &Sort, problem: &mut Problem) -> Result<Option<MailboxType>, AllocError>
     ensures of { IfOk result (λ o. option_map type_view o ≡ sort_type (Var (1 + length problem.old.vars)) (sort_view sort.now)) }
     ensures grows { OnOk result (Grows problem.old problem.new (own_variable sort.now) [] []) }
     ensures count { OnOk result (1 + length problem.new.vars ≡ 1 + length problem.old.vars + omits (sort_view sort.now)) }
@@ -100,7 +96,7 @@ fn open_parameter(
     match sort {
         Sort::Base(_) => Ok(None),
         Sort::Mailbox(mailbox) => {
-            let pattern = open_pattern(alloc, mailbox, problem)?;
+            let pattern = open_pattern(mailbox, problem)?;
             Ok(Some(MailboxType {
                 interface: mailbox.interface,
                 polarity: mailbox.polarity,
@@ -111,7 +107,7 @@ fn open_parameter(
     }
 }
 
-fn open_result(alloc: Global, sort: &Sort, problem: &mut Problem) -> Result<TypeOf, AllocError>
+fn open_result(sort: &Sort, problem: &mut Problem) -> Result<TypeOf, AllocError>
     ensures of { IfOk result (λ t. result_view t ≡ result_of (Var (1 + length problem.old.vars)) (sort_view sort.now)) }
     ensures grows { OnOk result (Grows problem.old problem.new (own_variable sort.now) [] []) }
     ensures count { OnOk result (1 + length problem.new.vars ≡ 1 + length problem.old.vars + omits (sort_view sort.now)) }
@@ -119,7 +115,7 @@ fn open_result(alloc: Global, sort: &Sort, problem: &mut Problem) -> Result<Type
     match sort {
         Sort::Base(base) => Ok(TypeOf::Base(*base)),
         Sort::Mailbox(mailbox) => {
-            let pattern = open_pattern(alloc, mailbox, problem)?;
+            let pattern = open_pattern(mailbox, problem)?;
             Ok(TypeOf::Mailbox {
                 interface: mailbox.interface,
                 polarity: mailbox.polarity,
@@ -130,17 +126,13 @@ fn open_result(alloc: Global, sort: &Sort, problem: &mut Problem) -> Result<Type
 }
 
 /// The written pattern, or a new variable.
-fn open_pattern(
-    alloc: Global,
-    mailbox: &MailboxSort,
-    problem: &mut Problem,
-) -> Result<Pattern, AllocError>
+fn open_pattern(mailbox: &MailboxSort, problem: &mut Problem) -> Result<Pattern, AllocError>
     ensures pattern { IfOk result (λ e. pattern_view e ≡ written_or (Var (1 + length problem.old.vars)) (option_map pattern_view mailbox.now.pattern)) }
     ensures grows { OnOk result (Grows problem.old problem.new (own_variable (Sort.Mailbox mailbox.now)) [] []) }
     ensures count { OnOk result (1 + length problem.new.vars ≡ 1 + length problem.old.vars + omits (sort_view (Sort.Mailbox mailbox.now))) }
 {
     match &mailbox.pattern {
-        Some(pattern) => pattern.copy(alloc),
+        Some(pattern) => pattern.copy(),
         None => {
             let number = add_variable(
                 problem,

@@ -20,7 +20,7 @@ use pat_patterns::Pattern;
 use pat_primitives::Polarity;
 use pat_sequences::Sequence;
 use pat_types::{MailboxType, Usage};
-use std::alloc::{AllocError, Global};
+use std::alloc::AllocError;
 
 /// A name that is bound with a type, and what is needed of it.
 #[derive(Drop)]
@@ -32,7 +32,6 @@ pub struct Binder {
 
 /// The name with what is needed of it.
 pub fn bind(
-    alloc: Global,
     name: usize,
     of: MailboxType,
     needs: &[(u32, MailboxType)],
@@ -41,7 +40,7 @@ pub fn bind(
 {
     match find(needs, name) {
         Some(need) => {
-            let copy = need.copy(alloc)?;
+            let copy = need.copy()?;
             Ok(Binder {
                 name,
                 of,
@@ -154,7 +153,6 @@ pub fn same_polarity(first: Polarity, second: Polarity) -> bool
 
 /// Adds the constraint of each name.
 pub fn constrain_names(
-    alloc: Global,
     program: &Program,
     function: usize,
     binders: &[Binder],
@@ -163,14 +161,13 @@ pub fn constrain_names(
     ensures { OnOk result (Grows problem.old problem.new [] (map (placed_constraint program.now) (binder_constraints function (map binder_view binders.now))) []) }
 {
     for binder in binders {
-        constrain_name(alloc, program, function, binder, problem)?;
+        constrain_name(program, function, binder, problem)?;
     }
     Ok(())
 }
 
 // A sending name's pattern has what is needed, and the empty word where nothing is; a receiving name's words are taken.
 fn constrain_name(
-    alloc: Global,
     program: &Program,
     function: usize,
     binder: &Binder,
@@ -179,18 +176,18 @@ fn constrain_name(
     ensures { OnOk result (Grows problem.old problem.new [] (map (placed_constraint program.now) (name_constraints (AtName function binder.now.name) binder.now.of.interface (polarity_view binder.now.of.polarity) (type_view binder.now.of).pattern (binder_view binder.now).need)) []) }
 {
     let span = name_span(program, function, binder.name);
-    let own = binder.of.pattern.copy(alloc)?;
+    let own = binder.of.pattern.copy()?;
     match (binder.of.polarity, &binder.need) {
         (Polarity::Sending, None) => {
             add_constraint(problem, binder.of.interface, Pattern::One, own, span)
         }
         (Polarity::Sending, Some(need)) => {
-            let left = need.pattern.copy(alloc)?;
+            let left = need.pattern.copy()?;
             add_constraint(problem, binder.of.interface, left, own, span)
         }
         (Polarity::Receiving, None) => Ok(()),
         (Polarity::Receiving, Some(need)) => {
-            let right = need.pattern.copy(alloc)?;
+            let right = need.pattern.copy()?;
             add_constraint(problem, binder.of.interface, own, right, span)
         }
     }
@@ -198,7 +195,6 @@ fn constrain_name(
 
 /// The names with the types at their places, and what is needed of them.
 pub fn bind_all(
-    alloc: Global,
     types: &[Option<MailboxType>],
     names: &[u32],
     needs: &[(u32, MailboxType)],
@@ -207,14 +203,13 @@ pub fn bind_all(
     ensures { OnOk result (map binder_view binders.new ≡ map binder_view binders.old ++ names_bound (types_at (map (option_map type_view) types.now)) 0 names.now (needs_view needs.now)) }
 {
     for (place, name) in names.iter().enumerate() {
-        bind_at(alloc, types, place, *name as usize, needs, binders)?;
+        bind_at(types, place, *name as usize, needs, binders)?;
     }
     Ok(())
 }
 
 /// A name with the type at a place, if this is a mailbox, and what is needed of it.
 pub fn bind_at(
-    alloc: Global,
     types: &[Option<MailboxType>],
     place: usize,
     name: usize,
@@ -226,8 +221,8 @@ pub fn bind_at(
     match type_at(types, place) {
         None => Ok(()),
         Some(of) => {
-            let of = of.copy(alloc)?;
-            let binder = bind(alloc, name, of, needs)?;
+            let of = of.copy()?;
+            let binder = bind(name, of, needs)?;
             binders.push(binder)
         }
     }

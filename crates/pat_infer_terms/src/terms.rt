@@ -48,7 +48,7 @@ pub fn value_needs(
             },
             Expr::Var(variable),
         ) => {
-            let pattern = pattern.copy(alloc)?;
+            let pattern = pattern.copy()?;
             needs.push((
                 *variable,
                 MailboxType {
@@ -66,7 +66,6 @@ pub fn value_needs(
 
 /// A new mailbox has the empty word, and is asked for as receiving.
 pub fn constrain_new(
-    alloc: Global,
     program: &Program,
     node: u32,
     interface: u32,
@@ -81,7 +80,7 @@ pub fn constrain_new(
             pattern,
             ..
         } => {
-            let right = pattern.copy(alloc)?;
+            let right = pattern.copy()?;
             add_constraint(
                 problem,
                 interface,
@@ -110,14 +109,13 @@ pub fn call_needs(
 {
     let all = args_needs(alloc, signature.params.as_slice(), args)?;
     check_node(program, !all.has_twice, Rule::Alias, node)?;
-    constrain_result(alloc, program, node, &signature.result, asked, problem)?;
+    constrain_result(program, node, &signature.result, asked, problem)?;
     Ok(all.needs)
 }
 
 // A call's result has the polarity that it is asked for; and no fewer words where it is sent to, and no more where it is
 // received from.
 fn constrain_result(
-    alloc: Global,
     program: &Program,
     node: u32,
     given: &TypeOf,
@@ -145,8 +143,8 @@ fn constrain_result(
                 Rule::Polarity,
                 node,
             )?;
-            let own = pattern.copy(alloc)?;
-            let other = other.copy(alloc)?;
+            let own = pattern.copy()?;
+            let other = other.copy()?;
             constrain_patterns(program, node, *interface, *polarity, own, other, problem)?;
             Ok(())
         }

@@ -44,7 +44,7 @@ pub fn walk_function(
     )?;
     let binders = binders_of(alloc, function, signature, needs.as_slice())?;
     check_names(signed.program, number, binders.as_slice())?;
-    constrain_names(alloc, signed.program, number, binders.as_slice(), problem)?;
+    constrain_names(signed.program, number, binders.as_slice(), problem)?;
     Ok(())
 }
 
@@ -76,7 +76,7 @@ fn bind_parameters(
 {
     let mut binders = Sequence::new(alloc);
     for place in 0..params.len() {
-        bind_at(alloc, types, place, place, needs, &mut binders)?;
+        bind_at(types, place, place, needs, &mut binders)?;
     }
     Ok(binders)
 }

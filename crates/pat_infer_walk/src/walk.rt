@@ -212,7 +212,7 @@ fn keep_node(
 ) -> Result<(), AllocError>
     ensures { OnOk result (Grows problem.old problem.new [] [] ((node, record { result = result_view asked.now; needs = needs_view needs.now }) ∷ [])) }
 {
-    let result = asked.copy(alloc)?;
+    let result = asked.copy()?;
     let env = copy_needs(alloc, needs)?;
     set_node(problem, node, NodeType { result, env });
     Ok(())
@@ -240,7 +240,7 @@ fn walk_core(
         }
         Core::Print(_) | Core::Let { .. } => Ok(Sequence::new(alloc)),
         Core::New(interface) => {
-            constrain_new(alloc, program, node, *interface, asked, problem)?;
+            constrain_new(program, node, *interface, asked, problem)?;
             Ok(Sequence::new(alloc))
         }
         Core::Call { function, args } => {
@@ -322,7 +322,7 @@ fn taken_as_second(
 {
     let mut second = Sequence::new(alloc);
     for (variable, of) in needs {
-        let mut copy = of.copy(alloc)?;
+        let mut copy = of.copy()?;
         copy.usage = Usage::Second;
         second.push((*variable, copy))?;
     }
@@ -473,7 +473,7 @@ fn close_let(
     match let_parts(signed.program, node) {
         None => Ok(body),
         Some((name, part)) => {
-            let wanted = asked_of(alloc, signed.program, part, name, body.as_slice())?;
+            let wanted = asked_of(signed.program, part, name, body.as_slice())?;
             let bound = walk(alloc, signed, levels, part, &wanted, problem)?;
             let inner = beside(name, body);
             let needs = join_let(

@@ -50,7 +50,7 @@ fn cuts_show(
     let names = names_of(alloc, left, right)?;
     let all = names.as_slice();
     let numbered = renumbered(alloc, all, left)?;
-    let other = right_of(alloc, all, right)?;
+    let other = right_of(all, right)?;
     let values = values_of(alloc, derivation.vars.as_slice(), all)?;
     let held = values.as_slice();
     let shown = check_grid(alloc, &numbered, &other, held, k, tags)?;

@@ -37,16 +37,11 @@ fn of_three(first: u32, second: u32, third: u32) -> Option<u32>
     }
 }
 
-fn lies_in(
-    alloc: Global,
-    interface: Option<u32>,
-    left: &Pattern,
-    right: &Pattern,
-) -> Result<Inclusion, AllocError>
+fn lies_in(interface: Option<u32>, left: &Pattern, right: &Pattern) -> Result<Inclusion, AllocError>
     ensures { IfOk result (λ q. inclusion_view q ≡ inclusion interface (pattern_view left.now) (pattern_view right.now)) }
 {
-    let left = left.copy(alloc)?;
-    let right = right.copy(alloc)?;
+    let left = left.copy()?;
+    let right = right.copy()?;
     Ok(Inclusion {
         interface,
         left,
@@ -55,13 +50,13 @@ fn lies_in(
 }
 
 /// What is needed for the one type to fit the other: more may be sent than is needed, and less received than is allowed.
-fn fit(alloc: Global, given: &MailboxType, asked: &MailboxType) -> Result<Inclusion, AllocError>
+fn fit(given: &MailboxType, asked: &MailboxType) -> Result<Inclusion, AllocError>
     ensures { IfOk result (λ q. inclusion_view q ≡ fit_inclusion (type_view given.now) (type_view asked.now)) }
 {
     let interface = of_two(given.interface, asked.interface);
     match asked.polarity {
-        Polarity::Sending => lies_in(alloc, interface, &asked.pattern, &given.pattern),
-        Polarity::Receiving => lies_in(alloc, interface, &given.pattern, &asked.pattern),
+        Polarity::Sending => lies_in(interface, &asked.pattern, &given.pattern),
+        Polarity::Receiving => lies_in(interface, &given.pattern, &asked.pattern),
     }
 }
 
@@ -75,10 +70,10 @@ fn both_lie_in(
 ) -> Result<Option<Inclusion>, AllocError>
     ensures { IfOk result (λ o. listed (option_map inclusion_view o) ≡ inclusion interface (prod_of (pattern_view first.now) (pattern_view second.now)) (pattern_view right.now) ∷ []) }
 {
-    let first = first.copy(alloc)?;
-    let second = second.copy(alloc)?;
+    let first = first.copy()?;
+    let second = second.copy()?;
     let left = product(alloc, first, second)?;
-    let right = right.copy(alloc)?;
+    let right = right.copy()?;
     Ok(Some(Inclusion {
         interface,
         left,
@@ -123,7 +118,6 @@ fn join(
 }
 
 fn passed(
-    alloc: Global,
     given: &Option<MailboxType>,
     asked: &Option<MailboxType>,
 ) -> Result<Option<Inclusion>, AllocError>
@@ -133,7 +127,7 @@ fn passed(
         None => Ok(None),
         Some(given) => match asked {
             None => Ok(None),
-            Some(asked) => Ok(Some(fit(alloc, given, asked)?)),
+            Some(asked) => Ok(Some(fit(given, asked)?)),
         },
     }
 }
@@ -150,10 +144,10 @@ fn divided(
     match bound {
         None => match body {
             None => Ok(None),
-            Some(body) => Ok(Some(fit(alloc, given, body)?)),
+            Some(body) => Ok(Some(fit(given, body)?)),
         },
         Some(bound) => match body {
-            None => Ok(Some(fit(alloc, given, bound)?)),
+            None => Ok(Some(fit(given, bound)?)),
             Some(body) => join(alloc, bound, body, given),
         },
     }
@@ -164,7 +158,7 @@ pub fn inclusion_of(alloc: Global, demand: &Demand) -> Result<Option<Inclusion>,
     ensures { IfOk result (λ o. listed (option_map inclusion_view o) ≡ inclusions_of (demand_view demand.now)) }
 {
     match demand {
-        Demand::Pass { given, asked } => passed(alloc, given, asked),
+        Demand::Pass { given, asked } => passed(given, asked),
         Demand::Divide { given, bound, body } => match given {
             None => Ok(None),
             Some(given) => divided(alloc, given, bound, body),

@@ -100,12 +100,12 @@ fn renumber_onto(
 }
 
 /// The pattern as a right side.
-pub fn right_of(alloc: Global, names: &[u32], pattern: &Pattern) -> Result<Right, AllocError>
+pub fn right_of(names: &[u32], pattern: &Pattern) -> Result<Right, AllocError>
     ensures { IfOk result (λ r. right_view r ≡ right_in names.now (pattern_view pattern.now)) }
 {
     match pattern {
         Pattern::Var(number) => Ok(Right::Var(place_of(names, *number)?)),
-        other => Ok(Right::Pattern(other.copy(alloc)?)),
+        other => Ok(Right::Pattern(other.copy()?)),
     }
 }
 
@@ -123,7 +123,7 @@ fn copied_value(alloc: Global, value: &derivations::VarValue) -> Result<VarValue
     ensures { IfOk result (λ v. value_view v ≡ own_value_view value.now) }
 {
     match value {
-        derivations::VarValue::Pattern(pattern) => Ok(VarValue::Pattern(pattern.copy(alloc)?)),
+        derivations::VarValue::Pattern(pattern) => Ok(VarValue::Pattern(pattern.copy()?)),
         derivations::VarValue::Grid { k, points } => Ok(VarValue::Grid {
             k: *k,
             points: copied_points(alloc, points.as_slice())?,

@@ -26,11 +26,11 @@ fn is_arm(left: &Pattern, right: &Pattern) -> bool
 }
 
 /// The value where it is a pattern, and otherwise the variable.
-fn plain_value(alloc: Global, number: u32, value: &VarValue) -> Result<Pattern, AllocError>
+fn plain_value(number: u32, value: &VarValue) -> Result<Pattern, AllocError>
     ensures { IfOk result (λ p. pattern_view p ≡ plain_value_of number (value_view value.now)) }
 {
     match value {
-        VarValue::Pattern(pattern) => pattern.copy(alloc),
+        VarValue::Pattern(pattern) => pattern.copy(),
         VarValue::Grid { k: _, points: _ } => Ok(Pattern::Var(number)),
     }
 }
@@ -47,7 +47,7 @@ pub fn plain_values(alloc: Global, derivation: &Derivation) -> Result<Sequence<P
             None => return Err(AllocError),
             Some(next) => next,
         };
-        let own = plain_value(alloc, number, value)?;
+        let own = plain_value(number, value)?;
         plain.push(own)?;
     }
     Ok(plain)

@@ -7,6 +7,7 @@ ghost use Rattle.pat_judge_forms.specs.Limits.{IsCounted, IsLimited, Limits};
 
 use pat_patterns::{Pattern, size};
 use std::alloc::{AllocError, Global};
+use std::sync::Arc;
 
 /// The most nodes that are built.
 const MOST_NODES: u32 = 65_536;
@@ -27,14 +28,14 @@ pub fn leaf(pattern: Pattern) -> Built
 }
 
 /// A copy of the pattern, unless it is too large.
-pub fn copied(alloc: Global, pattern: &Pattern) -> Result<Option<Built>, AllocError>
+pub fn copied(pattern: &Pattern) -> Result<Option<Built>, AllocError>
     ensures { IfOk result (Limits (pattern_view pattern.now)) }
 {
     let size = size(pattern);
     if size > MOST_NODES {
         return Ok(None);
     }
-    let pattern = pattern.copy(alloc)?;
+    let pattern = pattern.copy()?;
     Ok(Some(Built { pattern, size }))
 }
 
@@ -49,8 +50,8 @@ fn join_sum(alloc: Global, left: Built, right: Built) -> Result<Option<Built>, A
         return Ok(None);
     }
     let pattern = Pattern::Sum(
-        Box::new(alloc, left.pattern)?,
-        Box::new(alloc, right.pattern)?,
+        Arc::new(alloc, left.pattern)?,
+        Arc::new(alloc, right.pattern)?,
     );
     Ok(Some(Built { pattern, size }))
 }
@@ -82,8 +83,8 @@ fn join_product(alloc: Global, left: Built, right: Built) -> Result<Option<Built
         return Ok(None);
     }
     let pattern = Pattern::Prod(
-        Box::new(alloc, left.pattern)?,
-        Box::new(alloc, right.pattern)?,
+        Arc::new(alloc, left.pattern)?,
+        Arc::new(alloc, right.pattern)?,
     );
     Ok(Some(Built { pattern, size }))
 }
@@ -120,7 +121,7 @@ pub fn star(alloc: Global, part: Built) -> Result<Option<Built>, AllocError>
     if size > MOST_NODES {
         return Ok(None);
     }
-    let pattern = Pattern::Star(Box::new(alloc, part.pattern)?);
+    let pattern = Pattern::Star(Arc::new(alloc, part.pattern)?);
     Ok(Some(Built { pattern, size }))
 }
 

@@ -48,7 +48,7 @@ fn value_of(
     match var_of(derivation.vars.as_slice(), number) {
         None => Ok(Some(leaf(Pattern::Zero))),
         Some((interface, value)) => match value {
-            VarValue::Pattern(pattern) => copied(alloc, pattern),
+            VarValue::Pattern(pattern) => copied(pattern),
             VarValue::Grid { k, points: own } => {
                 tags_are_few(program, *interface);
                 points(alloc, *k, tag_count(program, *interface), own.as_slice())

@@ -71,7 +71,7 @@ fn arguments_differ(
         None => Ok(true),
         Some(signature) => {
             let mut asked = Sequence::new(alloc);
-            push_arguments(alloc, signature.params.as_slice(), arguments, &mut asked)?;
+            push_arguments(signature.params.as_slice(), arguments, &mut asked)?;
             names_differ(alloc, asked.as_slice())
         }
     }
@@ -90,7 +90,7 @@ fn payloads_differ(
         Some(declared) => {
             let types = payload_types(alloc, declared.payloads.as_slice())?;
             let mut asked = Sequence::new(alloc);
-            push_arguments(alloc, types.as_slice(), arguments, &mut asked)?;
+            push_arguments(types.as_slice(), arguments, &mut asked)?;
             let names = names_of(alloc, asked.as_slice())?;
             Ok(!holds(names.as_slice(), target) && all_differ(names.as_slice()))
         }

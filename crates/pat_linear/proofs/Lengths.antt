@@ -1,11 +1,11 @@
 -- How many products there are.
-use Rattle.std.proofs.Common.{◌≡◌, ℕ, ◌*◌, ◌-◌, ◌^◌, ◌≤◌, ◌<◌, min, true, false, List, [], ◌∷◌, length, map, length-append, sym, ap, ◌∙◌, arith, zero-mul, suc-mul}
+use Rattle.std.proofs.Common.{◌≡◌, ℕ, ◌*◌, ◌-◌, ◌^◌, ◌≤◌, ◌<◌, min, true, false, List, [], ◌∷◌, length, get_or, map, length-append, sym, ap, ◌∙◌, arith, zero-mul, suc-mul}
 use Rattle.std.proofs.lemmas.List.{length-map}
 use Rattle.std.proofs.lemmas.Bool.{le-leb, lt-leb}
 use Rattle.pat_inclusions.specs.LinearSets.{LinearSet}
 use Rattle.pat_inclusions.specs.ClosedForms.{set_product, products, is_short}
 use Rattle.pat_linear.specs.declared.set.LinearSet.{LinearSet as CodeSet}
-use Rattle.pat_linear.specs.Views.{sets_view}
+use Rattle.pat_linear.specs.Views.{set_view, sets_view}
 
 pub products_length : (n : ℕ) (xs ys : List LinearSet) → length (products n xs ys) ≡ length xs * length ys
 products_length n [] ys = sym (zero-mul (length ys))
@@ -26,3 +26,12 @@ products_short n m xs ys e h = let l = code_length n xs ys in le-leb (length (pr
 
 pub products_long : (n m : ℕ) (xs ys : List CodeSet) → m ≡ min (length xs * length ys) (2 ^ 64 - 1) → 4096 < m → is_short (products n (sets_view xs) (sets_view ys)) ≡ false
 products_long n m xs ys e h = let l = code_length n xs ys in lt-leb (length (products n (sets_view xs) (sets_view ys))) 4096 (omega arith)
+
+-- the product of one set with one other is not too many
+pub one_with_one : (n : ℕ) (xs ys : List CodeSet) (y : CodeSet) (made : List LinearSet) → length xs ≡ 1 → length ys ≡ 1 → y ≡ get_or ys 0 y → made ≡ products n (sets_view xs) (set_view y ∷ []) → (made ≡ products n (sets_view xs) (sets_view ys)) × (is_short (products n (sets_view xs) (sets_view ys)) ≡ true)
+one_with_one n xs [] y made a b e h = absurd (omega arith)
+one_with_one n xs (z ∷ []) y made a b e h =
+    let all = products n (sets_view xs) (sets_view (z ∷ [])) in
+    let one : length all ≡ 1 = code_length n xs (z ∷ []) ∙ ap (λ k. k * 1) a in
+    (h ∙ ap (λ s. products n (sets_view xs) (set_view s ∷ [])) e, le-leb (length all) 4096 (omega arith))
+one_with_one n xs (z ∷ w ∷ zs) y made a b e h = absurd (omega arith)

@@ -52,54 +52,47 @@ times_at n made xs i a l e =
 -- ---- one turn
 
 -- the next product may be made
-pub star_room : (xs : List CodeSet) (i : ℕ) (a : CodeSet) (m0 m f0 f : List CodeSet) → SetsWithin (2 ^ 27) (2 ^ 27) (sets_view xs) → SetsClean most_tags (sets_view xs) → MadeSoFar most_tags (sets_view xs) i (sets_view m0) → i < length xs → a ≡ get_or xs i a → m ≡ m0 → f ≡ f0 → sets_view f0 ≡ set_star most_tags (set_view a) → HaveRoom (sets_view m) (sets_view f)
-star_room xs i a m0 m f0 f within clean inv l here em ef star =
+pub star_room : (xs : List CodeSet) (i : ℕ) (a : CodeSet) (m f : List CodeSet) → SetsWithin (2 ^ 27) (2 ^ 27) (sets_view xs) → SetsClean most_tags (sets_view xs) → MadeSoFar most_tags (sets_view xs) i (sets_view m) → i < length xs → a ≡ get_or xs i a → sets_view f ≡ set_star most_tags (set_view a) → HaveRoom (sets_view m) (sets_view f)
+star_room xs i a m f within clean inv l here star =
     let c : ℕ = 2 ^ 27 in
     let taken : SetsWithin c c (take i (sets_view xs)) = all_take (SetWithin c c) (sets_view xs) i within in
     let short : is_short (times_stars most_tags (only_empty ∷ []) (take i (sets_view xs))) ≡ true = subst (λ (x : List LinearSet). is_short x ≡ true) inv.so_far inv.now_short in
-    let made : SetsWithin (12 * c) c (sets_view m0) =
+    let made : SetsWithin (12 * c) c (sets_view m) =
     subst (SetsWithin (12 * c) c) (sym inv.so_far)
     (star_counts most_tags c (take i (sets_view xs)) taken (all_take _ (sets_view xs) i clean) short) in
     let own : SetWithin c c (set_view a) = subst (λ x. SetWithin c c (set_view x)) (sym here) (all_here (SetWithin c c) xs i a within l) in
-    let factor : SetsWithin c c (sets_view f0) = subst (SetsWithin c c) (sym star) (star_bound most_tags c (set_view a) own) in (
-      12 * c,
-      c,
-      c,
-      subst (λ x. SetsWithin (12 * c) c (sets_view x)) (sym em) made,
-      subst (λ x. SetsWithin c c (sets_view x)) (sym ef) factor,
-      omega arith,
-    )
+    let factor : SetsWithin c c (sets_view f) = subst (SetsWithin c c) (sym star) (star_bound most_tags c (set_view a) own) in
+    (12 * c, c, c, made, factor, omega arith)
 
 -- what the product of the two lists is, in the definition's words
-product_is : (n : ℕ) (a : CodeSet) (m0 m f0 f : List CodeSet) → m ≡ m0 → f ≡ f0 → sets_view f0 ≡ set_star n (set_view a) → products n (sets_view m) (sets_view f) ≡ products n (sets_view m0) (set_star n (set_view a))
-product_is n a m0 m f0 f em ef star =
-    ap (λ x. products n (sets_view x) (sets_view f)) em ∙ ap (λ x. products n (sets_view m0) (sets_view x)) ef ∙ ap (products n (sets_view m0)) star
+product_is : (n : ℕ) (a : CodeSet) (m f : List CodeSet) → sets_view f ≡ set_star n (set_view a) → products n (sets_view m) (sets_view f) ≡ products n (sets_view m) (set_star n (set_view a))
+product_is n a m f star = ap (products n (sets_view m)) star
 
 -- the next product has been made
-pub star_turn : (n : ℕ) (xs : List CodeSet) (i : ℕ) (a : CodeSet) (m0 m f0 f next : List CodeSet) → MadeSoFar n (sets_view xs) i (sets_view m0) → i < length xs → a ≡ get_or xs i a → m ≡ m0 → f ≡ f0 → sets_view f0 ≡ set_star n (set_view a) → (sets_view next ≡ products n (sets_view m) (sets_view f)) × (is_short (products n (sets_view m) (sets_view f)) ≡ true) → MadeSoFar n (sets_view xs) (i + 1) (sets_view next)
-star_turn n xs i a m0 m f0 f next inv l here em ef star made =
+pub star_turn : (n : ℕ) (xs : List CodeSet) (i : ℕ) (a : CodeSet) (m f next : List CodeSet) → MadeSoFar n (sets_view xs) i (sets_view m) → i < length xs → a ≡ get_or xs i a → sets_view f ≡ set_star n (set_view a) → (sets_view next ≡ products n (sets_view m) (sets_view f)) × (is_short (products n (sets_view m) (sets_view f)) ≡ true) → MadeSoFar n (sets_view xs) (i + 1) (sets_view next)
+star_turn n xs i a m f next inv l here star made =
     let ys : List LinearSet = sets_view xs in
     let s : LinearSet = set_view a in
     let rest : List LinearSet = drop (suc i) ys in
-    let p : List LinearSet = products n (sets_view m0) (set_star n s) in
-    let same = product_is n a m0 m f0 f em ef star in
+    let p : List LinearSet = products n (sets_view m) (set_star n s) in
+    let same = product_is n a m f star in
     let e : sets_view next ≡ p = made.0 ∙ same in
     let short : is_short p ≡ true = subst (λ (x : List LinearSet). is_short x ≡ true) same made.1 in
     let at : drop i ys ≡ s ∷ rest = drop_at xs i a l here in
     let step : MadeSoFar n ys (suc i) (sets_view next) = record {
       so_far = e ∙ ap (λ x. products n x (set_star n s)) inv.so_far ∙ sym (times_at n (only_empty ∷ []) xs i a l here);
-      to_come = ap (λ x. times_stars n x rest) e ∙ sym (ap (times_stars n (sets_view m0)) at) ∙ inv.to_come;
+      to_come = ap (λ x. times_stars n x rest) e ∙ sym (ap (times_stars n (sets_view m)) at) ∙ inv.to_come;
       now_short = subst (λ (x : List LinearSet). is_short x ≡ true) (sym e) short;
-      short_to_come = ap (λ x. stars_are_short n x rest) e ∙ sym (ap (λ b. b && stars_are_short n p rest) short) ∙ sym (ap (stars_are_short n (sets_view m0)) at) ∙ inv.short_to_come;
+      short_to_come = ap (λ x. stars_are_short n x rest) e ∙ sym (ap (λ b. b && stars_are_short n p rest) short) ∙ sym (ap (stars_are_short n (sets_view m)) at) ∙ inv.short_to_come;
     } in
     let next_place : suc i ≡ i + 1 = omega arith in
     subst (λ j. MadeSoFar n ys j (sets_view next)) next_place step
 
 -- the next product would be too large, or there was no memory
-pub star_refused : (n : ℕ) (xs : List CodeSet) (i : ℕ) (a : CodeSet) (m0 m f0 f : List CodeSet) (error : FormError) → MadeSoFar n (sets_view xs) i (sets_view m0) → i < length xs → a ≡ get_or xs i a → m ≡ m0 → f ≡ f0 → sets_view f0 ≡ set_star n (set_view a) → GivesSets (Err error) (is_short (products n (sets_view m) (sets_view f))) (products n (sets_view m) (sets_view f)) → GivesSets (Err error) (stars_are_short n (only_empty ∷ []) (sets_view xs)) (times_stars n (only_empty ∷ []) (sets_view xs))
-star_refused n xs i a m0 m f0 f NoMemory inv l here em ef star h = tt
-star_refused n xs i a m0 m f0 f TooLarge inv l here em ef star h =
+pub star_refused : (n : ℕ) (xs : List CodeSet) (i : ℕ) (a : CodeSet) (m f : List CodeSet) (error : FormError) → MadeSoFar n (sets_view xs) i (sets_view m) → i < length xs → a ≡ get_or xs i a → sets_view f ≡ set_star n (set_view a) → GivesSets (Err error) (is_short (products n (sets_view m) (sets_view f))) (products n (sets_view m) (sets_view f)) → GivesSets (Err error) (stars_are_short n (only_empty ∷ []) (sets_view xs)) (times_stars n (only_empty ∷ []) (sets_view xs))
+star_refused n xs i a m f NoMemory inv l here star h = tt
+star_refused n xs i a m f TooLarge inv l here star h =
     let s : LinearSet = set_view a in
-    let p : List LinearSet = products n (sets_view m0) (set_star n s) in
-    let long : is_short p ≡ false = subst (λ (x : List LinearSet). is_short x ≡ false) (product_is n a m0 m f0 f em ef star) h in
-    sym inv.short_to_come ∙ ap (stars_are_short n (sets_view m0)) (drop_at xs i a l here) ∙ ap (λ b. b && stars_are_short n p (drop (suc i) (sets_view xs))) long
+    let p : List LinearSet = products n (sets_view m) (set_star n s) in
+    let long : is_short p ≡ false = subst (λ (x : List LinearSet). is_short x ≡ false) (product_is n a m f star) h in
+    sym inv.short_to_come ∙ ap (stars_are_short n (sets_view m)) (drop_at xs i a l here) ∙ ap (λ b. b && stars_are_short n p (drop (suc i) (sets_view xs))) long

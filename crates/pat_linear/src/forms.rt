@@ -11,7 +11,7 @@ ghost use Rattle.pat_linear.specs.Views.{sets_view, forms_view};
 ghost use Rattle.pat_linear.specs.Forms.{GivesForm, GivesSets, Joins, CanJoin};
 
 use crate::error::FormError;
-use crate::products::{MOST_SETS, products};
+use crate::products::{MOST_SETS, product};
 use crate::set::LinearSet;
 use crate::stars::{only_empty, star};
 use pat_bags::Bag;
@@ -84,12 +84,11 @@ fn tag_form(alloc: Global, tag: u8) -> Result<Sequence<LinearSet>, AllocError>
     requires { tag < 32 }
     ensures { IfOk result (λ sets. sets_view sets ≡ linear_set (one tag) [] ∷ []) }
 {
-    let mut sets = Sequence::new(alloc);
-    sets.push(LinearSet {
+    let set = LinearSet {
         base: Bag::one(tag),
         periods: Sequence::new(alloc),
-    })?;
-    Ok(sets)
+    };
+    Ok(Sequence::from_vec(vec![in alloc; set]?))
 }
 
 /// Takes the form on top.
@@ -147,7 +146,7 @@ fn join_product(alloc: Global, done: &mut Stack<Sequence<LinearSet>>) -> Result<
 {
     let right = take_form(done);
     let left = take_form(done);
-    let form = products(alloc, left.as_slice(), right.as_slice())?;
+    let form = product(alloc, left, right)?;
     done.push(form)?;
     Ok(())
 }

@@ -1,5 +1,5 @@
 // Products of linear sets.
-ghost use Rattle.std.specs.Prelude.{◌≡◌, ◌++◌, ℕ, ◌<◌, ◌≤◌, ◌+◌, ◌^◌, map, length, IfOk, OnOk};
+ghost use Rattle.std.specs.Prelude.{◌≡◌, ◌++◌, ◌∷◌, [], ℕ, ◌<◌, ◌≤◌, ◌+◌, ◌^◌, map, length, IfOk, OnOk};
 ghost use Rattle.pat_bags.specs.Views.{word_of};
 ghost use Rattle.pat_inclusions.specs.Counts.{most_tags};
 ghost use Rattle.pat_inclusions.specs.ClosedForms.{is_short, set_product as set_product_of, products as products_of};
@@ -25,6 +25,29 @@ fn set_product(alloc: Global, a: &LinearSet, b: &LinearSet) -> Result<LinearSet,
     add_periods(&mut periods, b.periods.as_slice())?;
     let base = a.base.add(&b.base);
     Ok(LinearSet { base, periods })
+}
+
+/// Makes the set the sums of a word of it and one of the other.
+fn multiply(a: &mut LinearSet, b: &LinearSet) -> Result<(), AllocError>
+    requires { (t : ℕ) → t < 32 → word_of a.old.base t + word_of b.now.base t < 2 ^ 32 }
+    ensures { OnOk result (set_view a.new ≡ set_product_of most_tags (set_view a.old) (set_view b.now)) }
+{
+    a.base = a.base.add(&b.base);
+    add_periods(&mut a.periods, b.periods.as_slice())
+}
+
+/// The product of the one set of a list with another, in its place.
+fn one_product(
+    sets: Sequence<LinearSet>,
+    other: &LinearSet,
+) -> Result<Sequence<LinearSet>, AllocError>
+    requires one { length sets ≡ 1 }
+    requires room { HaveRoom (sets_view sets) (set_view other.now ∷ []) }
+    ensures { IfOk result (λ done. sets_view done ≡ products_of most_tags (sets_view sets) (set_view other.now ∷ [])) }
+{
+    let mut done = sets;
+    multiply(&mut done.items[0], other)?;
+    Ok(done)
 }
 
 /// Appends the products of a set with each of the others.
@@ -74,4 +97,22 @@ pub fn products(
     }
     let done = all_products(alloc, sets, others)?;
     Ok(done)
+}
+
+/// The same of lists that are given away. Mostly each is of one set.
+pub fn product(
+    alloc: Global,
+    sets: Sequence<LinearSet>,
+    others: Sequence<LinearSet>,
+) -> Result<Sequence<LinearSet>, FormError>
+    requires { HaveRoom (sets_view sets) (sets_view others) }
+    ensures { let made = products_of most_tags (sets_view sets) (sets_view others) in GivesSets result (is_short made) made }
+{
+    if sets.len() == 1
+        && let [other] = others.as_slice()
+    {
+        let done = one_product(sets, other)?;
+        return Ok(done);
+    }
+    products(alloc, sets.as_slice(), others.as_slice())
 }

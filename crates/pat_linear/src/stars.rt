@@ -9,7 +9,7 @@ ghost use Rattle.pat_linear.specs.Forms.{GivesSets};
 
 use crate::comparing::{add_period, copied};
 use crate::error::FormError;
-use crate::products::products;
+use crate::products::product;
 use crate::set::LinearSet;
 use pat_bags::Bag;
 use pat_sequences::Sequence;
@@ -19,12 +19,11 @@ use std::alloc::{AllocError, Global};
 pub fn only_empty(alloc: Global) -> Result<Sequence<LinearSet>, AllocError>
     ensures { IfOk result (λ sets. sets_view sets ≡ only_empty_set ∷ []) }
 {
-    let mut sets = Sequence::new(alloc);
-    sets.push(LinearSet {
+    let set = LinearSet {
         base: Bag::empty(),
         periods: Sequence::new(alloc),
-    })?;
-    Ok(sets)
+    };
+    Ok(Sequence::from_vec(vec![in alloc; set]?))
 }
 
 /// The finite sums of words of the set.
@@ -50,12 +49,11 @@ fn star_of_base(alloc: Global, base: &Bag) -> Result<Sequence<LinearSet>, AllocE
 {
     let mut periods = Sequence::new(alloc);
     add_period(&mut periods, base)?;
-    let mut sets = Sequence::new(alloc);
-    sets.push(LinearSet {
+    let set = LinearSet {
         base: Bag::empty(),
         periods,
-    })?;
-    Ok(sets)
+    };
+    Ok(Sequence::from_vec(vec![in alloc; set]?))
 }
 
 /// The finite sums of words of the sets: what was made so far, times the star of each further set in turn.
@@ -67,7 +65,7 @@ pub fn star(alloc: Global, sets: &[LinearSet]) -> Result<Sequence<LinearSet>, Fo
     let mut made = only_empty(alloc)?;
     for set in sets {
         let factor = set_star(alloc, set)?;
-        made = products(alloc, made.as_slice(), factor.as_slice())?;
+        made = product(alloc, made, factor)?;
     }
     Ok(made)
 }

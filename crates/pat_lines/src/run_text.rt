@@ -26,13 +26,7 @@ pub fn text_of(
 {
     let mut text = pat_history::write(alloc, entries)?;
     push_output(&mut text, config.printed.as_slice())?;
-    push_standing(
-        alloc,
-        &mut text,
-        Some(outcome),
-        count_steps(entries),
-        config,
-    )?;
+    push_standing(&mut text, Some(outcome), count_steps(entries), config)?;
     Ok(text)
 }
 
@@ -48,7 +42,7 @@ pub fn replay_text_of(
 {
     let mut text = Vec::new(alloc);
     push_lines(&mut text, config.printed.as_slice())?;
-    push_standing(alloc, &mut text, standing, count_steps(entries), config)?;
+    push_standing(&mut text, standing, count_steps(entries), config)?;
     Ok(text)
 }
 

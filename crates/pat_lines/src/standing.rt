@@ -9,11 +9,10 @@ ghost use Rattle.pat_lines.specs.RunText.{left_text, numbers_text, standing_text
 use pat_decimal::push_number;
 use pat_machine::Outcome;
 use pat_reduce::{Config, ThreadState};
-use std::alloc::{AllocError, Global};
+use std::alloc::AllocError;
 
 /// The outcome after so many steps, or `open` where there is none, with a newline.
 pub fn push_standing(
-    alloc: Global,
     text: &mut Vec<u8>,
     standing: Option<Outcome>,
     steps: u64,
@@ -21,13 +20,12 @@ pub fn push_standing(
 ) -> Result<(), AllocError>
     ensures { OnOk result (text.new.items ≡ text.old.items ++ line (standing_text (option_map outcome_view standing) steps (config_view config.now))) }
 {
-    push_words(alloc, text, standing, steps, config)?;
+    push_words(text, standing, steps, config)?;
     text.push(b'\n')?;
     Ok(())
 }
 
 fn push_words(
-    alloc: Global,
     text: &mut Vec<u8>,
     standing: Option<Outcome>,
     steps: u64,
@@ -37,48 +35,44 @@ fn push_words(
 {
     match standing {
         Some(Outcome::Done) => {
-            push_count(alloc, text, b"done ", steps)?;
-            push_left(alloc, text, config.live.len())
+            push_count(text, b"done ", steps)?;
+            push_left(text, config.live.len())
         }
         Some(Outcome::Waiting) => {
-            push_count(alloc, text, b"waiting ", steps)?;
-            push_threads(alloc, text, config.threads.as_slice())
+            push_count(text, b"waiting ", steps)?;
+            push_threads(text, config.threads.as_slice())
         }
-        Some(Outcome::Full) => push_count(alloc, text, b"full ", steps),
-        Some(Outcome::Budget) => push_count(alloc, text, b"budget ", steps),
-        None => push_count(alloc, text, b"open ", steps),
+        Some(Outcome::Full) => push_count(text, b"full ", steps),
+        Some(Outcome::Budget) => push_count(text, b"budget ", steps),
+        None => push_count(text, b"open ", steps),
     }
 }
 
 // A word and a number.
-fn push_count(alloc: Global, text: &mut Vec<u8>, word: &[u8], count: u64) -> Result<(), AllocError>
+fn push_count(text: &mut Vec<u8>, word: &[u8], count: u64) -> Result<(), AllocError>
     ensures { OnOk result (text.new.items ≡ text.old.items ++ (word.now ++ decimal count)) }
 {
     text.extend_from_slice(word)?;
-    push_number(alloc, text, count)
+    push_number(text, count)
 }
 
 // How many mailboxes are left, if some are.
-fn push_left(alloc: Global, text: &mut Vec<u8>, count: usize) -> Result<(), AllocError>
+fn push_left(text: &mut Vec<u8>, count: usize) -> Result<(), AllocError>
     ensures { OnOk result (text.new.items ≡ text.old.items ++ left_text count) }
 {
     if count == 0 {
         return Ok(());
     }
-    push_count(alloc, text, b" left ", count as u64)
+    push_count(text, b" left ", count as u64)
 }
 
 // The numbers of the threads, each after a space.
-fn push_threads(
-    alloc: Global,
-    text: &mut Vec<u8>,
-    threads: &[(u32, ThreadState)],
-) -> Result<(), AllocError>
+fn push_threads(text: &mut Vec<u8>, threads: &[(u32, ThreadState)]) -> Result<(), AllocError>
     ensures { OnOk result (text.new.items ≡ text.old.items ++ numbers_text (threads_view threads.now)) }
 {
     for entry in threads {
         text.push(b' ')?;
-        push_number(alloc, text, entry.0 as u64)?;
+        push_number(text, entry.0 as u64)?;
     }
     Ok(())
 }

@@ -13,75 +13,70 @@ pub fn program_text(alloc: Global, workers: u32) -> Result<Vec<u8>, AllocError>
 {
     let mut text = Vec::new(alloc);
     text.extend_from_slice(b"interface Sum { Part(Int) } interface Work { Job(Int, Sum!Part) } ")?;
-    push_workers(alloc, &mut text, workers)?;
+    push_workers(&mut text, workers)?;
     text.extend_from_slice(
         b"def gather(self: Sum?, sum: Int): Unit { guard self : *Part { free -> print(sum) receive Part(x) from self -> gather(self, sum + x) } } ",
     )?;
-    push_main(alloc, &mut text, workers)?;
+    push_main(&mut text, workers)?;
     Ok(text)
 }
 
-fn push_main(alloc: Global, text: &mut Vec<u8>, workers: u32) -> Result<(), AllocError>
+fn push_main(text: &mut Vec<u8>, workers: u32) -> Result<(), AllocError>
     requires { workers < 4294967295 }
     ensures { OnOk result (text.new.items ≡ text.old.items ++ main_text workers) }
 {
     text.extend_from_slice(b"def main(): Unit { let all = new[Sum] in ")?;
-    push_groups(alloc, text, workers)?;
+    push_groups(text, workers)?;
     text.extend_from_slice(b"gather(all, 0) }\n")?;
     Ok(())
 }
 
-fn push_workers(alloc: Global, text: &mut Vec<u8>, workers: u32) -> Result<(), AllocError>
+fn push_workers(text: &mut Vec<u8>, workers: u32) -> Result<(), AllocError>
     requires { workers < 4294967295 }
     ensures { OnOk result (text.new.items ≡ text.old.items ++ each_from worker_text 1 workers) }
 {
     for number in 0..workers {
-        push_worker(alloc, text, (number + 1) as u64)?;
+        push_worker(text, (number + 1) as u64)?;
     }
     Ok(())
 }
 
-fn push_worker(alloc: Global, text: &mut Vec<u8>, number: u64) -> Result<(), AllocError>
+fn push_worker(text: &mut Vec<u8>, number: u64) -> Result<(), AllocError>
     ensures { OnOk result (text.new.items ≡ text.old.items ++ worker_text number) }
 {
-    push_numbered(alloc, text, b"def w", number)?;
+    push_numbered(text, b"def w", number)?;
     text.extend_from_slice(
         b"(self: Work?): Unit { guard self : Job { receive Job(x, to) from self -> free(self); to ! Part(x * 3 + 1) } } ",
     )?;
     Ok(())
 }
 
-fn push_groups(alloc: Global, text: &mut Vec<u8>, workers: u32) -> Result<(), AllocError>
+fn push_groups(text: &mut Vec<u8>, workers: u32) -> Result<(), AllocError>
     requires { workers < 4294967295 }
     ensures { OnOk result (text.new.items ≡ text.old.items ++ each_from group_text 1 workers) }
 {
     for number in 0..workers {
-        push_group(alloc, text, (number + 1) as u64)?;
+        push_group(text, (number + 1) as u64)?;
     }
     Ok(())
 }
 
-fn push_group(alloc: Global, text: &mut Vec<u8>, number: u64) -> Result<(), AllocError>
+fn push_group(text: &mut Vec<u8>, number: u64) -> Result<(), AllocError>
     ensures { OnOk result (text.new.items ≡ text.old.items ++ group_text number) }
 {
-    push_numbered(alloc, text, b"let b", number)?;
-    push_numbered(alloc, text, b" = new[Work] in spawn { w", number)?;
-    push_numbered(alloc, text, b"(b", number)?;
-    push_numbered(alloc, text, b") }; b", number)?;
-    push_numbered(alloc, text, b" ! Job(", number)?;
+    push_numbered(text, b"let b", number)?;
+    push_numbered(text, b" = new[Work] in spawn { w", number)?;
+    push_numbered(text, b"(b", number)?;
+    push_numbered(text, b") }; b", number)?;
+    push_numbered(text, b" ! Job(", number)?;
     text.extend_from_slice(b", all); ")?;
     Ok(())
 }
 
 // Words, and a number behind them.
-fn push_numbered(
-    alloc: Global,
-    text: &mut Vec<u8>,
-    words: &[u8],
-    number: u64,
-) -> Result<(), AllocError>
+fn push_numbered(text: &mut Vec<u8>, words: &[u8], number: u64) -> Result<(), AllocError>
     ensures { OnOk result (text.new.items ≡ text.old.items ++ numbered words.now number) }
 {
     text.extend_from_slice(words)?;
-    push_number(alloc, text, number)
+    push_number(text, number)
 }

@@ -1,6 +1,8 @@
--- for others: whom a message calls, and what is found among those that may be ready
+-- for others: who is called, what is found among those that may be ready, who is held back, and what a top lets go
 pub mod Calls
 pub mod Supersets
+pub mod Senders
+pub mod Tops
 -- the crate's own
 mod Needs
 mod Decides

@@ -20,7 +20,7 @@ use Rattle.pat_commit_laws.proofs.Ready.{ready_there, ready_passes}
 -- ---- lists of numbers
 
 -- what is found is in the list, and passes
-found_among : (f : ℕ → Bool) (xs : List ℕ) (x : ℕ) → find f xs ≡ Some x → (is_among x xs ≡ true) × (f x ≡ true)
+pub found_among : (f : ℕ → Bool) (xs : List ℕ) (x : ℕ) → find f xs ≡ Some x → (is_among x xs ≡ true) × (f x ≡ true)
 found_among f [] x h = cc
 found_among f (y ∷ ys) x h =
     (elim (f y) as (λ b. f y ≡ b → cond b (Some y) (find f ys) ≡ Some x → ((nat_eq x y || is_among x ys) ≡ true) × (f x ≡ true)) [
@@ -29,7 +29,7 @@ found_among f (y ∷ ys) x h =
     ]) refl h
 
 -- where nothing is found, nothing in the list passes
-none_among : (f : ℕ → Bool) (xs : List ℕ) (x : ℕ) → find f xs ≡ None → is_among x xs ≡ true → f x ≡ true → ⊥
+pub none_among : (f : ℕ → Bool) (xs : List ℕ) (x : ℕ) → find f xs ≡ None → is_among x xs ≡ true → f x ≡ true → ⊥
 none_among f [] x h at pass = cc
 none_among f (y ∷ ys) x h at pass =
     (elim (f y) as (λ b. f y ≡ b → cond b (Some y) (find f ys) ≡ None → ⊥) [
@@ -51,7 +51,7 @@ among_above n x (y ∷ ys) a h =
     (or_cases (nat_eq x y) (is_among x ys) h)
 
 -- what is found in an ascending list is the least of it that passes
-least_among : (f : ℕ → Bool) (n : ℕ) (xs : List ℕ) (e x : ℕ) → AscendsFrom n xs → find f xs ≡ Some e → is_among x xs ≡ true → f x ≡ true → e ≤ x
+pub least_among : (f : ℕ → Bool) (n : ℕ) (xs : List ℕ) (e x : ℕ) → AscendsFrom n xs → find f xs ≡ Some e → is_among x xs ≡ true → f x ≡ true → e ≤ x
 least_among f n [] e x a h at pass = cc
 least_among f n (y ∷ ys) e x a h at pass =
     (elim (f y) as (λ b. f y ≡ b → cond b (Some y) (find f ys) ≡ Some e → e ≤ x) [
@@ -69,7 +69,7 @@ least_among f n (y ∷ ys) e x a h at pass =
     ]) refl h
 
 -- of the first list, what passes is in the second
-abbrev Within : (ℕ → Bool) → List ℕ → List ℕ → Type 0
+abbrev pub Within : (ℕ → Bool) → List ℕ → List ℕ → Type 0
 Within f xs ys = (x : ℕ) → is_among x xs ≡ true → f x ≡ true → is_among x ys ≡ true
 
 -- ascending lists with the same numbers that pass
@@ -113,12 +113,12 @@ any_same f xs ys there back = go (list_any f xs) refl
 
 -- ---- numbers of threads
 
-key_among : (ts : List (ℕ × Thread)) (t : ℕ) (s : Thread) → lookup (nat_eq t) ts ≡ Some s → is_among t (keys_of ts) ≡ true
+pub key_among : (ts : List (ℕ × Thread)) (t : ℕ) (s : Thread) → lookup (nat_eq t) ts ≡ Some s → is_among t (keys_of ts) ≡ true
 key_among [] t s h = cc
 key_among (e ∷ es) t s h =
     (elim (nat_eq t e.0) as (λ b. cond b (Some e.1) (lookup (nat_eq t) es) ≡ Some s → (b || is_among t (keys_of es)) ≡ true) [ true ↦ λ k. refl | false ↦ λ k. key_among es t s k ]) h
 
-find_key : (f : ℕ → Bool) (ts : List (ℕ × Thread)) → option_map (λ e. e.0) (find (λ e. f e.0) ts) ≡ find f (keys_of ts)
+pub find_key : (f : ℕ → Bool) (ts : List (ℕ × Thread)) → option_map (λ e. e.0) (find (λ e. f e.0) ts) ≡ find f (keys_of ts)
 find_key f [] = refl
 find_key f (e ∷ es) =
     elim (f e.0) as (λ b. option_map (λ d. d.0) (cond b (Some e) (find (λ d. f d.0) es)) ≡ cond b (Some e.0) (find f (keys_of es))) [ true ↦ refl | false ↦ find_key f es ]
@@ -155,7 +155,7 @@ found_in_list p c limit out last ts order ascends covers =
     key_among c.threads t s.0 s.1)
 
 -- a thread with an open step is there
-open_there : (p : Program) (c : Config) (limit t : ℕ) → can_go_on p c limit t ≡ true → (s : Thread) × (thread_at c t ≡ Some s)
+pub open_there : (p : Program) (c : Config) (limit t : ℕ) → can_go_on p c limit t ≡ true → (s : Thread) × (thread_at c t ≡ Some s)
 open_there p c limit t h =
     let e = (open_exact p c limit t).0 h in
     let o = step_of p c (record { thread = t; act = e.0 }) e.1.0.0 e.1.0.1 in

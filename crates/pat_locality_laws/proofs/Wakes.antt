@@ -21,13 +21,13 @@ use Rattle.pat_locality_laws.proofs.Decides.{needs_of}
 use Rattle.pat_locality_laws.proofs.Afters.{After, after}
 
 -- what a mailbox that may be freed is: live, without messages, and named by no other thread and by no message
-record Freeable (c : Config) (a u : ℕ) : Type 0 where
-  live : is_among a c.live ≡ true
-  empty : has_pending a c.messages ≡ false
-  threads : other_refers a u c.threads ≡ false
-  messages : list_any (message_refers a) c.messages ≡ false
+pub record Freeable (c : Config) (a u : ℕ) : Type 0 where
+  pub live : is_among a c.live ≡ true
+  pub empty : has_pending a c.messages ≡ false
+  pub threads : other_refers a u c.threads ≡ false
+  pub messages : list_any (message_refers a) c.messages ≡ false
 
-freeable : (c : Config) (a u : ℕ) → may_free c a u ≡ true → Freeable c a u
+pub freeable : (c : Config) (a u : ℕ) → may_free c a u ≡ true → Freeable c a u
 freeable c a u h =
     let l = and_parts (is_among a c.live) (not (has_pending a c.messages) && is_reached_by_none_but c a u) h in
     let e = and_parts (not (has_pending a c.messages)) (is_reached_by_none_but c a u) l.1 in
@@ -39,7 +39,7 @@ freeable c a u h =
       messages = not-true (list_any (message_refers a) c.messages) r.1;
     }
 
-may_be_freed : (c : Config) (a u : ℕ) → Freeable c a u → may_free c a u ≡ true
+pub may_be_freed : (c : Config) (a u : ℕ) → Freeable c a u → may_free c a u ≡ true
 may_be_freed c a u f =
     and_from (is_among a c.live) (not (has_pending a c.messages) && is_reached_by_none_but c a u) f.live
     (and_from (not (has_pending a c.messages)) (is_reached_by_none_but c a u) (ap not f.empty)
@@ -52,16 +52,16 @@ named_there d a t u (Some s) other is h = passes_there (thread_refers a) d.threa
 
 module _ (p : Program) (c d : Config) (t u : ℕ) (r s : Thread) (act : Option Act) (other : t ≡ u → ⊥) (left : After p c t r s act d) where
   -- whether thread t had the name of the mailbox, or got it
-  abbrev had : ℕ → Bool
+  abbrev pub had : ℕ → Bool
   had a = thread_refers a r || (thread_refers a s || brings c act a)
 
   -- where thread u may free the mailbox, thread t doesn't refer to it
-  unnamed : (a : ℕ) → Freeable d a u → is_named_by a (thread_at d t) ≡ false
+  pub unnamed : (a : ℕ) → Freeable d a u → is_named_by a (thread_at d t) ≡ false
   unnamed a f =
       false_from_ne_true (is_named_by a (thread_at d t)) (λ on. clash (named_there d a t u (thread_at d t) other refl on) f.threads)
 
   -- and where it had no name of it either, thread u might free it before
-  freed_before : (a : ℕ) → Freeable d a u → had a ≡ false → Freeable c a u
+  pub freed_before : (a : ℕ) → Freeable d a u → had a ≡ false → Freeable c a u
   freed_before a f off = record {
     live = ⊎_elim (λ l. l) (λ on. absurd (clash on (unnamed a f))) (left.live a f.live);
     empty = false_from_ne_true (has_pending a c.messages) (λ on. ⊎_elim (λ l. clash l f.empty) (λ w. clash (by_middle a w) off) (left.messages.pending a on));

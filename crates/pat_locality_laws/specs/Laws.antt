@@ -1,16 +1,18 @@
 -- Laws of what a thread's next step looks at, of the threads that a step of another wakes, and of turns among some of the threads.
-use Rattle.std.specs.Prelude.{◌≡◌, ℕ, Bool, ◌&&◌, List, Option, Some, option_map, find, IsTrue, IsFalse, ◌⊎◌}
+use Rattle.std.specs.Prelude.{◌≡◌, ℕ, Bool, ◌&&◌, ◌||◌, if◌then◌else◌, List, Option, Some, None, option_map, find, IsTrue, IsFalse, ◌⊎◌}
 use Rattle.std.specs.List.{list_any}
 use Rattle.pat_model.specs.Programs.{Program, is_among}
 use Rattle.pat_model.specs.Configs.{Thread, Config, thread_at, with_thread, thread_refers}
 use Rattle.pat_model.specs.Orders.{AscendsFrom, IsOrdered}
 use Rattle.pat_model.specs.Steps.{Act, ActSpawn}
-use Rattle.pat_model.specs.Runs.{run_from, shared_step, can_step_thread}
+use Rattle.pat_model.specs.Runs.{IsSharedOrNone, run_from, shared_step, can_step_thread}
 use Rattle.pat_commits.specs.Opens.{has_space, can_go_on}
 use Rattle.pat_commits.specs.Commits.{locally}
+use Rattle.pat_commits.specs.Tops.{top_of, below, over}
 use Rattle.pat_commits.specs.Lendings.{Out}
 use Rattle.pat_commits.specs.Turns.{is_above, is_ready, ready_above}
-use Rattle.pat_locality_laws.specs.Wakings.{guarded, awaited, OffersNoMore, IsWoken, GotSpace, SendsTo}
+use Rattle.pat_locality_laws.specs.Senders.{IsAboutToSend, AreCandidates, lesser}
+use Rattle.pat_locality_laws.specs.Wakings.{guarded, OffersNoMore, is_named_by, IsWoken, GotSpace, SendsTo, LetsGo}
 
 -- a thread that stands alike in two configurations can step in the first wherever it can in the second, where the second offers its guard no more
 abbrev pub GuardDecides : Type 0
@@ -65,14 +67,47 @@ EnabledInList =
     (p : Program) (c : Config) (ts : List ℕ) → ((t : ℕ) → IsTrue (can_step_thread p c t) → IsTrue (is_among t ts))
     → list_any (λ e. can_step_thread p c e.0) c.threads ≡ list_any (can_step_thread p c) ts
 
+-- a thread that is about to send has no open step where there is no space
+abbrev pub SendersAreHeldBack : Type 0
+SendersAreHeldBack =
+    (p : Program) (c : Config) (limit u : ℕ) → IsAboutToSend p c u → IsFalse (has_space c limit) → IsFalse (can_go_on p c limit u)
+
+-- so where two ascending lists have the threads that can step, and the second those about to send, the second is looked at only where there is space:
+-- for the first ready thread above another one
+abbrev pub FoundInBoth : Type 0
+FoundInBoth =
+    (p : Program) (c : Config) (limit : ℕ) (out : Out) (last : Option ℕ) (ts us : List ℕ) → IsOrdered c → AscendsFrom 0 ts → AscendsFrom 0 us → AreCandidates p c ts us
+    → ready_above p c limit out last
+    ≡ lesser (find (λ t. is_above last t && is_ready p c limit out t) ts) (if has_space c limit then find (λ t. is_above last t && is_ready p c limit out t) us else None)
+
+-- and for whether a thread has an open step
+abbrev pub OpenInBoth : Type 0
+OpenInBoth =
+    (p : Program) (c : Config) (limit : ℕ) (ts us : List ℕ) → AreCandidates p c ts us
+    → list_any (λ e. can_go_on p c limit e.0) c.threads ≡ (list_any (can_go_on p c limit) ts || (has_space c limit && list_any (can_go_on p c limit) us))
+
+-- a thread has an enabled step where one of either list has
+abbrev pub EnabledInBoth : Type 0
+EnabledInBoth =
+    (p : Program) (c : Config) (ts us : List ℕ) → AreCandidates p c ts us
+    → list_any (λ e. can_step_thread p c e.0) c.threads ≡ (list_any (can_step_thread p c) ts || list_any (can_step_thread p c) us)
+
 -- another thread than t is what it was, or was spawned
 abbrev pub OthersStay : Type 0
 OthersStay =
     (p : Program) (c d : Config) (t u : ℕ) (r s q : Thread) (act : Option Act) → IsOrdered c → thread_at c t ≡ Some r → run_from p (with_thread c t s) (shared_step t act) ≡ Some d → (t ≡ u → ⊥)
     → thread_at d u ≡ Some q → (thread_at c u ≡ Some q) ⊎ ((act ≡ Some ActSpawn) × (u ≡ c.next_thread))
 
--- and one that waited for nothing but a message can't step, or the message was sent
-abbrev pub MessagesCall : Type 0
-MessagesCall =
-    (p : Program) (c d : Config) (t u : ℕ) (r s q : Thread) (act : Option Act) (a : ℕ) → IsOrdered c → thread_at c t ≡ Some r → run_from p (with_thread c t s) (shared_step t act) ≡ Some d → (t ≡ u → ⊥)
-    → thread_at c u ≡ Some q → thread_at d u ≡ Some q → awaited p q ≡ Some a → IsFalse (can_step_thread p c u) → IsFalse (can_step_thread p d u) ⊎ SendsTo c act d a
+-- and one that waited at a mailbox can't step, or it may receive a message that was sent there, or it may free the mailbox, whose name thread t let go
+abbrev pub SleepersAreCalled : Type 0
+SleepersAreCalled =
+    (p : Program) (c d : Config) (t u k : ℕ) (r s q : Thread) (act : Option Act) (a : ℕ) → IsOrdered c → thread_at c t ≡ Some r → locally p k r ≡ Some s
+    → run_from p (with_thread c t s) (shared_step t act) ≡ Some d → (t ≡ u → ⊥) → thread_at c u ≡ Some q → thread_at d u ≡ Some q → guarded p q ≡ Some a → IsFalse (can_step_thread p c u)
+    → IsFalse (can_step_thread p d u) ⊎ SendsTo p c act d u a ⊎ LetsGo p c t r act d u a
+
+-- where the top of a thread was exchanged before its shared act, a name that it let go was in that top
+abbrev pub TopLetsGo : Type 0
+TopLetsGo =
+    (p : Program) (c d : Config) (t n : ℕ) (kept end : Thread) (act : Option Act) (a : ℕ) → thread_at c t ≡ Some kept → IsSharedOrNone act
+    → run_from p (with_thread c t (over end (below n kept))) (shared_step t act) ≡ Some d
+    → IsTrue (thread_refers a kept) → IsFalse (is_named_by a (thread_at d t)) → IsTrue (thread_refers a (top_of n kept))

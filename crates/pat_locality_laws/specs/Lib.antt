@@ -1,2 +1,3 @@
 pub mod Wakings
+pub mod Senders
 pub mod Laws

@@ -1,10 +1,11 @@
 -- What a thread's next step looks at beside the thread itself, and which other threads a step may wake.
-use Rattle.std.specs.Prelude.{◌≡◌, ℕ, ◌+◌, Bool, false, ◌&&◌, ◌||◌, not, [], ◌∷◌, ◌++◌, Option, Some, None, IsTrue, IsFalse}
+use Rattle.std.specs.Prelude.{◌≡◌, ℕ, ◌+◌, Bool, false, ◌&&◌, ◌||◌, not, [], ◌∷◌, ◌++◌, Option, Some, None, IsTrue, IsFalse, ◌⊎◌}
 use Rattle.pat_model.specs.Values.{Value, Mailbox, value_at}
 use Rattle.pat_model.specs.Programs.{Program, Guard, Send, is_among}
 use Rattle.pat_model.specs.Configs.{Thread, Message, Config, thread_at, thread_refers, message_refers, has_pending, is_reached_by_none_but}
-use Rattle.pat_model.specs.Steps.{Redex, At, redex, Act, ActSend, ActSpawn, ActReceive, message_at}
+use Rattle.pat_model.specs.Steps.{Redex, At, redex, Act, ActSend, ActSpawn, ActFree, ActReceive, message_at}
 use Rattle.pat_model.specs.Runs.{can_step_thread}
+use Rattle.pat_model_laws.specs.Laws.{IsEnabled}
 use Rattle.pat_commits.specs.Opens.{has_space, can_send}
 
 -- the mailbox that the value is, if it is one
@@ -73,26 +74,24 @@ pub record GotSpace (p : Program) (limit : ℕ) (c : Config) (act : Option Act) 
   pub some : IsTrue (has_space d limit)
   pub sends : IsTrue (can_send p c u)
 
--- the mailbox of the guard that stands there, where it has no clause for freeing it
-abbrev pub awaited_at : Redex → Option ℕ
-awaited_at (At (Guard x e None cs) env) = mailbox_in (value_at env x)
-awaited_at _ = None
-
--- the mailbox that the thread waits at for nothing but a message
-abbrev pub awaited : Program → Thread → Option ℕ
-awaited p s = awaited_at (redex p s.control)
-
--- thread u waits at mailbox a for nothing but a message, and has no enabled step
+-- thread u waits at the guard of mailbox a, and has no enabled step
 pub record IsWaiting (p : Program) (c : Config) (u a : ℕ) : Type 0 where
   pub thread : Thread
   pub there : thread_at c u ≡ Some thread
-  pub awaits : awaited p thread ≡ Some a
+  pub awaits : guarded p thread ≡ Some a
   pub still : IsFalse (can_step_thread p c u)
 
--- the act sent a message to mailbox a
-pub record SendsTo (c : Config) (act : Option Act) (d : Config) (a : ℕ) : Type 0 where
+-- the act sent a message to mailbox a, and thread u may receive that now
+pub record SendsTo (p : Program) (c : Config) (act : Option Act) (d : Config) (u a : ℕ) : Type 0 where
   pub sent : act ≡ Some ActSend
   pub message : Message
   pub last : d.messages ≡ c.messages ++ message ∷ []
   pub next : message.number + 1 ≡ d.next_message
   pub mailbox : message.mailbox ≡ a
+  pub receives : IsEnabled p d (record { thread = u; act = ActReceive message.number })
+
+-- thread t, which was r, let go the name of mailbox a, which it had or the act's message brought; and thread u may free that now
+pub record LetsGo (p : Program) (c : Config) (t : ℕ) (r : Thread) (act : Option Act) (d : Config) (u a : ℕ) : Type 0 where
+  pub had : IsTrue (thread_refers a r) ⊎ IsTrue (brings c act a)
+  pub gone : IsFalse (is_named_by a (thread_at d t))
+  pub free : IsEnabled p d (record { thread = u; act = ActFree })

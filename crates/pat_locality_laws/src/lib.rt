@@ -1,7 +1,7 @@
 //! Laws of what a thread's next step looks at, and of the threads that a step wakes. No code of the product.
 #![tactic(auto)]
 
-ghost use Rattle.pat_locality_laws.specs.Laws.{GuardDecides, SpaceDecides, OthersWake, OthersOpen, LocalsNameNoMore, FoundAmongThose, FoundInList, OpenInList, EnabledInList, OthersStay, MessagesCall};
+ghost use Rattle.pat_locality_laws.specs.Laws.{GuardDecides, SpaceDecides, OthersWake, OthersOpen, LocalsNameNoMore, FoundAmongThose, FoundInList, OpenInList, EnabledInList, SendersAreHeldBack, FoundInBoth, OpenInBoth, EnabledInBoth, OthersStay, SleepersAreCalled, TopLetsGo};
 
 /// What a thread can do next follows from its own state, from what is pending in its guard's mailbox and who names that one, and from the space left.
 pub fn need_laws()
@@ -24,8 +24,17 @@ pub fn superset_laws()
     ensures enabled { EnabledInList }
 {}
 
-/// After steps of one thread the others stand as they did, and of those that wait for nothing but a message only the one can step whose message was sent.
-pub fn message_laws()
+/// Where those that are about to send stand in a list of their own, that is looked at only where there is space.
+pub fn sender_laws()
+    ensures held { SendersAreHeldBack }
+    ensures found { FoundInBoth }
+    ensures opens { OpenInBoth }
+    ensures enabled { EnabledInBoth }
+{}
+
+/// After steps of one thread the others stand as they did, and of those that wait at a mailbox only the one can step whose message was sent, or whose mailbox's name was let go.
+pub fn sleeper_laws()
     ensures stay { OthersStay }
-    ensures call { MessagesCall }
+    ensures call { SleepersAreCalled }
+    ensures top { TopLetsGo }
 {}

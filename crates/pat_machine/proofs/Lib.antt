@@ -1,5 +1,5 @@
 mod Lending
 mod Ending
 mod Finishing
+mod Naming
 mod Rounds
-mod Stepping

@@ -5,6 +5,7 @@ use Rattle.pat_reduce.specs.Views.{entry_view}
 use Rattle.pat_commits.specs.Lendings.{allowances}
 use Rattle.pat_commits.specs.Machines.{MachineInvariant}
 use Rattle.pat_machine_waits.specs.Noted.{AreNoted}
+use Rattle.pat_naming_laws.specs.Counting.{AreCounted}
 use Rattle.pat_machine.specs.declared.parts.Parts.{Parts}
 use Rattle.pat_machine.specs.Shown.{Shown}
 
@@ -22,4 +23,5 @@ shown m = record {
 pub record IsKept (m : Parts) : Type 0 where
   pub stands : MachineInvariant (program_view m.code.program) m.budget m.limit m.state (map entry_view m.history.items) m.left m.out.items
   pub lent : m.lent ≡ allowances m.out.items
-  pub noted : AreNoted (program_view m.code.program) m.state m.waits.awake.items m.waits.sleepers.items
+  pub counted : AreCounted m.names.times.items m.state
+  pub noted : AreNoted (program_view m.code.program) m.state m.waits.awake.numbers.items m.waits.senders.numbers.items m.waits.sleepers.items

@@ -1,23 +1,24 @@
 // Commits.
-ghost use Rattle.std.specs.Prelude.{◌≡◌, ℕ, ◌<◌, Some, None, option_map, IfOk, OnErr, IfErr};
+ghost use Rattle.std.specs.Prelude.{◌≡◌, ℕ, ◌<◌, Some, None, IfOk, OnErr, IfErr, IsTrue};
+ghost use Rattle.pat_model.specs.Programs.{is_among};
 ghost use Rattle.pat_model.specs.Configs.{Thread as ThreadOf, thread_at};
 ghost use Rattle.pat_core.specs.Views.{program_view};
 ghost use Rattle.pat_reduce_threads.specs.ThreadViews.{thread_view};
-ghost use Rattle.pat_reduce.specs.Views.{act_view};
 ghost use Rattle.pat_commits.specs.Commits.{IsLocalRun};
-ghost use Rattle.pat_commits.specs.Machines.{HasRoom, IsTypedBySome};
+ghost use Rattle.pat_commits.specs.Tops.{top_of};
+ghost use Rattle.pat_naming_laws.specs.Naming.{times_in_thread};
+ghost use Rattle.pat_machine_shares.specs.Settling.{IsSettled};
 ghost use Rattle.pat_machine.specs.Parted.{shown, IsKept};
 ghost use Rattle.pat_machine.specs.Gives.{IsLent, Committed, CommitGives};
-ghost use Rattle.pat_machine.specs.Settling.{IsSettled, half_way, Finishes};
 
 use crate::entry::{note, steps_of, take_back};
 use crate::job::{CommitRefused, Job, Receipt};
+use crate::noting::{act_of, note_threads};
 use crate::parts::Parts;
-use crate::waiting::{Stepped, follow};
-use pat_executable::Executable;
-use pat_machine_states::State;
+use pat_machine_names::list_top;
+use pat_machine_shares::share;
 use pat_machine_threads::{LocalRun, Settled, is_top, settle_top};
-use pat_reduce::{Act, Entry};
+use pat_reduce::Entry;
 use pat_sequences::let_go;
 use std::alloc::{AllocError, Global};
 
@@ -47,7 +48,7 @@ impl Parts {
         requires kept { IsKept self.now }
         requires lent { IsLent (shown self.now) job }
         requires run { IsLocalRun (program_view self.now.code.program) job.allowance (thread_view run.start) run.steps (thread_view run.end) }
-        ensures { IfOk result (IsSettled (program_view self.now.code.program) self.now.state job) }
+        ensures { IfOk result (IsSettled (program_view self.now.code.program) self.now.state job.thread job.allowance) }
     {
         match self.state.thread(job.thread) {
             Some(kept) => {
@@ -67,7 +68,7 @@ impl Parts {
     pub fn run_inside(&self, job: Job) -> Result<Settled, AllocError>
         requires kept { IsKept self.now }
         requires lent { IsLent (shown self.now) job }
-        ensures { IfOk result (IsSettled (program_view self.now.code.program) self.now.state job) }
+        ensures { IfOk result (IsSettled (program_view self.now.code.program) self.now.state job.thread job.allowance) }
     {
         match self.state.thread(job.thread) {
             Some(kept) => settle_top(self.alloc, &self.code, kept, job.allowance),
@@ -80,7 +81,7 @@ impl Parts {
     pub fn finish(&mut self, worker: u32, job: Job, settled: Settled) -> Result<Receipt, AllocError>
         requires kept { IsKept self.old }
         requires lent { IsLent (shown self.old) job }
-        requires settled { IsSettled (program_view self.old.code.program) self.old.state job settled }
+        requires settled { IsSettled (program_view self.old.code.program) self.old.state job.thread job.allowance settled }
         ensures kept { IsKept self.new }
         ensures ok { IfOk result (λ r. Committed (shown self.old) worker job r (shown self.new)) }
         ensures err { OnErr result (shown self.new ≡ shown self.old) }
@@ -88,22 +89,31 @@ impl Parts {
         self.history.reserve(1)?;
         self.out.reserve(1)?;
         self.waits.reserve()?;
+        self.names.reserve()?;
+        let named = self.named(job.thread, settled.gone)?;
         let newcomer = self.state.threads_made();
         let steps = settled.steps;
-        let shared = share(
+        let taken = share(
             self.alloc,
             &self.code,
             &mut self.state,
+            &mut self.names,
             self.limit,
-            job,
+            job.thread,
+            job.allowance,
             settled,
         )?;
-        let stepped = Stepped {
-            thread: job.thread,
-            shared,
+        note_threads(
+            &mut self.waits,
+            &self.code,
+            &self.state,
+            &self.names,
+            job.thread,
             newcomer,
-        };
-        follow(&mut self.waits, &self.code, &self.state, stepped);
+            named.as_slice(),
+            &taken,
+        );
+        let shared = act_of(&taken);
         let entry = Entry {
             worker,
             thread: job.thread,
@@ -116,6 +126,18 @@ impl Parts {
         let index = note(&mut self.history, entry);
         Ok(Receipt { index, entry })
     }
+
+    // The mailboxes that the top of a thread names.
+    fn named(&self, thread: u32, frames: u32) -> Result<Vec<u32>, AllocError>
+        ensures { IfOk result (λ ns. (s : ThreadOf) (a : ℕ) → thread_at self.now.state thread ≡ Some s → 0 < times_in_thread a (top_of frames s) → IsTrue (is_among a ns.items)) }
+    {
+        let mut named = Vec::new(self.alloc);
+        match self.state.thread(thread) {
+            Some(kept) => list_top(kept, frames, &mut named)?,
+            None => {}
+        }
+        Ok(named)
+    }
 }
 
 fn ended(run: LocalRun, gone: u32) -> Settled
@@ -124,27 +146,4 @@ fn ended(run: LocalRun, gone: u32) -> Settled
     let LocalRun { start, end, steps } = run;
     let_go(start);
     Settled { end, gone, steps }
-}
-
-// Puts what the local steps made of the top in its place, and takes the open shared step, if they didn't use up the allowance.
-fn share(
-    alloc: Global,
-    code: &Executable,
-    state: &mut State,
-    limit: u32,
-    job: Job,
-    settled: Settled,
-) -> Result<Option<Act>, AllocError>
-    requires room { HasRoom state.old }
-    requires settled { IsSettled (program_view code.now.program) state.old job settled }
-    requires typed { (s : ThreadOf) → thread_at state.old job.thread ≡ Some s → IsTypedBySome (program_view code.now.program) (half_way state.old job s settled) }
-    ensures ok { IfOk result (λ a. (s : ThreadOf) → thread_at state.old job.thread ≡ Some s → Finishes (program_view code.now.program) job.allowance limit (half_way state.old job s settled) job.thread settled.steps (option_map act_view a) state.new) }
-    ensures err { OnErr result (state.new ≡ state.old) }
-{
-    let Settled { end, gone, steps } = settled;
-    if steps < job.allowance {
-        return state.share(alloc, code, limit, job.thread, gone, end);
-    }
-    state.put(alloc, job.thread, gone, end)?;
-    Ok(None)
 }

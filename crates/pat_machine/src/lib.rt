@@ -6,10 +6,10 @@ mod driving;
 mod entry;
 mod job;
 mod machine;
+mod noting;
 mod outcome;
 mod parts;
 mod taking;
-mod waiting;
 
 pub use job::{CommitRefused, Job, Named, Outcome, Receipt, StateRefused, TakeRefused};
 pub use machine::Machine;

@@ -18,8 +18,12 @@ impl Parts {
         if self.lent > 0 {
             return None;
         }
-        let candidates = self.waits.awake.as_slice();
-        match self.state.prospect(&self.code, self.limit, candidates) {
+        let others = self.waits.awake.numbers.as_slice();
+        let senders = self.waits.senders.numbers.as_slice();
+        match self
+            .state
+            .prospect(&self.code, &self.names, self.limit, others, senders)
+        {
             Prospect::Over => Some(Outcome::Done),
             Prospect::Stuck => Some(Outcome::Waiting),
             Prospect::Full => Some(Outcome::Full),

@@ -9,6 +9,7 @@ ghost use Rattle.pat_machine.specs.Shown.{IsNew};
 
 use pat_core::Program;
 use pat_executable::Executable;
+use pat_machine_names::Names;
 use pat_machine_states::State;
 use pat_machine_waits::Waits;
 use pat_reduce::Entry;
@@ -20,7 +21,9 @@ pub struct Parts {
     pub alloc: Global,
     pub code: Executable,
     pub state: State,
-    /// The threads that may go on, and those that sleep.
+    /// How often each mailbox is named.
+    pub names: Names,
+    /// The threads that may go on, those that are about to send, and those that sleep.
     pub waits: Waits,
     pub history: Vec<Entry>,
     pub budget: u64,
@@ -57,6 +60,7 @@ impl Parts {
             alloc,
             code,
             state,
+            names: Names::new(alloc),
             waits,
             history: Vec::new(alloc),
             budget: steps,

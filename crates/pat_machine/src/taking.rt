@@ -1,9 +1,10 @@
 // Jobs that are taken and given back.
-ghost use Rattle.std.specs.Prelude.{◌≡◌, ℕ, ◌<◌, length, Some, None, ◌↔◌, IsTrue};
+ghost use Rattle.std.specs.Prelude.{◌≡◌, ℕ, ◌<◌, length, find, Some, None, ◌↔◌, IsTrue};
 ghost use Rattle.pat_model.specs.Configs.{Thread as ThreadOf, thread_at};
 ghost use Rattle.pat_commits.specs.Lendings.{all_in, allowance_of};
 ghost use Rattle.pat_core.specs.Views.{program_view};
-ghost use Rattle.pat_commits.specs.Turns.{ready_above, turn};
+ghost use Rattle.pat_commits.specs.Turns.{is_ready, ready_above, turn};
+ghost use Rattle.pat_locality_laws.specs.Senders.{lesser};
 ghost use Rattle.pat_machine.specs.Parted.{shown, IsKept};
 ghost use Rattle.pat_machine.specs.Gives.{IsLent, MayTake, Lends, TakeGives, TakeThreadGives, StateGives, GivesBack, all_back};
 
@@ -49,14 +50,31 @@ impl Parts {
         }
     }
 
-    // The first ready thread above this one, or of all.
+    // The first ready thread above this one, or of all. Those that are about to send aren't looked at where there is no space.
     fn ready_above(&self, last: Option<u32>) -> Option<u32>
         requires { IsKept self.now }
         ensures { result ≡ ready_above (program_view self.now.code.program) self.now.state self.now.limit self.now.out.items last }
     {
-        let threads = self.waits.above(last);
-        self.state
-            .first_ready(&self.code, self.limit, self.out.as_slice(), threads)
+        let other = self.first_ready(self.waits.awake.above(last));
+        if self.state.has_space(self.limit) {
+            lesser(other, self.first_ready(self.waits.senders.above(last)))
+        } else {
+            other
+        }
+    }
+
+    // The first ready one of these threads.
+    fn first_ready(&self, threads: &[u32]) -> Option<u32>
+        requires { IsKept self.now }
+        ensures { result ≡ find (is_ready (program_view self.now.code.program) self.now.state self.now.limit self.now.out.items) threads.now }
+    {
+        self.state.first_ready(
+            &self.code,
+            &self.names,
+            self.limit,
+            self.out.as_slice(),
+            threads,
+        )
     }
 
     /// The job of a thread.
@@ -65,10 +83,13 @@ impl Parts {
         ensures kept { IsKept self.new }
         ensures taken { TakeThreadGives (shown self.old) thread result (shown self.new) }
     {
-        if !self
-            .state
-            .is_ready(&self.code, self.limit, self.out.as_slice(), thread)
-        {
+        if !self.state.is_ready(
+            &self.code,
+            &self.names,
+            self.limit,
+            self.out.as_slice(),
+            thread,
+        ) {
             return Err(TakeRefused::NotReady);
         }
         if self.left == 0 {
@@ -151,6 +172,19 @@ impl Parts {
         clear(&mut self.out);
         self.left += self.lent;
         self.lent = 0;
+    }
+}
+
+// The lesser of two numbers, where both are there.
+fn lesser(first: Option<u32>, second: Option<u32>) -> Option<u32>
+    ensures { result ≡ lesser first second }
+{
+    match first {
+        Some(a) => match second {
+            Some(b) => Some(a.min(b)),
+            None => Some(a),
+        },
+        None => second,
     }
 }
 

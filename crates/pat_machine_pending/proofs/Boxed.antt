@@ -1,15 +1,11 @@
 -- Mailboxes as code keeps them, and as the laws of pending messages see them.
-use Rattle.std.proofs.Common.{◌≡◌, ℕ, zero, suc, ◌+◌, ◌<◌, Bool, true, false, not, ◌||◌, nat_eq, List, [], ◌∷◌, ◌++◌, map, length, remove, take, Option, Some, None, slice_get, slice_set, refl, sym, ap, ◌∙◌, subst, arith}
-use Rattle.std.specs.Prelude.{option_map, is_some, filter}
-use Rattle.std.specs.List.{AllByRecursion, list_any}
+use Rattle.std.proofs.Common.{◌≡◌, ℕ, zero, suc, ◌<◌, true, false, List, [], ◌∷◌, ◌++◌, map, length, remove, Option, Some, None, slice_get, slice_set, refl, ap, arith}
+use Rattle.std.specs.Prelude.{is_some}
+use Rattle.std.specs.List.{AllByRecursion}
 use Rattle.std.proofs.lemmas.List.{map-append, length-map}
-use Rattle.pat_model.specs.Configs.{Message, message_refers, has_pending}
-use Rattle.pat_reduce_threads.specs.declared.state.Message.{Message as CodeMessage}
 use Rattle.pat_reduce_threads.specs.ThreadViews.{message_view}
-use Rattle.pat_pending_laws.specs.Pending.{messages_of, all_of, in_order, count_of, box_at, listed, pending_at}
-use Rattle.pat_pending_laws.proofs.Kept.{any_kept, any_joined}
-use Rattle.pat_pending_laws.proofs.Insertions.{filter_in_order, in_order_length}
-use Rattle.pat_mailboxes.specs.Mailboxes.{Mailbox, IsLive, mailbox_at, pending_in, all_pending, refers_to, some_pending, pending_at as pending_of}
+use Rattle.pat_pending_laws.specs.Pending.{count_of, box_at, pending_at}
+use Rattle.pat_mailboxes.specs.Mailboxes.{Mailbox, IsLive, mailbox_at, pending_in, all_pending, pending_at as pending_of}
 use Rattle.pat_machine_pending.specs.Boxes.{box_view, boxes_view}
 
 pub pending_view : (ms : List (Option Mailbox)) (b : ℕ) → pending_at (boxes_view ms) b ≡ map message_view (pending_of ms b)
@@ -62,29 +58,6 @@ pub count_view : (ms : List (Option Mailbox)) → count_of (boxes_view ms) ≡ a
 count_view [] = refl
 count_view (None ∷ ms) = let rest = count_view ms in omega arith
 count_view (Some m ∷ ms) = let own = length-map m.pending message_view in let rest = count_view ms in omega arith
-
-any_map : {A B : Type 0} (g : A → B) (f : B → Bool) (xs : List A) → list_any f (map g xs) ≡ list_any (λ x. f (g x)) xs
-any_map g f [] = refl
-any_map g f (x ∷ xs) = ap (λ b. f (g x) || b) (any_map g f xs)
-
-any_in_order : (f : Message → Bool) (ms : List Message) → list_any f (in_order ms) ≡ list_any f ms
-any_in_order f ms =
-    any_kept f (in_order ms)
-    ∙ ap (λ l. not (nat_eq (length l) 0)) (filter_in_order f ms)
-    ∙ ap (λ n. not (nat_eq n 0)) (in_order_length (filter f ms))
-    ∙ sym (any_kept f ms)
-
-any_all : (a : ℕ) (ms : List (Option Mailbox)) → list_any (message_refers a) (all_of (boxes_view ms)) ≡ some_pending (refers_to a) ms
-any_all a [] = refl
-any_all a (None ∷ ms) = any_all a ms
-any_all a (Some m ∷ ms) =
-    any_joined (message_refers a) (map message_view m.pending) (all_of (boxes_view ms))
-    ∙ ap (λ b. b || list_any (message_refers a) (all_of (boxes_view ms))) (any_map message_view (message_refers a) m.pending)
-    ∙ ap (λ b. list_any (refers_to a) m.pending || b) (any_all a ms)
-
--- whether a message refers to a mailbox
-pub refers_view : (a : ℕ) (ms : List (Option Mailbox)) → some_pending (refers_to a) ms ≡ list_any (message_refers a) (messages_of (boxes_view ms))
-refers_view a ms = sym (any_in_order (message_refers a) (all_of (boxes_view ms)) ∙ any_all a ms)
 
 pub all_unmap : {A B : Type 0} (f : A → B) (P : B → Type 0) (xs : List A) → AllByRecursion P (map f xs) → AllByRecursion (λ x. P (f x)) xs
 all_unmap f P [] h = tt

@@ -1,7 +1,8 @@
 -- The message that a guard takes, and the one of a number.
-use Rattle.std.proofs.Common.{◌≡◌, ℕ, Bool, true, false, cond, ◌&&◌, nat_eq, List, [], ◌∷◌, map, length, Option, Some, None, slice_get, refl, sym, ap, ◌∙◌, subst}
+use Rattle.std.proofs.Common.{◌≡◌, ℕ, Bool, true, false, cond, nat_eq, List, [], ◌∷◌, map, length, Option, Some, None, slice_get, refl, sym, ap, ◌∙◌}
 use Rattle.std.specs.Prelude.{◌<◌, IfNone, option_map, option_and_then, find, if◌then◌else◌}
 use Rattle.std.proofs.lemmas.Bool.{and_parts, eqb-true}
+use Rattle.std.specs.Borrow.{Bor}
 use Rattle.pat_model.specs.Programs.{Program, Clause}
 use Rattle.pat_model.specs.Configs.{Control, Message}
 use Rattle.pat_model.specs.Steps.{Redex, clause_for, at_node, received}
@@ -11,7 +12,7 @@ use Rattle.pat_reduce_threads.specs.ThreadActs.{Guarding, guard_at, message_in, 
 use Rattle.pat_pending_laws.specs.Pending.{messages_of, pending_at, AreKept}
 use Rattle.pat_pending_laws.proofs.LookUps.{by_number, first_is_own, place_is_found, found_is_own}
 use Rattle.pat_mailboxes.specs.Mailboxes.{Mailbox, IsLive, mailbox_at, pending_in, pending_at as pending_of}
-use Rattle.pat_pool.specs.Queues.{IsFirst}
+use Rattle.pat_pool.specs.Queues.{Finds}
 use Rattle.pat_mailboxes.proofs.Firsts.{none_found}
 use Rattle.pat_machine_pending.specs.Boxes.{boxes_view}
 use Rattle.pat_machine_pending.specs.Deliveries.{IsDelivery}
@@ -25,10 +26,10 @@ find_map g f (x ∷ xs) =
       | false ↦ find_map g f xs
     ]
 
--- where there is no place, nothing is found
-pub none_of : {X : Type 0} (test : X → Bool) (xs : List X) (o : Option ℕ) → IsFirst test xs o → IfNone o (find test xs ≡ None)
+-- where none is the first, nothing is found
+pub none_of : {X : Type 0} (test : X → Bool) (xs : List X) (o : Option (ℕ × Bor X)) → Finds test xs (option_map (λ f. (f.0, f.1.now)) o) → IfNone o (find test xs ≡ None)
 none_of test xs None first = none_found test xs first
-none_of test xs (Some i) first = tt
+none_of test xs (Some f) first = tt
 
 filled : (o : Option Mailbox) (i : ℕ) (m : Message) → slice_get (map message_view (pending_in o)) i ≡ Some m → (x : Mailbox) × (o ≡ Some x)
 filled None i m h = absurd cc

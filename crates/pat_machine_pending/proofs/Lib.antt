@@ -3,3 +3,4 @@ pub mod Boxed
 pub mod Delivering
 -- the crate's own
 mod Sorting
+mod Listing

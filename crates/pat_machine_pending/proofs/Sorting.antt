@@ -1,10 +1,10 @@
 -- Messages that were sorted by number are in order.
-use Rattle.std.proofs.Common.{◌≡◌, ℕ, zero, suc, ◌+◌, ◌<◌, ◌≤◌, Bool, true, false, cond, nat_eq, List, [], ◌∷◌, ◌++◌, map, length, take, slice_get, Option, Some, filter, inl, inr, ⊎_elim, refl, sym, ap, ◌∙◌, subst, arith, eq-eqb, add-one, take_all}
+use Rattle.std.proofs.Common.{◌≡◌, ℕ, zero, suc, ◌+◌, ◌≤◌, Bool, true, false, cond, nat_eq, List, [], ◌∷◌, ◌++◌, map, length, take, Option, filter, inl, inr, ⊎_elim, refl, sym, ap, ◌∙◌, subst, arith, eq-eqb, add-one, take_all}
 use Rattle.std.specs.Prelude.{sum_by}
 use Rattle.std.specs.List.{AllByRecursion}
 use Rattle.std.specs.List.Sorted.{IsPermutation, IsNonDecreasingBy}
 use Rattle.std.proofs.lemmas.Bool.{cond-true, cases_eq}
-use Rattle.std.proofs.lemmas.List.{map-append, length-map, append-nil}
+use Rattle.std.proofs.lemmas.List.{length-map, append-nil}
 use Rattle.std.proofs.lemmas.List.Sums.{sum_by-cons}
 use Rattle.std.proofs.lemmas.List.Sorted.{IsPermutation-sym, IsPermutation-map, sum_by-IsPermutation}
 use Rattle.std.proofs.Permutation.{every_shuffled}
@@ -113,26 +113,9 @@ sorted xs ys moved up ascend = sorted_messages (map message_view xs) (map messag
 
 -- ---- copies
 
-take_place : {A : Type 0} (xs : List A) (i : ℕ) (x : A) → slice_get xs i ≡ Some x → take (suc i) xs ≡ take i xs ++ x ∷ []
-take_place [] i x h = absurd cc
-take_place (y ∷ ys) zero x h = let same : y ≡ x = cc in ap (λ z. z ∷ []) same
-take_place (y ∷ ys) (suc i) x h = ap (λ l. y ∷ l) (take_place ys i x h)
-
 grouped : (xs ys zs : List Message) → (xs ++ ys) ++ zs ≡ xs ++ (ys ++ zs)
 grouped [] ys zs = refl
 grouped (x ∷ xs) ys zs = ap (λ l. x ∷ l) (grouped xs ys zs)
-
-pub copied_more : (own new : List CodeMessage) (old : List Message) (xs : List CodeMessage) (i : ℕ) (x y : CodeMessage) → map message_view own ≡ old ++ map message_view (take i xs) → slice_get xs i ≡ Some x → message_view y ≡ message_view x → new ≡ own ++ y ∷ []
-    → map message_view new ≡ old ++ map message_view (take (i + 1) xs)
-copied_more own new old xs i x y so at same more =
-    let taken : map message_view (take (i + 1) xs) ≡ map message_view (take i xs) ++ message_view x ∷ [] =
-    ap (λ n. map message_view (take n xs)) (add-one i) ∙ ap (map message_view) (take_place xs i x at) ∙ map-append message_view (take i xs) (x ∷ []) in
-    ap (map message_view) more
-    ∙ map-append message_view own (y ∷ [])
-    ∙ ap (λ l. l ++ message_view y ∷ []) so
-    ∙ ap (λ m. (old ++ map message_view (take i xs)) ++ m ∷ []) same
-    ∙ grouped old (map message_view (take i xs)) (message_view x ∷ [])
-    ∙ ap (λ l. old ++ l) (sym taken)
 
 all_next : (boxes : List (Option (List Message))) (k : ℕ) → all_of (take (suc k) boxes) ≡ all_of (take k boxes) ++ pending_at boxes k
 all_next [] zero = refl

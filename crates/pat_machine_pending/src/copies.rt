@@ -1,16 +1,14 @@
-// Copies of configurations.
-ghost use Rattle.std.specs.Prelude.{◌≡◌, ◌++◌, map, length, take, IfOk, OnOk};
+// Copies of pending messages, and lists of live mailboxes.
+ghost use Rattle.std.specs.Prelude.{◌≡◌, [], ◌∷◌, ◌++◌, map, length, take, is_some, if◌then◌else◌, IfOk, OnOk};
 ghost use Rattle.pat_reduce_threads.specs.ThreadViews.{message_view};
 ghost use Rattle.pat_reduce_values.specs.ValueViews.{value_view};
-ghost use Rattle.pat_pending_laws.specs.Pending.{all_of, messages_of, AreKept};
-ghost use Rattle.pat_mailboxes.specs.Mailboxes.{pending_at};
-ghost use Rattle.pat_reduce.specs.Views.{config_view, threads_view};
+ghost use Rattle.pat_pending_laws.specs.Pending.{all_of, live_of, messages_of, AreKept};
+ghost use Rattle.pat_mailboxes.specs.Mailboxes.{mailbox_at, pending_at};
 ghost use Rattle.pat_machine_pending.specs.Boxes.{boxes_view};
 
-use pat_machine_threads::copy_state;
 use pat_mailboxes::Mailboxes;
-use pat_reduce::{Config, Message, ThreadState, Value};
-use pat_sequences::{Sequence, Text};
+use pat_reduce::{Message, Value};
+use pat_sequences::Sequence;
 use std::alloc::{AllocError, Global};
 
 /// Copies of the pending messages, in order of number.
@@ -55,8 +53,9 @@ fn copy_box(
     if !mailboxes.is_live(mailbox) {
         return Ok(());
     }
-    for place in 0..mailboxes.len(mailbox) {
-        own.push(copy_message(alloc, mailboxes.get(mailbox, place))?)?;
+    let pending = mailboxes.list(alloc, mailbox)?;
+    for message in pending {
+        own.push(copy_message(alloc, message)?)?;
     }
     Ok(())
 }
@@ -83,54 +82,29 @@ fn copy_values(alloc: Global, values: &[Value]) -> Result<Sequence<Value>, Alloc
     Ok(own)
 }
 
-/// A copy of the configuration, with these messages.
-pub fn copy_with(
+/// Which of the first mailboxes are live, in order of number.
+pub fn list_live(
     alloc: Global,
-    config: &Config,
-    messages: Sequence<Message>,
-) -> Result<Config, AllocError>
-    ensures { IfOk result (λ c. config_view c ≡ record (config_view config.now) { messages = map message_view messages }) }
-{
-    let threads = copy_threads(alloc, config.threads.as_slice())?;
-    let live = copy_numbers(alloc, config.live.as_slice())?;
-    let printed = copy_lines(alloc, config.printed.as_slice())?;
-    Ok(Config {
-        threads,
-        messages,
-        live,
-        printed,
-        next_thread: config.next_thread,
-        next_mailbox: config.next_mailbox,
-        next_message: config.next_message,
-    })
-}
-
-fn copy_threads(
-    alloc: Global,
-    threads: &[(u32, ThreadState)],
-) -> Result<Sequence<(u32, ThreadState)>, AllocError>
-    ensures { IfOk result (λ own. threads_view own ≡ threads_view threads.now) }
+    mailboxes: &Mailboxes,
+    count: u32,
+) -> Result<Sequence<u32>, AllocError>
+    requires { count ≡ length mailboxes.now.mailboxes }
+    ensures { IfOk result (λ own. own ≡ live_of (boxes_view mailboxes.now.mailboxes)) }
 {
     let mut own = Sequence::new(alloc);
-    for entry in threads {
-        own.push((entry.0, copy_state(alloc, &entry.1)?))?;
+    for mailbox in 0..count {
+        list_box(mailboxes, mailbox, &mut own)?;
     }
     Ok(own)
 }
 
-fn copy_numbers(alloc: Global, numbers: &[u32]) -> Result<Sequence<u32>, AllocError>
-    ensures { IfOk result (λ own. own ≡ numbers.now) }
+// Appends the number of a mailbox, if it is live.
+fn list_box(mailboxes: &Mailboxes, mailbox: u32, own: &mut Sequence<u32>) -> Result<(), AllocError>
+    ensures { OnOk result (own.new ≡ own.old ++ (if is_some (mailbox_at mailboxes.now.mailboxes mailbox) then mailbox ∷ [] else [])) }
 {
-    let items = Vec::from_slice(alloc, numbers)?;
-    Ok(Sequence::from_vec(items))
-}
-
-fn copy_lines(alloc: Global, lines: &[Text]) -> Result<Sequence<Text>, AllocError>
-    ensures { IfOk result (λ own. own ≡ lines.now) }
-{
-    let mut own = Sequence::new(alloc);
-    for line in lines {
-        own.push(line.copy(alloc)?)?;
+    if mailboxes.is_live(mailbox) {
+        own.push(mailbox)
+    } else {
+        Ok(())
     }
-    Ok(own)
 }

@@ -9,7 +9,6 @@ ghost use Rattle.pat_reduce_threads.specs.ThreadViews.{control_view, message_vie
 ghost use Rattle.pat_reduce_threads.specs.GuardViews.{guard_view};
 ghost use Rattle.pat_reduce_threads.specs.ThreadActs.{first_taken, redex_received, takes};
 ghost use Rattle.pat_mailboxes.specs.Mailboxes.{IsLive, pending_at as pending_of};
-ghost use Rattle.pat_reduce_threads.specs.declared.state.Message.{Message as MessageOf};
 ghost use Rattle.pat_machine_pending.specs.Boxes.{boxes_view};
 ghost use Rattle.pat_machine_pending.specs.Deliveries.{IsDelivery};
 
@@ -56,8 +55,8 @@ pub fn first_message(mailboxes: &Mailboxes, guard: &GuardRef<'_>) -> Option<u32>
     if !mailboxes.is_live(guard.mailbox) {
         return None;
     }
-    match mailboxes.position(guard.mailbox, &Taken { guard: *guard }) {
-        Some(place) => Some(mailboxes.get(guard.mailbox, place).number),
+    match mailboxes.find(guard.mailbox, &Taken { guard: *guard }) {
+        Some((_, message)) => Some(message.number),
         None => None,
     }
 }
@@ -75,28 +74,25 @@ pub fn delivery(
     ensures disabled { result ≡ Err Disabled → redex_received (program_view code.now.program) (messages_of (boxes_view mailboxes.now.mailboxes)) number (redex (program_view code.now.program) (control_view control.now)) ≡ None }
 {
     match guard_of(code, control) {
-        Some(guard) => match message_place(mailboxes, guard.mailbox, number) {
-            Some(place) => {
-                let message = mailboxes.get(guard.mailbox, place);
-                match go_on_with(alloc, code, &guard, message) {
-                    Ok(control) => Ok((guard.mailbox, place, control)),
-                    Err(error) => Err(error),
-                }
-            }
+        Some(guard) => match find_numbered(mailboxes, guard.mailbox, number) {
+            Some((place, message)) => match go_on_with(alloc, code, &guard, message) {
+                Ok(control) => Ok((guard.mailbox, place, control)),
+                Err(error) => Err(error),
+            },
             None => Err(StepError::Disabled),
         },
         None => Err(StepError::Disabled),
     }
 }
 
-// Where the message of a number is pending in a mailbox.
-fn message_place(mailboxes: &Mailboxes, mailbox: u32, number: u32) -> Option<u32>
-    ensures live { IfSome result (λ i. IsLive mailboxes.now.mailboxes mailbox) }
-    ensures there { IfSome result (λ i. (m : MessageOf) × (slice_get (pending_of mailboxes.now.mailboxes mailbox) i ≡ Some m) × (m.number ≡ number)) }
+// The message of a number that is pending in a mailbox, and its place.
+fn find_numbered(mailboxes: &Mailboxes, mailbox: u32, number: u32) -> Option<(u32, &Message)>
+    ensures live { IfSome result (λ f. IsLive mailboxes.now.mailboxes mailbox) }
+    ensures there { IfSome result (λ f. (slice_get (pending_of mailboxes.now.mailboxes mailbox) f.0 ≡ Some f.1.now) × (f.1.now.number ≡ number)) }
     ensures none { IfNone result (find (λ m. nat_eq number m.number) (pending_of mailboxes.now.mailboxes mailbox) ≡ None) }
 {
     if !mailboxes.is_live(mailbox) {
         return None;
     }
-    mailboxes.position(mailbox, &Numbered { number })
+    mailboxes.find(mailbox, &Numbered { number })
 }

@@ -5,8 +5,9 @@ use Rattle.pat_model.specs.Configs.{Thread, Config, thread_at, with_thread}
 use Rattle.pat_reduce_threads.specs.declared.state.ThreadState.{ThreadState}
 use Rattle.pat_reduce_threads.specs.ThreadViews.{frame_view, thread_view}
 use Rattle.pat_commit_laws.proofs.Locals.{there_after, with_twice, with_same}
-use Rattle.pat_machine_states.specs.declared.tops.Aside.{Aside}
-use Rattle.pat_machine_states.specs.Aside.{aside_view, IsAside}
+use Rattle.pat_machine_threads.specs.declared.asides.Aside.{Aside}
+use Rattle.pat_machine_threads.specs.Aside.{aside_view}
+use Rattle.pat_machine_states.specs.Asides.{IsAside}
 
 module _ (old new : Config) (t : ℕ) (top : ThreadState) (kept : Aside) (a : IsAside old t top kept new) where
   -- the top stands there

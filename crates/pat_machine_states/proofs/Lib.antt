@@ -1,9 +1,7 @@
 mod Opened
 mod Prospected
-mod Placed
 mod Awaiting
 mod Asides
-mod Bare
-mod Walks
 mod Keeping
 mod Referring
+mod Reaching

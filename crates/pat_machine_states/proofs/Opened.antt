@@ -3,10 +3,10 @@ use Rattle.std.proofs.Common.{◌≡◌, ℕ, ◌<◌, ◌≤◌, true, false, n
 use Rattle.std.specs.Prelude.{is_some, option_and_then, []}
 use Rattle.std.proofs.lemmas.Bool.{and_parts, and_cases, not-true, not-false, ltb-true, ltb-false, false_from_ne_true}
 use Rattle.pat_model.specs.Programs.{Program}
-use Rattle.pat_model.specs.Configs.{Config}
+use Rattle.pat_model.specs.Configs.{Config, thread_at}
 use Rattle.pat_model.specs.Orders.{IsOrdered}
 use Rattle.pat_model.specs.Steps.{Act, ActLocal, ActNew, ActSend, ActSpawn, ActPrint, ActEnd, ActFree, ActReceive, step}
-use Rattle.pat_model.specs.Runs.{run_from}
+use Rattle.pat_model.specs.Runs.{run_from, can_step_thread}
 use Rattle.pat_model_laws.specs.Laws.{IsEnabled}
 use Rattle.pat_model_laws.proofs.Lists.{clash}
 use Rattle.pat_model_laws.proofs.Enabled.{thread_exact}
@@ -16,6 +16,12 @@ use Rattle.pat_commits.specs.Opens.{IsStill}
 use Rattle.pat_commits.specs.Commits.{ReceivesLeast, Shares}
 use Rattle.pat_commit_laws.proofs.Opens.{some_of, send_alone, open_exact}
 use Rattle.pat_machine_states.specs.Opening.{OpenAct, is_sending}
+
+-- a thread that isn't there has no step
+pub absent : (p : Program) (c : Config) (t : ℕ) → thread_at c t ≡ None → can_step_thread p c t ≡ false
+absent p c t none = false_from_ne_true (can_step_thread p c t) (λ can.
+    let a = (thread_exact p c t).0 can in
+    cc)
 
 -- the least that is received, with the message named
 pub least_named : (p : Program) (c : Config) (t : ℕ) (o : Option Act) → IsLeast p c t o → ReceivesLeast p c t o

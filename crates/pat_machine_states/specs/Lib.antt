@@ -1,6 +1,7 @@
 pub mod Opening
 pub mod Prospects
-pub mod Places
-pub mod Aside
+pub mod Asides
 pub mod Boxes
 pub mod Stepping
+pub mod Taking
+pub mod Alone

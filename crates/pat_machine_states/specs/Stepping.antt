@@ -1,17 +1,9 @@
 -- Steps of a configuration whose messages are kept by mailbox.
-use Rattle.std.specs.Prelude.{◌≡◌, ℕ, Bool, true, false, Option, Some, None, option_map}
+use Rattle.std.specs.Prelude.{◌≡◌, ℕ, true, Option, Some, None, option_map}
 use Rattle.pat_model.specs.Programs.{Program, is_among}
 use Rattle.pat_model.specs.Configs.{Thread, Config, some_thread_refers}
-use Rattle.pat_model.specs.Steps.{Act, ActLocal, ActSpawn, ActPrint, ActEnd, redex}
+use Rattle.pat_model.specs.Steps.{redex}
 use Rattle.pat_reduce_threads.specs.ThreadActs.{Guarding, guard_at}
-
--- an act that looks at no message and makes none, and makes and frees no mailbox
-abbrev pub is_beside : Act → Bool
-is_beside ActLocal = true
-is_beside ActSpawn = true
-is_beside ActPrint = true
-is_beside ActEnd = true
-is_beside _ = false
 
 -- what threads refer to is live
 abbrev pub ReferToLive : Config → Type 0

@@ -3,7 +3,7 @@ ghost use Rattle.std.specs.Prelude.{◌≡◌, IfOk};
 ghost use Rattle.pat_reduce.specs.Views.{config_view};
 
 use crate::State;
-use pat_machine_pending::{copy_pending, copy_with};
+use pat_machine_pending::{copy_pending, list_live};
 use pat_reduce::Config;
 use std::alloc::{AllocError, Global};
 
@@ -12,7 +12,9 @@ impl State {
     pub fn copy(&self, alloc: Global) -> Result<Config, AllocError>
         ensures { IfOk result (λ c. config_view c ≡ self.now) }
     {
-        let messages = copy_pending(alloc, &self.mailboxes, self.config.next_mailbox)?;
-        copy_with(alloc, &self.config, messages)
+        let count = self.placed.mailboxes_made();
+        let messages = copy_pending(alloc, &self.mailboxes, count)?;
+        let live = list_live(alloc, &self.mailboxes, count)?;
+        self.placed.copy(alloc, messages, live)
     }
 }

@@ -1,48 +1,50 @@
 // The act of a thread that is enabled.
-ghost use Rattle.std.specs.Prelude.{◌≡◌, map, option_map};
-ghost use Rattle.std.specs.List.{list_any};
-ghost use Rattle.pat_model.specs.Configs.{has_pending, message_refers, other_refers};
+ghost use Rattle.std.specs.Prelude.{◌≡◌, ℕ, map, option_map};
+ghost use Rattle.pat_model.specs.Configs.{has_pending};
 ghost use Rattle.pat_model.specs.Programs.{is_among};
 ghost use Rattle.pat_model.specs.Steps.{redex};
 ghost use Rattle.pat_core.specs.Views.{program_view};
-ghost use Rattle.pat_reduce_threads.specs.ThreadViews.{control_view, frame_view};
+ghost use Rattle.pat_reduce_threads.specs.ThreadViews.{control_view, frame_view, thread_view};
 ghost use Rattle.pat_reduce_threads.specs.GuardViews.{guard_view};
 ghost use Rattle.pat_reduce_threads.specs.ThreadActs.{guard_at};
 ghost use Rattle.pat_reduce.specs.Acts.{act_at, free_act, guard_act, may_free, plain_act};
 ghost use Rattle.pat_reduce.specs.Views.{act_view};
+ghost use Rattle.pat_naming_laws.specs.Counting.{TellsAlone};
+ghost use Rattle.pat_machine_states.specs.Alone.{GuardsAlone, IsReachedAlone};
 
 use crate::State;
 use pat_executable::Executable;
 use pat_machine_pending::first_message;
-use pat_reduce::{Act, ThreadState, other_refers, plain_act};
+use pat_reduce::{Act, ThreadState, plain_act};
 use pat_reduce_threads::{GuardRef, guard_of};
 
 impl State {
-    // The act of the thread, which has this state.
-    pub(crate) fn act_of(&self, code: &Executable, thread: u32, state: &ThreadState) -> Option<Act>
-        ensures { option_map act_view result ≡ act_at self.now thread (guard_at (redex (program_view code.now.program) (control_view state.now.control))) (plain_act (program_view code.now.program) (redex (program_view code.now.program) (control_view state.now.control)) (map frame_view state.now.frames)) }
+    // The act of a thread with this state, where it is known whether nothing else reaches the mailbox that it may free.
+    pub(crate) fn act_of(&self, code: &Executable, state: &ThreadState, alone: bool) -> Option<Act>
+        ensures { (t : ℕ) → TellsAlone (program_view code.now.program) self.now t (thread_view state.now) alone → option_map act_view result ≡ act_at self.now t (guard_at (redex (program_view code.now.program) (control_view state.now.control))) (plain_act (program_view code.now.program) (redex (program_view code.now.program) (control_view state.now.control)) (map frame_view state.now.frames)) }
     {
         match guard_of(code, &state.control) {
-            Some(guard) => self.guard_act(&guard, thread),
+            Some(guard) => self.guard_act(&guard, alone),
             None => plain_act(code, state),
         }
     }
 
-    fn guard_act(&self, guard: &GuardRef<'_>, thread: u32) -> Option<Act>
-        ensures { option_map act_view result ≡ guard_act self.now thread (guard_view guard.now) }
+    fn guard_act(&self, guard: &GuardRef<'_>, alone: bool) -> Option<Act>
+        ensures { (t : ℕ) → GuardsAlone self.now t (guard_view guard.now) alone → option_map act_view result ≡ guard_act self.now t (guard_view guard.now) }
     {
         match first_message(&self.mailboxes, guard) {
             Some(number) => Some(Act::Receive(number)),
-            None => self.free_act(guard, thread),
+            None => self.free_act(guard, alone),
         }
     }
 
-    fn free_act(&self, guard: &GuardRef<'_>, thread: u32) -> Option<Act>
-        ensures { option_map act_view result ≡ free_act self.now thread (guard_view guard.now) guard.now.free }
+    // The free of the mailbox that is guarded, where it may be freed.
+    pub(crate) fn free_act(&self, guard: &GuardRef<'_>, alone: bool) -> Option<Act>
+        ensures { (t : ℕ) → GuardsAlone self.now t (guard_view guard.now) alone → option_map act_view result ≡ free_act self.now t (guard_view guard.now) guard.now.free }
     {
         match guard.free {
             Some(_) => {
-                if self.may_free(thread, guard.mailbox) {
+                if self.may_free(guard.mailbox, alone) {
                     Some(Act::Free)
                 } else {
                     None
@@ -52,14 +54,11 @@ impl State {
         }
     }
 
-    // Whether the thread may free the mailbox.
-    fn may_free(&self, thread: u32, mailbox: u32) -> bool
-        ensures { result ≡ may_free self.now thread mailbox }
+    // Whether the mailbox may be freed by a thread, where it is known whether nothing else reaches it.
+    fn may_free(&self, mailbox: u32, alone: bool) -> bool
+        ensures { (t : ℕ) → IsReachedAlone self.now t mailbox alone → result ≡ may_free self.now t mailbox }
     {
-        self.is_live(mailbox)
-            && !self.has_pending(mailbox)
-            && !self.others_refer(thread, mailbox)
-            && !self.messages_refer(mailbox)
+        self.is_live(mailbox) && !self.has_pending(mailbox) && alone
     }
 
     fn is_live(&self, mailbox: u32) -> bool
@@ -76,17 +75,5 @@ impl State {
         } else {
             false
         }
-    }
-
-    fn others_refer(&self, thread: u32, mailbox: u32) -> bool
-        ensures { result ≡ other_refers mailbox thread self.now.threads }
-    {
-        other_refers(self.config.threads.as_slice(), thread, mailbox)
-    }
-
-    fn messages_refer(&self, mailbox: u32) -> bool
-        ensures { result ≡ list_any (message_refers mailbox) self.now.messages }
-    {
-        self.mailboxes.refers(self.config.live.as_slice(), mailbox)
     }
 }

@@ -6,17 +6,26 @@ ghost use Rattle.pat_reduce.specs.Acts.{EnabledAct, IsLeast};
 ghost use Rattle.pat_reduce.specs.Views.{act_view};
 ghost use Rattle.pat_commits.specs.Opens.{has_space};
 ghost use Rattle.pat_machine_states.specs.Opening.{OpenAct, is_sending};
+ghost use Rattle.pat_machine_states.specs.Alone.{StandsAlone};
 
 use crate::State;
 use pat_executable::Executable;
 use pat_reduce::Act;
 
 impl State {
-    // The act of the thread that is open, if one is. A guard receives the first message that it takes.
-    pub(crate) fn open_act(&self, code: &Executable, limit: u32, thread: u32) -> Option<Act>
+    // The act of the thread that is open, if one is, where it is known whether nothing else reaches the mailbox that it may free.
+    // A guard receives the first message that it takes.
+    pub(crate) fn open_act(
+        &self,
+        code: &Executable,
+        limit: u32,
+        thread: u32,
+        alone: bool,
+    ) -> Option<Act>
+        requires { StandsAlone (program_view code.now.program) self.now thread alone }
         ensures { OpenAct (program_view code.now.program) self.now limit thread (option_map act_view result) }
     {
-        let act = self.enabled_act(code, thread);
+        let act = self.enabled_act(code, thread, alone);
         if self.is_held_back(limit, act) {
             None
         } else {
@@ -25,12 +34,13 @@ impl State {
     }
 
     // The act of the thread that is enabled, if one is.
-    pub(crate) fn enabled_act(&self, code: &Executable, thread: u32) -> Option<Act>
+    pub(crate) fn enabled_act(&self, code: &Executable, thread: u32, alone: bool) -> Option<Act>
+        requires { StandsAlone (program_view code.now.program) self.now thread alone }
         ensures enabled { EnabledAct (program_view code.now.program) self.now thread (option_map act_view result) }
         ensures least { IsOrdered self.now → IsLeast (program_view code.now.program) self.now thread (option_map act_view result) }
     {
         match self.thread(thread) {
-            Some(state) => self.act_of(code, thread, state),
+            Some(state) => self.act_of(code, state, alone),
             None => None,
         }
     }
@@ -42,8 +52,8 @@ impl State {
         is_sending(act) && !self.has_space(limit)
     }
 
-    // Whether one more message may be pending.
-    fn has_space(&self, limit: u32) -> bool
+    /// Whether one more message may be pending. It takes no memory.
+    pub fn has_space(&self, limit: u32) -> bool
         ensures { result ≡ has_space self.now limit }
     {
         self.mailboxes.pending() < limit

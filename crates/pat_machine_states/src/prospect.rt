@@ -1,14 +1,16 @@
 // Whether a run can go on.
-ghost use Rattle.std.specs.Prelude.{◌≡◌, ◌≤◌, ℕ, length, IsTrue};
+ghost use Rattle.std.specs.Prelude.{◌≡◌, ◌≤◌, ◌&&◌, length};
 ghost use Rattle.std.specs.List.{list_any};
-ghost use Rattle.pat_model.specs.Programs.{is_among};
 ghost use Rattle.pat_model.specs.Runs.{can_step_thread};
 ghost use Rattle.pat_core.specs.Views.{program_view};
-ghost use Rattle.pat_commits.specs.Opens.{can_go_on};
+ghost use Rattle.pat_commits.specs.Opens.{has_space, can_go_on};
+ghost use Rattle.pat_locality_laws.specs.Senders.{AreCandidates};
+ghost use Rattle.pat_naming_laws.specs.Counting.{TellOfEach};
 ghost use Rattle.pat_machine_states.specs.Prospects.{HasProspect};
 
 use crate::State;
 use pat_executable::Executable;
+use pat_machine_names::Names;
 
 /// How the threads stand.
 #[derive(Clone, Copy, Debug, PartialEq, Eq)]
@@ -24,30 +26,54 @@ pub enum Prospect {
 }
 
 impl State {
-    /// How the threads stand, where those that may have an enabled step are known. It takes no memory.
-    pub fn prospect(&self, code: &Executable, limit: u32, candidates: &[u32]) -> Prospect
-        requires { (t : ℕ) → IsTrue (can_step_thread (program_view code.now.program) self.now t) → IsTrue (is_among t candidates.now) }
+    /// How the threads stand, where those that may have an enabled step are known, and among them those that are about to send.
+    /// It takes no memory.
+    pub fn prospect(
+        &self,
+        code: &Executable,
+        names: &Names,
+        limit: u32,
+        others: &[u32],
+        senders: &[u32],
+    ) -> Prospect
+        requires told { TellOfEach (program_view code.now.program) self.now names.now.times.items }
+        requires candidates { AreCandidates (program_view code.now.program) self.now others.now senders.now }
         ensures { HasProspect (program_view code.now.program) self.now limit result }
     {
-        if self.config.threads.is_empty() {
+        if self.placed.is_over() {
             return Prospect::Over;
         }
-        if self.has_open(code, limit, candidates) {
+        if self.has_open(code, names, limit, others) {
             return Prospect::Open;
         }
-        if self.has_enabled(code, candidates) {
+        if self.may_send(code, names, limit, senders) {
+            return Prospect::Open;
+        }
+        if self.has_enabled(code, names, others) {
+            return Prospect::Full;
+        }
+        if self.has_enabled(code, names, senders) {
             Prospect::Full
         } else {
             Prospect::Stuck
         }
     }
 
+    // Whether one of the senders has an open step. They aren't looked at where there is no space.
+    fn may_send(&self, code: &Executable, names: &Names, limit: u32, senders: &[u32]) -> bool
+        requires told { TellOfEach (program_view code.now.program) self.now names.now.times.items }
+        ensures { result ≡ (has_space self.now limit && list_any (can_go_on (program_view code.now.program) self.now limit) senders.now) }
+    {
+        self.has_space(limit) && self.has_open(code, names, limit, senders)
+    }
+
     // Whether one of these threads has an enabled step.
-    fn has_enabled(&self, code: &Executable, threads: &[u32]) -> bool
+    fn has_enabled(&self, code: &Executable, names: &Names, threads: &[u32]) -> bool
+        requires told { TellOfEach (program_view code.now.program) self.now names.now.times.items }
         ensures { result ≡ list_any (can_step_thread (program_view code.now.program) self.now) threads.now }
     {
         for thread in threads {
-            if self.is_enabled(code, *thread) {
+            if self.is_enabled(code, names, *thread) {
                 return true;
             }
         }
@@ -55,21 +81,24 @@ impl State {
     }
 
     // Whether a step of the thread is enabled.
-    pub(crate) fn is_enabled(&self, code: &Executable, thread: u32) -> bool
+    pub(crate) fn is_enabled(&self, code: &Executable, names: &Names, thread: u32) -> bool
+        requires told { TellOfEach (program_view code.now.program) self.now names.now.times.items }
         ensures { result ≡ can_step_thread (program_view code.now.program) self.now thread }
     {
-        match self.enabled_act(code, thread) {
+        let alone = self.stands_alone(code, names, thread);
+        match self.enabled_act(code, thread, alone) {
             Some(_) => true,
             None => false,
         }
     }
 
     // Whether one of these threads has an open step.
-    fn has_open(&self, code: &Executable, limit: u32, threads: &[u32]) -> bool
+    fn has_open(&self, code: &Executable, names: &Names, limit: u32, threads: &[u32]) -> bool
+        requires told { TellOfEach (program_view code.now.program) self.now names.now.times.items }
         ensures { result ≡ list_any (can_go_on (program_view code.now.program) self.now limit) threads.now }
     {
         for thread in threads {
-            if self.can_go_on(code, limit, *thread) {
+            if self.can_go_on(code, names, limit, *thread) {
                 return true;
             }
         }

@@ -4,23 +4,28 @@ ghost use Rattle.pat_core.specs.Views.{program_view};
 ghost use Rattle.pat_commits.specs.Opens.{can_go_on};
 ghost use Rattle.pat_commits.specs.Lendings.{is_out};
 ghost use Rattle.pat_commits.specs.Turns.{is_ready};
+ghost use Rattle.pat_naming_laws.specs.Counting.{TellOfEach};
+ghost use Rattle.pat_machine_states.specs.Alone.{StandsAlone};
 
 use crate::State;
 use pat_executable::Executable;
+use pat_machine_names::Names;
 
 impl State {
     /// The first of these threads that is ready. It takes no memory.
     pub fn first_ready(
         &self,
         code: &Executable,
+        names: &Names,
         limit: u32,
         out: &[Option<u32>],
         threads: &[u32],
     ) -> Option<u32>
+        requires told { TellOfEach (program_view code.now.program) self.now names.now.times.items }
         ensures { result ≡ find (is_ready (program_view code.now.program) self.now limit out.now) threads.now }
     {
         for thread in threads {
-            if self.is_ready(code, limit, out, *thread) {
+            if self.is_ready(code, names, limit, out, *thread) {
                 return Some(*thread);
             }
         }
@@ -28,18 +33,39 @@ impl State {
     }
 
     /// Whether a job for the thread could be handed out: it has an open step, and none is out yet. It takes no memory.
-    pub fn is_ready(&self, code: &Executable, limit: u32, out: &[Option<u32>], thread: u32) -> bool
+    pub fn is_ready(
+        &self,
+        code: &Executable,
+        names: &Names,
+        limit: u32,
+        out: &[Option<u32>],
+        thread: u32,
+    ) -> bool
+        requires told { TellOfEach (program_view code.now.program) self.now names.now.times.items }
         ensures { result ≡ is_ready (program_view code.now.program) self.now limit out.now thread }
     {
-        !is_out(out, thread) && self.can_go_on(code, limit, thread)
+        !is_out(out, thread) && self.can_go_on(code, names, limit, thread)
     }
 
     /// Whether a step of the thread is open.
-    pub fn can_go_on(&self, code: &Executable, limit: u32, thread: u32) -> bool
+    pub fn can_go_on(&self, code: &Executable, names: &Names, limit: u32, thread: u32) -> bool
+        requires told { TellOfEach (program_view code.now.program) self.now names.now.times.items }
         ensures { result ≡ can_go_on (program_view code.now.program) self.now limit thread }
     {
-        match self.open_act(code, limit, thread) {
+        let alone = self.stands_alone(code, names, thread);
+        match self.open_act(code, limit, thread, alone) {
             Some(_) => true,
+            None => false,
+        }
+    }
+
+    // Whether the counts say that nothing but the thread reaches the mailbox that it may free.
+    pub(crate) fn stands_alone(&self, code: &Executable, names: &Names, thread: u32) -> bool
+        requires told { TellOfEach (program_view code.now.program) self.now names.now.times.items }
+        ensures { StandsAlone (program_view code.now.program) self.now thread result }
+    {
+        match self.thread(thread) {
+            Some(state) => names.is_named_by_control(code, state),
             None => false,
         }
     }

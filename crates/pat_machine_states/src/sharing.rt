@@ -1,23 +1,34 @@
 // The shared step that ends a commit.
-ghost use Rattle.std.specs.Prelude.{◌≡◌, ℕ, ◌<◌, ◌⊎◌, [], length, Some, option_map, IfOk, OnErr};
+ghost use Rattle.std.specs.Prelude.{◌≡◌, ℕ, ◌<◌, ◌⊎◌, [], length, Some, IfOk, OnErr};
 ghost use Rattle.pat_model.specs.Orders.{IsOrdered};
 ghost use Rattle.pat_model.specs.Configs.{Thread as ThreadOf, thread_at, with_thread};
+ghost use Rattle.pat_model.specs.Steps.{ActReceive, message_at};
 ghost use Rattle.pat_core.specs.Views.{program_view};
 ghost use Rattle.pat_reduce_threads.specs.ThreadViews.{thread_view};
-ghost use Rattle.pat_reduce.specs.Views.{act_view};
 ghost use Rattle.pat_commits.specs.Commits.{Shares};
 ghost use Rattle.pat_commits.specs.Tops.{below, over};
 ghost use Rattle.pat_commits.specs.Machines.{HasRoom, IsTypedBySome};
+ghost use Rattle.pat_naming_laws.specs.Counting.{TellsAlone};
+ghost use Rattle.pat_machine_states.specs.Alone.{StandsAlone};
 ghost use Rattle.pat_machine_states.specs.Stepping.{ReferToLive};
+ghost use Rattle.pat_machine_states.specs.Taking.{taken_act, taken_message};
 
 use crate::State;
 use pat_executable::Executable;
-use pat_reduce::{Act, Step, StepError, ThreadState};
+use pat_reduce::{Act, Message, Step, StepError, ThreadState};
 use std::alloc::{AllocError, Global};
+
+/// What a shared step took: its act, and the message that it received, if it did.
+#[derive(Drop)]
+pub struct Taken {
+    pub act: Act,
+    pub message: Option<Message>,
+}
 
 impl State {
     /// Puts a state in the place of a thread's control and so many of its frames, those on top, and takes the shared step
-    /// that is open then, if one is. An error changes nothing.
+    /// that is open then, if one is. `alone` says whether nothing else reaches the mailbox that the thread may free then.
+    /// An error changes nothing.
     pub fn share(
         &mut self,
         alloc: Global,
@@ -26,19 +37,22 @@ impl State {
         thread: u32,
         gone: u32,
         top: ThreadState,
-    ) -> Result<Option<Act>, AllocError>
+        alone: bool,
+    ) -> Result<Option<Taken>, AllocError>
         requires there { (s : ThreadOf) × (thread_at self.old thread ≡ Some s) }
         requires room { HasRoom self.old }
         requires typed { (s : ThreadOf) → thread_at self.old thread ≡ Some s → IsTypedBySome (program_view code.now.program) (with_thread self.old thread (over (thread_view top) (below gone s))) }
         requires frame { (s : ThreadOf) → thread_at self.old thread ≡ Some s → (0 < length (thread_view top).frames) ⊎ (below gone s ≡ []) }
-        ensures ok { IfOk result (λ a. (s : ThreadOf) → thread_at self.old thread ≡ Some s → Shares (program_view code.now.program) limit (with_thread self.old thread (over (thread_view top) (below gone s))) thread (option_map act_view a) self.new) }
+        requires alone { (s : ThreadOf) → thread_at self.old thread ≡ Some s → TellsAlone (program_view code.now.program) (with_thread self.old thread (over (thread_view top) (below gone s))) thread (over (thread_view top) (below gone s)) alone }
+        ensures ok { IfOk result (λ a. (s : ThreadOf) → thread_at self.old thread ≡ Some s → Shares (program_view code.now.program) limit (with_thread self.old thread (over (thread_view top) (below gone s))) thread (taken_act a) self.new) }
+        ensures message { IfOk result (λ a. (k : ℕ) → taken_act a ≡ Some (ActReceive k) → taken_message a ≡ message_at self.old k) }
         ensures err { OnErr result (self.new ≡ self.old) }
     {
         let kept = self.set_aside(alloc, thread, top)?;
-        match self.take_open(alloc, code, limit, thread) {
-            Ok(act) => {
+        match self.take_open(alloc, code, limit, thread, alone) {
+            Ok(taken) => {
                 self.cover(alloc, thread, gone, kept);
-                Ok(act)
+                Ok(taken)
             }
             Err(AllocError) => {
                 self.restore(thread, kept);
@@ -54,18 +68,21 @@ impl State {
         code: &Executable,
         limit: u32,
         thread: u32,
-    ) -> Result<Option<Act>, AllocError>
+        alone: bool,
+    ) -> Result<Option<Taken>, AllocError>
         requires room { HasRoom self.old }
         requires ordered { IsOrdered self.old }
         requires live { ReferToLive self.old }
-        ensures ok { IfOk result (λ a. Shares (program_view code.now.program) limit self.old thread (option_map act_view a) self.new) }
+        requires alone { StandsAlone (program_view code.now.program) self.old thread alone }
+        ensures ok { IfOk result (λ a. Shares (program_view code.now.program) limit self.old thread (taken_act a) self.new) }
+        ensures message { IfOk result (λ a. (k : ℕ) → taken_act a ≡ Some (ActReceive k) → taken_message a ≡ message_at self.old k) }
         ensures err { OnErr result (self.new ≡ self.old) }
     {
-        let Some(act) = self.open_act(code, limit, thread) else {
+        let Some(act) = self.open_act(code, limit, thread, alone) else {
             return Ok(None);
         };
         match self.step(alloc, code, &Step { thread, act }) {
-            Ok(()) => Ok(Some(act)),
+            Ok(message) => Ok(Some(Taken { act, message })),
             // The act is enabled.
             Err(StepError::Disabled) => unreachable!(),
             Err(StepError::NoMemory) => Err(AllocError),

@@ -4,18 +4,18 @@ ghost use Rattle.pat_model.specs.Configs.{Thread as ThreadOf, start, thread_at, 
 ghost use Rattle.pat_core.specs.Views.{program_view};
 ghost use Rattle.pat_reduce_threads.specs.ThreadViews.{thread_view};
 
-use crate::places::{place_of, state_of, swap_at};
 use pat_executable::Executable;
+use pat_machine_placed::Placed;
 use pat_mailboxes::Mailboxes;
-use pat_reduce::{Config, ThreadState};
+use pat_reduce::ThreadState;
 use pat_sequences::Text;
 use std::alloc::{AllocError, Global};
 use std::marker::Model;
 
 /// A configuration, whose messages are kept by mailbox. Contracts see the configuration of the definitions, however it is kept.
 pub struct State {
-    /// All but the messages, as lists in ascending order of number.
-    pub(crate) config: Config,
+    /// All but the messages and live mailboxes.
+    pub(crate) placed: Placed,
     pub(crate) mailboxes: Mailboxes,
     /// The mailbox of the message that was sent last.
     pub(crate) latest: Option<u32>,
@@ -24,7 +24,7 @@ pub struct State {
 impl Drop for State {
     fn drop(self) {
         let State {
-            config: _,
+            placed: _,
             mailboxes: _,
             latest: _,
         } = self;
@@ -37,9 +37,9 @@ impl Model for State {
 
     ghost Value = { Config };
 
-    ghost view = { λ s. state_view s.config s.mailboxes.mailboxes };
+    ghost view = { λ s. state_view s.placed s.mailboxes.mailboxes };
 
-    ghost invariant = { λ s. IsState s.config s.latest s.mailboxes.mailboxes };
+    ghost invariant = { λ s. IsState s.placed s.latest s.mailboxes.mailboxes };
 }
 
 impl State {
@@ -47,10 +47,10 @@ impl State {
     pub fn start(alloc: Global, code: &Executable) -> Result<State, AllocError>
         ensures { IfOk result (λ s. s ≡ start (program_view code.now.program)) }
     {
-        let config = Config::start(alloc, code)?;
+        let placed = Placed::start(alloc, code)?;
         let mailboxes = Mailboxes::fixed(alloc, 0)?;
         Ok(State {
-            config,
+            placed,
             mailboxes,
             latest: None,
         })
@@ -60,7 +60,7 @@ impl State {
     pub fn thread(&self, thread: u32) -> Option<&ThreadState>
         ensures { option_map thread_view (option_copied result) ≡ thread_at self.now thread }
     {
-        state_of(self.config.threads.as_slice(), thread)
+        self.placed.thread(thread)
     }
 
     // Puts a state in the place of a thread's, which it gives back. It takes no memory.
@@ -69,24 +69,20 @@ impl State {
         ensures before { thread_at self.old thread ≡ Some (thread_view result) }
         ensures after { self.new ≡ with_thread self.old thread (thread_view state) }
     {
-        match place_of(self.config.threads.as_slice(), thread) {
-            Some(place) => swap_at(&mut self.config.threads, thread, place, state),
-            // The thread is there.
-            None => unreachable!(),
-        }
+        self.placed.swap(thread, state)
     }
 
     /// How many threads were made.
     pub fn threads_made(&self) -> u32
         ensures { result ≡ self.now.next_thread }
     {
-        self.config.next_thread
+        self.placed.threads_made()
     }
 
     /// The printed lines.
     pub fn printed(&self) -> &[Text]
         ensures { result.now ≡ self.now.printed }
     {
-        self.config.printed.as_slice()
+        self.placed.printed()
     }
 }

@@ -1,23 +1,16 @@
 // The top of a thread put in the place of its top frames, while those below stay where they are.
-ghost use Rattle.std.specs.Prelude.{◌≡◌, ◌≤◌, drop, length, map, Some, IfOk, IfErr, OnOk, OnErr};
+ghost use Rattle.std.specs.Prelude.{◌≡◌, ◌≤◌, length, Some, IfOk, OnOk, OnErr};
 ghost use Rattle.pat_model.specs.Configs.{Thread as ThreadOf, thread_at, with_thread};
-ghost use Rattle.pat_model.specs.Steps.{thread_of};
-ghost use Rattle.pat_reduce_threads.specs.ThreadViews.{control_view, frame_view, thread_view};
+ghost use Rattle.pat_reduce_threads.specs.ThreadViews.{thread_view};
 ghost use Rattle.pat_commits.specs.Tops.{below, over, with_below};
-ghost use Rattle.pat_machine_states.specs.Aside.{aside_view, IsAside};
+ghost use Rattle.pat_machine_threads.specs.Aside.{aside_view};
+ghost use Rattle.pat_machine_states.specs.Asides.{IsAside};
 
 use crate::State;
-use pat_reduce::{Frame, ThreadState};
-use pat_sequences::{Base, Stack, let_go};
+use pat_machine_threads::{Aside, joined, with_frames, with_room};
+use pat_reduce::ThreadState;
+use pat_sequences::let_go;
 use std::alloc::{AllocError, Global};
-use std::mem;
-
-/// The kept state of a thread, set aside: what is left of it without its frames, and these, with room for further ones.
-#[derive(Drop)]
-pub struct Aside {
-    pub rest: ThreadState,
-    pub frames: Base<Frame>,
-}
 
 impl State {
     /// Puts a state in the place of a thread's control and so many of its frames, those on top.
@@ -83,36 +76,4 @@ impl State {
         let top = self.swap(thread, rest);
         let_go(self.swap(thread, joined(alloc, top, gone, frames)));
     }
-}
-
-// Sets a state aside, with so much room. An error hands it back.
-fn with_room(alloc: Global, state: ThreadState, room: usize) -> Result<Aside, ThreadState>
-    ensures ok { IfOk result (λ kept. (aside_view kept ≡ thread_view state) × (kept.frames.1 ≡ room)) }
-    ensures err { IfErr result (λ own. thread_view own ≡ thread_view state) }
-{
-    let mut rest = state;
-    let frames = mem::replace(&mut rest.frames, Stack::new(alloc));
-    match Base::new(frames, room) {
-        Ok(frames) => Ok(Aside { rest, frames }),
-        Err(frames) => Err(with_frames(rest, frames)),
-    }
-}
-
-// The state with the frames of a base, but for so many, below its own.
-fn joined(alloc: Global, top: ThreadState, gone: u32, base: Base<Frame>) -> ThreadState
-    requires { length top.frames ≤ base.1 }
-    ensures { thread_view result ≡ over (thread_view top) (drop gone (map frame_view base.0)) }
-{
-    let mut top = top;
-    let own = mem::replace(&mut top.frames, Stack::new(alloc));
-    with_frames(top, base.cover(gone as usize, own))
-}
-
-// The state with these frames in place of its own.
-fn with_frames(state: ThreadState, frames: Stack<Frame>) -> ThreadState
-    ensures { thread_view result ≡ thread_of (control_view state.control) (map frame_view frames) }
-{
-    let mut state = state;
-    let_go(mem::replace(&mut state.frames, frames));
-    state
 }

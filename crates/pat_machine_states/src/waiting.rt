@@ -1,26 +1,45 @@
-// Threads that wait for a message.
-ghost use Rattle.std.specs.Prelude.{◌≡◌, ◌+◌, List, [], ◌∷◌, ◌++◌, Some, IfSome};
+// Threads that wait at guards, and what may end that.
+ghost use Rattle.std.specs.Prelude.{◌≡◌, ◌+◌, List, [], ◌∷◌, ◌++◌, Some, IfSome, IsTrue, ◌↔◌, option_copied, option_map};
 ghost use Rattle.pat_model.specs.Configs.{Message as MessageOf};
+ghost use Rattle.pat_model.specs.Steps.{ActFree, ActReceive};
+ghost use Rattle.pat_model_laws.specs.Laws.{IsEnabled};
 ghost use Rattle.pat_core.specs.Views.{program_view};
-ghost use Rattle.pat_reduce_threads.specs.ThreadViews.{thread_view};
-ghost use Rattle.pat_locality_laws.specs.Wakings.{IsWaiting, awaited};
+ghost use Rattle.pat_reduce_threads.specs.ThreadViews.{message_view};
+ghost use Rattle.pat_locality_laws.specs.Wakings.{IsWaiting};
+ghost use Rattle.pat_naming_laws.specs.Counting.{TellOfEach};
 
 use crate::State;
 use pat_executable::Executable;
-use pat_reduce::ThreadState;
-use pat_reduce_threads::guard_of;
+use pat_machine_names::Names;
+use pat_reduce::Message;
+use pat_reduce_threads::{guard_of, takes};
 
 impl State {
-    /// The mailbox that the thread waits at for nothing but a message, where it has no enabled step. It takes no memory.
-    pub fn awaited(&self, code: &Executable, thread: u32) -> Option<u32>
+    /// The mailbox that the thread waits at, if it is found to have no enabled step. It takes no memory.
+    pub fn awaited(&self, code: &Executable, names: &Names, thread: u32) -> Option<u32>
+        requires told { TellOfEach (program_view code.now.program) self.now names.now.times.items }
         ensures { IfSome result (IsWaiting (program_view code.now.program) self.now thread) }
     {
-        let state = self.thread(thread)?;
-        let mailbox = awaited(code, state)?;
-        if self.is_enabled(code, thread) {
+        let mailbox = self.guarded(code, thread)?;
+        if self.is_enabled(code, names, thread) {
             return None;
         }
         Some(mailbox)
+    }
+
+    /// Whether the thread may free the mailbox that it stands at a guard on. Only that is looked at. It takes no memory.
+    pub fn may_free_now(&self, code: &Executable, names: &Names, thread: u32) -> bool
+        requires told { TellOfEach (program_view code.now.program) self.now names.now.times.items }
+        ensures { IsTrue result ↔ IsEnabled (program_view code.now.program) self.now (record { thread = thread; act = ActFree }) }
+    {
+        let Some(state) = self.thread(thread) else {
+            return false;
+        };
+        let alone = names.is_named_by_control(code, state);
+        match guard_of(code, &state.control) {
+            Some(guard) => self.free_act(&guard, alone).is_some(),
+            None => false,
+        }
     }
 
     /// The mailbox of the last message, where that is the one that was sent last.
@@ -29,17 +48,35 @@ impl State {
     {
         self.latest
     }
-}
 
-// The mailbox whose guard the thread stands at, where it has no clause for freeing it.
-fn awaited(code: &Executable, state: &ThreadState) -> Option<u32>
-    ensures { result ≡ awaited (program_view code.now.program) (thread_view state.now) }
-{
-    match guard_of(code, &state.control) {
-        Some(guard) => match guard.free {
-            None => Some(guard.mailbox),
-            Some(_) => None,
-        },
-        None => None,
+    /// The message that was sent last, where it is pending and the last one. It takes no memory, and no walk.
+    pub fn last_message(&self) -> Option<&Message>
+        ensures { (ms : List MessageOf) (m : MessageOf) → self.now.messages ≡ ms ++ m ∷ [] → m.number + 1 ≡ self.now.next_message → option_map message_view (option_copied result) ≡ Some m }
+    {
+        let mailbox = self.latest?;
+        if !self.mailboxes.is_live(mailbox) {
+            return None;
+        }
+        let count = self.mailboxes.len(mailbox);
+        if count == 0 {
+            return None;
+        }
+        Some(self.mailboxes.get(mailbox, count - 1))
+    }
+
+    /// Whether the thread may receive the message that was sent last, where that is pending and the last one. It takes no memory, and no walk.
+    pub fn receives_last(&self, code: &Executable, thread: u32) -> bool
+        ensures { (ms : List MessageOf) (m : MessageOf) → self.now.messages ≡ ms ++ m ∷ [] → m.number + 1 ≡ self.now.next_message → IsTrue result ↔ IsEnabled (program_view code.now.program) self.now (record { thread = thread; act = ActReceive m.number }) }
+    {
+        let Some(state) = self.placed.thread(thread) else {
+            return false;
+        };
+        let Some(guard) = guard_of(code, &state.control) else {
+            return false;
+        };
+        match self.last_message() {
+            Some(message) => takes(&guard, message),
+            None => false,
+        }
     }
 }

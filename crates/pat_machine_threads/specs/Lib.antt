@@ -1,3 +1,4 @@
+pub mod Aside
 pub mod Bindings
 pub mod Handed
 pub mod Settling

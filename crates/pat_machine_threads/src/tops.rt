@@ -4,8 +4,8 @@ ghost use Rattle.std.specs.Prelude.{◌≡◌, reverse, take};
 use pat_reduce::Frame;
 use pat_sequences::Stack;
 
-// At most so many frames, those on top, from the bottom up.
-pub(crate) fn top_frames(frames: &Stack<Frame>, most: u32) -> &[Frame]
+/// At most so many frames, those on top, from the bottom up.
+pub fn top_frames(frames: &Stack<Frame>, most: u32) -> &[Frame]
     ensures { reverse result.now ≡ take most frames.now }
 {
     let all = frames.as_slice();

@@ -9,7 +9,7 @@ use Rattle.std.proofs.lemmas.Bool.Decides.{nat_tests}
 use Rattle.pat_model.specs.Programs.{is_among}
 use Rattle.pat_model.specs.Orders.{AscendsFrom}
 use Rattle.pat_commits.specs.Turns.{is_above}
-use Rattle.pat_machine_waits.specs.Waits.{StandsAt, FitsAt, IsPlaceAbove}
+use Rattle.pat_machine_waits.specs.Ascending.{StandsAt, FitsAt, IsPlaceAbove}
 
 above : (n : ℕ) (ts : List ℕ) (i d : ℕ) → AscendsFrom n ts → i < length ts → n ≤ get_or ts i d
 above n [] i d a h = omega arith

@@ -1,6 +1,8 @@
-//! Which threads may go on, and which sleep until a message comes.
+//! Which threads may go on, which are about to send, and which sleep at a guard.
 #![tactic(auto)]
 
+mod ascending;
 mod waits;
 
+pub use ascending::Ascending;
 pub use waits::Waits;

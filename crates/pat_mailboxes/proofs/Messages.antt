@@ -1,7 +1,6 @@
 -- Messages in order, and lists of mailboxes with one that changes.
-use Rattle.std.proofs.Common.{◌≡◌, ℕ, Bool, false, ◌||◌, zero, suc, ◌+◌, ◌<◌, ◌≤◌, List, [], ◌∷◌, ◌++◌, ⊎_elim, length, remove, slice_set, Option, Some, refl, sym, ap, ◌∙◌, subst, arith}
-use Rattle.std.specs.List.{AllByRecursion, list_any}
-use Rattle.std.proofs.lemmas.List.{nil_from_length}
+use Rattle.std.proofs.Common.{◌≡◌, ℕ, zero, suc, ◌+◌, ◌<◌, ◌≤◌, List, [], ◌∷◌, ◌++◌, ⊎_elim, length, remove, slice_set, Option, Some, refl, sym, ap, subst, arith}
+use Rattle.std.specs.List.{AllByRecursion}
 use Rattle.std.proofs.lemmas.Bool.{cases_eq}
 use Rattle.pat_reduce_threads.specs.declared.state.Message.{Message}
 use Rattle.pat_mailboxes.specs.Mailboxes.{Mailbox, mailbox_at, pending_in, pending_at, all_pending, Ascend, IsInOrder, AreInOrder}
@@ -75,11 +74,3 @@ pub all-part : (ms : List (Option Mailbox)) (b : ℕ) → length (pending_at ms 
 all-part [] b = omega arith
 all-part (m ∷ ms) zero = omega arith
 all-part (m ∷ ms) (suc b) = let rest = all-part ms b in omega arith
-
--- where nothing is pending, nothing passes
-none_at : (test : Message → Bool) (ms : List (Option Mailbox)) (b : ℕ) → all_pending ms ≡ 0 → list_any test (pending_at ms b) ≡ false
-none_at test ms b h = let part = all-part ms b in ap (list_any test) (nil_from_length (pending_at ms b) (omega arith))
-
-pub none_passes : (test : Message → Bool) (ms : List (Option Mailbox)) (bs : List ℕ) → all_pending ms ≡ 0 → list_any (λ b. list_any test (pending_at ms b)) bs ≡ false
-none_passes test ms [] h = refl
-none_passes test ms (b ∷ bs) h = ap (λ x. x || list_any (λ c. list_any test (pending_at ms c)) bs) (none_at test ms b h) ∙ none_passes test ms bs h

@@ -1,12 +1,8 @@
-//! Pending messages by mailbox, and how often each mailbox is named.
+//! Pending messages by mailbox.
 #![tactic(auto)]
 
 mod mailboxes;
-mod references;
 mod store;
-mod tags;
 
 pub use mailboxes::Mailboxes;
-pub use references::Refers;
-pub use store::{Entry, Store};
-pub use tags::Tags;
+pub use store::Store;

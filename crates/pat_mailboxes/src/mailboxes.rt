@@ -1,19 +1,17 @@
 // Mailboxes over a pool of queues.
-ghost use Rattle.std.specs.Prelude.{◌≡◌, ℕ, ◌+◌, ◌-◌, ◌<◌, ◌≤◌, max, [], ◌∷◌, ◌++◌, length, Some, None, IfOk, OnOk, OnErr, slice_get, slice_set, remove, is_some};
-ghost use Rattle.std.specs.List.{AllByRecursion, list_any};
-ghost use Rattle.pat_pool.specs.Queues.{IsFirst};
-ghost use Rattle.pat_mailboxes.specs.Mailboxes.{AreInOrder, IsLive, Mailbox, all_pending, is_received, mailbox_at, named_at, pending_at, refers_to};
+ghost use Rattle.std.specs.Prelude.{◌≡◌, ℕ, ◌+◌, ◌-◌, ◌<◌, ◌≤◌, max, [], ◌∷◌, ◌++◌, length, map, option_map, Some, None, IfOk, OnOk, OnErr, slice_get, slice_set, remove, is_some};
+ghost use Rattle.std.specs.List.{AllByRecursion};
+ghost use Rattle.pat_pool.specs.Queues.{Finds};
+ghost use Rattle.pat_mailboxes.specs.Mailboxes.{AreInOrder, IsLive, Mailbox, all_pending, mailbox_at, pending_at};
 
-use crate::Tags;
-use crate::references::Refers;
-use crate::store::{Entry, Store, entry_of};
+use crate::store::{Store, queue_of};
 use pat_pool::Test;
 use pat_reduce_threads::Message;
 use std::alloc::{AllocError, Global};
 use std::marker::Model;
 
-/// Mailboxes by number. Contracts see what is pending in each live one in order of number, and how often threads and
-/// messages name it; how many messages may be pending; and for how many further mailboxes there is room.
+/// Mailboxes by number. Contracts see what is pending in each live one in order of number, how many messages may be
+/// pending, and for how many further mailboxes there is room.
 pub struct Mailboxes {
     store: Store,
     spare: u32,
@@ -40,7 +38,7 @@ impl Model for Mailboxes {
 
     ghost view = { λ m. record { mailboxes = shown_in m.store; room = m.room; spare = m.spare } };
 
-    ghost invariant = { λ m. IsStore m.store m.room × (m.spare ≤ length m.store.ready.items) × (vec_len m.store.entries + m.spare ≤ vec_capacity m.store.entries) };
+    ghost invariant = { λ m. IsStore m.store m.room × (m.spare ≤ length m.store.ready.items) × (vec_len m.store.queues + m.spare ≤ vec_capacity m.store.queues) };
 }
 
 impl Mailboxes {
@@ -93,15 +91,13 @@ impl Mailboxes {
     pub fn create(&mut self, mailbox: u32)
         requires room { 0 < self.old.spare }
         requires next { mailbox ≡ length self.old.mailboxes }
-        ensures { self.new ≡ record { mailboxes = self.old.mailboxes ++ Some (record { pending = []; named = 0 }) ∷ []; room = self.old.room; spare = self.old.spare - 1 } }
+        ensures { self.new ≡ record { mailboxes = self.old.mailboxes ++ Some (record { pending = [] }) ∷ []; room = self.old.room; spare = self.old.spare - 1 } }
     {
         // The number is the place that the entry gets.
         let _ = mailbox;
         match self.store.ready.pop() {
             Some(queue) => {
-                self.store
-                    .entries
-                    .push_reserved(Some(Entry { queue, named: 0 }));
+                self.store.queues.push_reserved(Some(queue));
                 self.spare -= 1;
             }
             // A queue is ready for each mailbox for which there is room.
@@ -114,55 +110,20 @@ impl Mailboxes {
         requires room { all_pending self.old.mailboxes < self.old.room }
         requires live { IsLive self.old.mailboxes message.mailbox }
         requires last { AllByRecursion (λ m. m.number < message.number) (pending_at self.old.mailboxes message.mailbox) }
-        ensures { self.new ≡ record { mailboxes = slice_set self.old.mailboxes message.mailbox (Some (record { pending = pending_at self.old.mailboxes message.mailbox ++ message ∷ []; named = named_at self.old.mailboxes message.mailbox })); room = self.old.room; spare = self.old.spare } }
+        ensures { self.new ≡ record { mailboxes = slice_set self.old.mailboxes message.mailbox (Some (record { pending = pending_at self.old.mailboxes message.mailbox ++ message ∷ [] })); room = self.old.room; spare = self.old.spare } }
     {
-        let entry = entry_of(self.store.entries.as_slice(), message.mailbox);
-        self.store.pool.push_back(entry.queue, message);
+        let queue = queue_of(self.store.queues.as_slice(), message.mailbox);
+        self.store.pool.push_back(queue, message);
     }
 
-    /// The place of the message of the least number whose tag is received: bit t of `received` stands for tag t.
-    pub fn find(&self, mailbox: u32, received: u32) -> Option<u32>
+    /// The message of the least number that passes a test, and its place. It takes no memory.
+    pub fn find<P: Test<Message>>(&self, mailbox: u32, test: &P) -> Option<(u32, &Message)>
         requires { IsLive self.now.mailboxes mailbox }
-        ensures first { IsFirst (is_received received) (pending_at self.now.mailboxes mailbox) result }
+        ensures first { Finds (P.passes test.now) (pending_at self.now.mailboxes mailbox) (option_map (λ f. (f.0, f.1.now)) result) }
         ensures order { AreInOrder self.now.mailboxes }
     {
-        self.position(mailbox, &Tags { bits: received })
-    }
-
-    /// The place of the message of the least number that passes a test. It takes no memory.
-    pub fn position<P: Test<Message>>(&self, mailbox: u32, test: &P) -> Option<u32>
-        requires { IsLive self.now.mailboxes mailbox }
-        ensures first { IsFirst (P.passes test.now) (pending_at self.now.mailboxes mailbox) result }
-        ensures order { AreInOrder self.now.mailboxes }
-    {
-        let entry = entry_of(self.store.entries.as_slice(), mailbox);
-        self.store.pool.position(entry.queue, test)
-    }
-
-    /// Whether a message that is pending in one of these mailboxes has a mailbox among its values. It takes no memory.
-    pub fn refers(&self, owners: &[u32], mailbox: u32) -> bool
-        ensures { result ≡ list_any (λ b. list_any (refers_to mailbox) (pending_at self.now.mailboxes b)) owners.now }
-    {
-        if self.pending() == 0 {
-            return false;
-        }
-        for owner in owners {
-            if self.refers_in(*owner, mailbox) {
-                return true;
-            }
-        }
-        false
-    }
-
-    // Whether a message that is pending in a mailbox, if that is live, has another among its values.
-    fn refers_in(&self, owner: u32, mailbox: u32) -> bool
-        ensures { result ≡ list_any (refers_to mailbox) (pending_at self.now.mailboxes owner) }
-    {
-        if self.is_live(owner) {
-            self.position(owner, &Refers { mailbox }).is_some()
-        } else {
-            false
-        }
+        let queue = queue_of(self.store.queues.as_slice(), mailbox);
+        self.store.pool.find(queue, test)
     }
 
     /// Takes out the message at a place of those that are pending in a mailbox. It takes no memory.
@@ -170,10 +131,10 @@ impl Mailboxes {
         requires live { IsLive self.old.mailboxes mailbox }
         requires there { place < length (pending_at self.old.mailboxes mailbox) }
         ensures message { slice_get (pending_at self.old.mailboxes mailbox) place ≡ Some result }
-        ensures rest { self.new ≡ record { mailboxes = slice_set self.old.mailboxes mailbox (Some (record { pending = remove (pending_at self.old.mailboxes mailbox) place; named = named_at self.old.mailboxes mailbox })); room = self.old.room; spare = self.old.spare } }
+        ensures rest { self.new ≡ record { mailboxes = slice_set self.old.mailboxes mailbox (Some (record { pending = remove (pending_at self.old.mailboxes mailbox) place })); room = self.old.room; spare = self.old.spare } }
     {
-        let entry = entry_of(self.store.entries.as_slice(), mailbox);
-        self.store.pool.take_at(entry.queue, place)
+        let queue = queue_of(self.store.queues.as_slice(), mailbox);
+        self.store.pool.take_at(queue, place)
     }
 
     /// How many messages are pending in a mailbox.
@@ -181,8 +142,8 @@ impl Mailboxes {
         requires { IsLive self.now.mailboxes mailbox }
         ensures { result ≡ length (pending_at self.now.mailboxes mailbox) }
     {
-        let entry = entry_of(self.store.entries.as_slice(), mailbox);
-        self.store.pool.len(entry.queue)
+        let queue = queue_of(self.store.queues.as_slice(), mailbox);
+        self.store.pool.len(queue)
     }
 
     /// The message at a place of those that are pending in a mailbox.
@@ -191,42 +152,17 @@ impl Mailboxes {
         requires there { place < length (pending_at self.now.mailboxes mailbox) }
         ensures { slice_get (pending_at self.now.mailboxes mailbox) place ≡ Some result.now }
     {
-        let entry = entry_of(self.store.entries.as_slice(), mailbox);
-        self.store.pool.get(entry.queue, place)
+        let queue = queue_of(self.store.queues.as_slice(), mailbox);
+        self.store.pool.get(queue, place)
     }
 
-    /// Counts that a mailbox is named so many more times. It takes no memory.
-    pub fn name(&mut self, mailbox: u32, times: u32)
-        requires live { IsLive self.old.mailboxes mailbox }
-        requires fits { named_at self.old.mailboxes mailbox + times < 4294967296 }
-        ensures { self.new ≡ record { mailboxes = slice_set self.old.mailboxes mailbox (Some (record { pending = pending_at self.old.mailboxes mailbox; named = named_at self.old.mailboxes mailbox + times })); room = self.old.room; spare = self.old.spare } }
-    {
-        let entry = entry_of(self.store.entries.as_slice(), mailbox);
-        self.store.entries[mailbox as usize] = Some(Entry {
-            queue: entry.queue,
-            named: entry.named + times,
-        });
-    }
-
-    /// Counts that a mailbox is named so many times less. It takes no memory.
-    pub fn unname(&mut self, mailbox: u32, times: u32)
-        requires live { IsLive self.old.mailboxes mailbox }
-        requires counted { times ≤ named_at self.old.mailboxes mailbox }
-        ensures { self.new ≡ record { mailboxes = slice_set self.old.mailboxes mailbox (Some (record { pending = pending_at self.old.mailboxes mailbox; named = named_at self.old.mailboxes mailbox - times })); room = self.old.room; spare = self.old.spare } }
-    {
-        let entry = entry_of(self.store.entries.as_slice(), mailbox);
-        self.store.entries[mailbox as usize] = Some(Entry {
-            queue: entry.queue,
-            named: entry.named - times,
-        });
-    }
-
-    /// How often threads and messages name a mailbox.
-    pub fn named(&self, mailbox: u32) -> u32
+    /// The messages that are pending in a mailbox, in order.
+    pub fn list(&self, alloc: Global, mailbox: u32) -> Result<Vec<&Message>, AllocError>
         requires { IsLive self.now.mailboxes mailbox }
-        ensures { result ≡ named_at self.now.mailboxes mailbox }
+        ensures { IfOk result (λ ms. map (λ m. m.now) ms.items ≡ pending_at self.now.mailboxes mailbox) }
     {
-        entry_of(self.store.entries.as_slice(), mailbox).named
+        let queue = queue_of(self.store.queues.as_slice(), mailbox);
+        self.store.pool.list(alloc, queue)
     }
 
     /// Frees a mailbox that has no message. It takes no memory.
@@ -235,9 +171,9 @@ impl Mailboxes {
         requires empty { pending_at self.old.mailboxes mailbox ≡ [] }
         ensures { self.new ≡ record { mailboxes = slice_set self.old.mailboxes mailbox None; room = self.old.room; spare = self.old.spare } }
     {
-        let entry = entry_of(self.store.entries.as_slice(), mailbox);
-        self.store.entries[mailbox as usize] = None;
-        self.store.pool.release(entry.queue);
+        let queue = queue_of(self.store.queues.as_slice(), mailbox);
+        self.store.queues[mailbox as usize] = None;
+        self.store.pool.release(queue);
     }
 
     /// How many messages are pending.
@@ -251,7 +187,7 @@ impl Mailboxes {
     pub fn is_live(&self, mailbox: u32) -> bool
         ensures { result ≡ is_some (mailbox_at self.now.mailboxes mailbox) }
     {
-        match self.store.entries.get(mailbox as usize) {
+        match self.store.queues.get(mailbox as usize) {
             Some(Some(_)) => true,
             Some(None) => false,
             None => false,

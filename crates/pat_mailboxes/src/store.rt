@@ -1,24 +1,17 @@
 // The queues of mailboxes.
-ghost use Rattle.std.specs.Prelude.{◌≡◌, ◌+◌, ◌≤◌, [], length, Some, IfOk, OnOk, is_ok, if◌then◌else◌, slice_get, vec_len, vec_capacity};
-ghost use Rattle.pat_mailboxes.specs.declared.store.Entry.{Entry as EntryOf};
+ghost use Rattle.std.specs.Prelude.{◌≡◌, ℕ, ◌+◌, ◌≤◌, [], length, Some, IfOk, OnOk, is_ok, if◌then◌else◌, slice_get, vec_len, vec_capacity};
 ghost use Rattle.pat_mailboxes.specs.Kept.{IsStore, shown_in};
 
 use pat_pool::Pool;
 use pat_reduce_threads::Message;
 use std::alloc::{AllocError, Global};
 
-/// A live mailbox: the queue of its messages, and how often it is named.
-#[derive(Clone, Copy)]
-pub struct Entry {
-    pub queue: u32,
-    pub named: u32,
-}
-
 /// Mailboxes by number, each with a queue of one pool.
 #[derive(Drop)]
 pub struct Store {
     pub pool: Pool<Message>,
-    pub entries: Vec<Option<Entry>>,
+    /// Of each live mailbox.
+    pub queues: Vec<Option<u32>>,
     /// Queues that were opened ahead.
     pub ready: Vec<u32>,
 }
@@ -31,7 +24,7 @@ impl Store {
         let pool = Pool::fixed(alloc, room)?;
         Ok(Store {
             pool,
-            entries: Vec::new(alloc),
+            queues: Vec::new(alloc),
             ready: Vec::new(alloc),
         })
     }
@@ -41,13 +34,13 @@ impl Store {
         requires { IsStore self.old room }
         ensures store { IsStore self.new room }
         ensures same { shown_in self.new ≡ shown_in self.old }
-        ensures len { vec_len self.new.entries ≡ vec_len self.old.entries }
-        ensures capacity { vec_capacity self.old.entries ≤ vec_capacity self.new.entries }
+        ensures len { vec_len self.new.queues ≡ vec_len self.old.queues }
+        ensures capacity { vec_capacity self.old.queues ≤ vec_capacity self.new.queues }
         ensures more { length self.old.ready.items ≤ length self.new.ready.items }
         ensures ready { OnOk result (mailboxes ≤ length self.new.ready.items) }
-        ensures room { OnOk result (vec_len self.new.entries + mailboxes ≤ vec_capacity self.new.entries) }
+        ensures room { OnOk result (vec_len self.new.queues + mailboxes ≤ vec_capacity self.new.queues) }
     {
-        self.entries.reserve(mailboxes as usize)?;
+        self.queues.reserve(mailboxes as usize)?;
         for _ in self.ready.len()..mailboxes as usize {
             self.open(room)?;
         }
@@ -59,7 +52,7 @@ impl Store {
         requires { IsStore self.old room }
         ensures store { IsStore self.new room }
         ensures same { shown_in self.new ≡ shown_in self.old }
-        ensures entries { self.new.entries ≡ self.old.entries }
+        ensures queues { self.new.queues ≡ self.old.queues }
         ensures ready { length self.new.ready.items ≡ (if is_ok result then length self.old.ready.items + 1 else length self.old.ready.items) }
     {
         self.ready.reserve(1)?;
@@ -69,13 +62,13 @@ impl Store {
     }
 }
 
-/// The entry of a live mailbox.
-pub(crate) fn entry_of(entries: &[Option<Entry>], mailbox: u32) -> Entry
-    requires { (e : EntryOf) × (slice_get entries.now mailbox ≡ Some (Some e)) }
-    ensures { slice_get entries.now mailbox ≡ Some (Some result) }
+/// The queue of a live mailbox.
+pub(crate) fn queue_of(queues: &[Option<u32>], mailbox: u32) -> u32
+    requires { (q : ℕ) × (slice_get queues.now mailbox ≡ Some (Some q)) }
+    ensures { slice_get queues.now mailbox ≡ Some (Some result) }
 {
-    match entries[mailbox as usize] {
-        Some(entry) => entry,
+    match queues[mailbox as usize] {
+        Some(queue) => queue,
         // The mailbox is live.
         None => unreachable!(),
     }

@@ -1,10 +1,10 @@
--- Patterns in boxes, seen as patterns of the definitions.
+-- Patterns of shared parts, seen as patterns of the definitions.
 use Rattle.std.specs.Prelude.{ℕ, List, [], ◌∷◌, map, slice_index_or}
 use Rattle.pat_words.specs.Patterns.{Pat, Zero, One, Tag, Sum, Prod, Star, Var}
 use Rattle.pat_patterns.specs.declared.pattern.Pattern.{Pattern}
 use Rattle.pat_patterns.specs.declared.pattern.Pattern.TheVariants.{Zero as CodeZero, One as CodeOne, Tag as CodeTag, Sum' as CodeSum, Prod' as CodeProd, Star' as CodeStar, Var as CodeVar}
 
--- the pattern without its boxes
+-- the pattern without who shares it
 abbrev pub pattern_view : Pattern → Pat
 pattern_view CodeZero = Zero
 pattern_view CodeOne = One
@@ -14,7 +14,7 @@ pattern_view (CodeProd p e q f) = Prod (pattern_view e) (pattern_view f)
 pattern_view (CodeStar p e) = Star (pattern_view e)
 pattern_view (CodeVar k) = Var k
 
--- the patterns of a list without their boxes
+-- the patterns of a list without who shares them
 abbrev pub patterns_view : List Pattern → List Pat
 patterns_view ps = map pattern_view ps
 

@@ -5,6 +5,7 @@ ghost use Rattle.pat_patterns.specs.Views.{pattern_view};
 
 use crate::pattern::Pattern;
 use std::alloc::{AllocError, Global};
+use std::sync::Arc;
 
 /// The sum: 0 is left out, and of two same sides one.
 pub fn sum(alloc: Global, left: Pattern, right: Pattern) -> Result<Pattern, AllocError>
@@ -16,7 +17,7 @@ pub fn sum(alloc: Global, left: Pattern, right: Pattern) -> Result<Pattern, Allo
     if right.is_zero() || left.is_same(&right) {
         return Ok(left);
     }
-    Ok(Pattern::Sum(Box::new(alloc, left)?, Box::new(alloc, right)?))
+    Ok(Pattern::Sum(Arc::new(alloc, left)?, Arc::new(alloc, right)?))
 }
 
 /// The product: with 0 it is 0, and 1 is left out.
@@ -32,7 +33,7 @@ pub fn product(alloc: Global, left: Pattern, right: Pattern) -> Result<Pattern, 
     if right.is_one() {
         return Ok(left);
     }
-    Ok(Pattern::Prod(Box::new(alloc, left)?, Box::new(alloc, right)?))
+    Ok(Pattern::Prod(Arc::new(alloc, left)?, Arc::new(alloc, right)?))
 }
 
 /// The star: that of 0 and that of 1 are 1.
@@ -42,5 +43,5 @@ pub fn star(alloc: Global, part: Pattern) -> Result<Pattern, AllocError>
     if part.is_zero() || part.is_one() {
         return Ok(Pattern::One);
     }
-    Ok(Pattern::Star(Box::new(alloc, part)?))
+    Ok(Pattern::Star(Arc::new(alloc, part)?))
 }

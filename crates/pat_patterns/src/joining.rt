@@ -6,6 +6,7 @@ ghost use Rattle.pat_patterns.specs.Views.{pattern_view, patterns_view, joined, 
 use crate::pattern::Pattern;
 use pat_sequences::Stack;
 use std::alloc::{AllocError, Global};
+use std::sync::Arc;
 
 /// Takes the pattern on top.
 pub fn take_one(done: &mut Stack<Pattern>) -> Pattern
@@ -35,7 +36,7 @@ pub fn join_sum(alloc: Global, done: &mut Stack<Pattern>) -> Result<(), AllocErr
     ensures { OnOk result (patterns_view done.new ≡ joined Sum (patterns_view done.old)) }
 {
     let (left, right) = take_two(done);
-    let node = Pattern::Sum(Box::new(alloc, left)?, Box::new(alloc, right)?);
+    let node = Pattern::Sum(Arc::new(alloc, left)?, Arc::new(alloc, right)?);
     done.push(node)
 }
 
@@ -46,7 +47,7 @@ pub fn join_product(alloc: Global, done: &mut Stack<Pattern>) -> Result<(), Allo
     ensures { OnOk result (patterns_view done.new ≡ joined Prod (patterns_view done.old)) }
 {
     let (left, right) = take_two(done);
-    let node = Pattern::Prod(Box::new(alloc, left)?, Box::new(alloc, right)?);
+    let node = Pattern::Prod(Arc::new(alloc, left)?, Arc::new(alloc, right)?);
     done.push(node)
 }
 
@@ -57,6 +58,6 @@ pub fn join_star(alloc: Global, done: &mut Stack<Pattern>) -> Result<(), AllocEr
     ensures { OnOk result (patterns_view done.new ≡ joined_one Star (patterns_view done.old)) }
 {
     let part = take_one(done);
-    let node = Pattern::Star(Box::new(alloc, part)?);
+    let node = Pattern::Star(Arc::new(alloc, part)?);
     done.push(node)
 }

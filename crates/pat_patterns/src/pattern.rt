@@ -1,14 +1,13 @@
 // Patterns, their copies and their comparison.
 //
-// A pattern may be many thousand levels deep, so what makes patterns along one keeps them on a
-// stack of its own: a call then takes about a hundred bytes of the thread's stack a level.
-ghost use Rattle.std.specs.Prelude.{◌≡◌, ◌∷◌, IfOk, OnOk, IsTrue, ◌↔◌};
+// The parts of a pattern are shared: a copy is one more owner of them, and takes no walk. They may
+// have owners in several threads, since a program is lent to threads.
+ghost use Rattle.std.specs.Prelude.{◌≡◌, IfOk, IsTrue, ◌↔◌};
 ghost use Rattle.pat_words.specs.Patterns.{is_zero, is_one};
-ghost use Rattle.pat_patterns.specs.Views.{pattern_view, patterns_view};
+ghost use Rattle.pat_patterns.specs.Views.{pattern_view};
 
-use crate::joining::{join_product, join_star, join_sum, take_one};
-use pat_sequences::Stack;
-use std::alloc::{AllocError, Global};
+use std::alloc::AllocError;
+use std::sync::Arc;
 
 /// A pattern over tags and variables.
 #[derive(Debug, Drop)]
@@ -20,23 +19,35 @@ pub enum Pattern {
     /// The word of one message with the tag.
     Tag(u8),
     /// The words of either side.
-    Sum(Box<Pattern>, Box<Pattern>),
+    Sum(Arc<Pattern>, Arc<Pattern>),
     /// The sums of a word of each side.
-    Prod(Box<Pattern>, Box<Pattern>),
+    Prod(Arc<Pattern>, Arc<Pattern>),
     /// The sums of any number of words.
-    Star(Box<Pattern>),
+    Star(Arc<Pattern>),
     /// The words of a variable.
     Var(u32),
 }
 
 impl Pattern {
-    /// A second pattern, the same.
-    pub fn copy(&self, alloc: Global) -> Result<Pattern, AllocError>
+    /// A second pattern, the same, of the same parts.
+    pub fn copy(&self) -> Result<Pattern, AllocError>
         ensures { IfOk result (λ p. pattern_view p ≡ pattern_view self.now) }
     {
-        let mut done = Stack::new(alloc);
-        copy_onto(alloc, self, &mut done)?;
-        Ok(take_one(&mut done))
+        match self {
+            Pattern::Zero => Ok(Pattern::Zero),
+            Pattern::One => Ok(Pattern::One),
+            Pattern::Tag(tag) => Ok(Pattern::Tag(*tag)),
+            Pattern::Var(number) => Ok(Pattern::Var(*number)),
+            Pattern::Sum(left, right) => Ok(Pattern::Sum(
+                Arc::try_clone(left)?,
+                Arc::try_clone(right)?,
+            )),
+            Pattern::Prod(left, right) => Ok(Pattern::Prod(
+                Arc::try_clone(left)?,
+                Arc::try_clone(right)?,
+            )),
+            Pattern::Star(part) => Ok(Pattern::Star(Arc::try_clone(part)?)),
+        }
     }
 
     /// Whether the patterns are the same.
@@ -70,31 +81,5 @@ impl Pattern {
         ensures { result ≡ is_one (pattern_view self.now) }
     {
         matches!(self, Pattern::One)
-    }
-}
-
-/// Puts a copy of the pattern on the stack.
-pub fn copy_onto(alloc: Global, p: &Pattern, done: &mut Stack<Pattern>) -> Result<(), AllocError>
-    ensures { OnOk result (patterns_view done.new ≡ pattern_view p.now ∷ patterns_view done.old) }
-{
-    match p {
-        Pattern::Zero => done.push(Pattern::Zero),
-        Pattern::One => done.push(Pattern::One),
-        Pattern::Tag(tag) => done.push(Pattern::Tag(*tag)),
-        Pattern::Var(number) => done.push(Pattern::Var(*number)),
-        Pattern::Sum(left, right) => {
-            copy_onto(alloc, left, done)?;
-            copy_onto(alloc, right, done)?;
-            join_sum(alloc, done)
-        }
-        Pattern::Prod(left, right) => {
-            copy_onto(alloc, left, done)?;
-            copy_onto(alloc, right, done)?;
-            join_product(alloc, done)
-        }
-        Pattern::Star(part) => {
-            copy_onto(alloc, part, done)?;
-            join_star(alloc, done)
-        }
     }
 }

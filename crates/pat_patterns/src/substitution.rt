@@ -7,7 +7,7 @@ ghost use Rattle.pat_patterns.specs.Views.{pattern_view, patterns_view, joined, 
 
 use crate::building::{product, star, sum};
 use crate::joining::{take_one, take_two};
-use crate::pattern::{Pattern, copy_onto};
+use crate::pattern::Pattern;
 use pat_sequences::Stack;
 use std::alloc::{AllocError, Global};
 
@@ -37,7 +37,7 @@ fn subst_onto(
         Pattern::Zero => done.push(Pattern::Zero),
         Pattern::One => done.push(Pattern::One),
         Pattern::Tag(tag) => done.push(Pattern::Tag(*tag)),
-        Pattern::Var(number) => copy_onto(alloc, &values[*number as usize], done),
+        Pattern::Var(number) => done.push(values[*number as usize].copy()?),
         Pattern::Sum(left, right) => {
             subst_onto(alloc, left, values, done)?;
             subst_onto(alloc, right, values, done)?;

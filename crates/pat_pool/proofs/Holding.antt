@@ -1,7 +1,7 @@
 -- What nodes hold, while one of them changes.
 use Rattle.std.proofs.Common.{◌≡◌, ℕ, zero, suc, ◌+◌, ◌<◌, List, [], ◌∷◌, ◌++◌, ⊎_elim, length, get_or, remove, slice_index, slice_set, slice_get, Option, Some, None, IsSome, option_to_list, refl, sym, ap, ◌∙◌, subst, arith, append_assoc, set-set, length-set, length-append, get_or-set_same, get_or-set_other}
 use Rattle.std.proofs.lemmas.Bool.{cases_eq}
-use Rattle.std.proofs.lemmas.List.{map-append, get_or_read}
+use Rattle.std.proofs.lemmas.List.{map-append}
 use Rattle.pat_pool.specs.Nodes.{times, sum_over}
 use Rattle.pat_pool.specs.Chained.{IsChained, queue_nodes, nodes_in}
 use Rattle.pat_pool.specs.Pooled.{values_of, AreFull, contents_of, IsHolding}
@@ -241,26 +241,16 @@ module _ {T : Type 0} where
   not_none : (o : Option T) → IsSome o → o ≡ None → ⊥
   not_none o s e = let t : IsSome {T = T} None = subst IsSome e s in absurd cc
 
-  -- what the code finds in a queue's node
-  module _ (chains : Chains) (held : List (Option T)) (q i k : ℕ) (o : Option T) (h : IsHolding chains held) (there : i < length (get_or (contents_of held (queue_nodes chains)) q [])) (node : k ≡ slice_index (nodes_in (queue_nodes chains) q) i) (read : o ≡ get_or held k o) where
+  -- what a queue's node holds
+  module _ (chains : Chains) (held : List (Option T)) (q i k : ℕ) (o : Option T) (h : IsHolding chains held) (there : i < length (get_or (contents_of held (queue_nodes chains)) q [])) (node : k ≡ slice_index (nodes_in (queue_nodes chains) q) i) (read : o ≡ get_or held k None) where
     found_is : o ≡ get_or held (slice_index (nodes_in (queue_nodes chains) q) i) None
-    found_is =
-        let v = value_in chains held q i h there in
-        get_or_read held k o (subst (λ n. n < length held) (sym node) v.3) read None ∙ ap (λ n. get_or held n None) node
+    found_is = read ∙ ap (λ n. get_or held n None) node
 
     pub found : slice_get (get_or (contents_of held (queue_nodes chains)) q []) i ≡ o
     found = (value_in chains held q i h there).1 ∙ sym found_is
 
-    pub found_some : o ≡ None → ⊥
-    found_some e = not_none o (subst IsSome (sym found_is) (value_in chains held q i h there).2) e
+    pub found_some : IsSome o
+    found_some = subst IsSome (sym found_is) (value_in chains held q i h there).2
 
-  -- and what it takes out
-  module _ (chains : Chains) (held : List (Option T)) (q i k : ℕ) (o : Option T) (h : IsHolding chains held) (there : i < length (get_or (contents_of held (queue_nodes chains)) q [])) (node : k ≡ slice_index (nodes_in (queue_nodes chains) q) i) (read : o ≡ get_or held k None) where
-    taken_is : o ≡ get_or held (slice_index (nodes_in (queue_nodes chains) q) i) None
-    taken_is = read ∙ ap (λ n. get_or held n None) node
-
-    pub taken_there : slice_get (get_or (contents_of held (queue_nodes chains)) q []) i ≡ o
-    taken_there = (value_in chains held q i h there).1 ∙ sym taken_is
-
-    pub taken_some : o ≡ None → ⊥
-    taken_some e = not_none o (subst IsSome (sym taken_is) (value_in chains held q i h there).2) e
+    pub not_empty : o ≡ None → ⊥
+    not_empty e = not_none o found_some e

@@ -133,6 +133,12 @@ module _ (links : List ℕ) (first spare : ℕ) (queues : List Chain) where
         let fits = l.fits in
         omega arith
 
+    -- the node at the last place
+    pub last_at : (place : ℕ) (loose : List ℕ) → IsLinked links first spare queues loose → place + 1 ≡ c.len → c.last ≡ slice_index (nodes_in (map (nodes_of links) queues) q) place
+    last_at place loose l last =
+        let before : c.len - 1 ≡ place = omega arith in
+        sym (ap (λ ns. slice_index ns place) own_nodes ∙ ap (slice_index (nodes_of links c)) (sym before) ∙ own_end loose l (omega arith))
+
     pub first_of_queue : (loose : List ℕ) → IsLinked links first spare queues loose → 0 < c.len → c.first < length links
     first_of_queue loose l some =
         let there = queue_is_node q 0 (let size = own_length in omega arith) loose l in

@@ -1,5 +1,5 @@
 -- The queues that a pool holds.
-use Rattle.std.specs.Prelude.{◌≡◌, ℕ, Bool, false, List, [], ◌∷◌, ◌++◌, length, map, get_or, Option, Some, None, IsSome, slice_get}
+use Rattle.std.specs.Prelude.{◌≡◌, ℕ, List, [], ◌∷◌, ◌++◌, length, map, get_or, Option, Some, None, IsSome, slice_get}
 use Rattle.std.specs.Option.{option_to_list}
 use Rattle.std.specs.List.{AllByRecursion}
 use Rattle.pat_pool.specs.Chained.{IsChained, queue_nodes, nodes_in}
@@ -53,8 +53,3 @@ IsEmptyIfClosed (Some (Closed _)) values = values ≡ []
 pub record AreMarked {T : Type 0} (marks : List Mark) (queues : List (List T)) : Type 0 where
   pub each : length marks ≡ length queues
   pub closed : (q : ℕ) → IsEmptyIfClosed (slice_get marks q) (get_or queues q [])
-
--- whether what is held passes
-abbrev pub passes_held : {T : Type 0} → (T → Bool) → Option T → Bool
-passes_held test None = false
-passes_held test (Some v) = test v

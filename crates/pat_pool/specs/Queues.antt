@@ -22,7 +22,7 @@ pub record Becomes {T : Type 0} (old new : List (Option (List T))) (q : ℕ) (qu
 abbrev pub NonePasses : {T : Type 0} → (T → Bool) → List T → Type 0
 NonePasses test values = AllByRecursion (λ v. test v ≡ false) values
 
--- the place of the first value that passes, or none where none does
-abbrev pub IsFirst : {T : Type 0} → (T → Bool) → List T → Option ℕ → Type 0
-IsFirst {T} test values (Some place) = (value : T) × (slice_get values place ≡ Some value) × (test value ≡ true) × NonePasses test (take place values)
-IsFirst test values None = NonePasses test values
+-- the first value that passes, with its place; or none where none does
+abbrev pub Finds : {T : Type 0} → (T → Bool) → List T → Option (ℕ × T) → Type 0
+Finds test values (Some (place, value)) = (slice_get values place ≡ Some value) × (test value ≡ true) × NonePasses test (take place values)
+Finds test values None = NonePasses test values

@@ -77,6 +77,10 @@ impl Chains {
         ensures { result ≡ slice_index (nodes_in (queue_nodes self.now) queue) place }
     {
         let chain = self.queues[queue as usize];
+        // No walk leads to the last one.
+        if place + 1 == chain.len {
+            return chain.last;
+        }
         node_at(self.links.as_slice(), chain.first, chain.len, place)
     }
 

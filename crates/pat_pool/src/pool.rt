@@ -1,6 +1,6 @@
 // A pool of queues.
-ghost use Rattle.std.specs.Prelude.{◌≡◌, ◌≢◌, ℕ, ◌+◌, ◌-◌, ◌<◌, max, List, [], ◌∷◌, ◌++◌, length, Some, None, IfOk, OnOk, OnErr, IfSome, IfNone, slice_get, remove};
-ghost use Rattle.pat_pool.specs.Queues.{Becomes, IsFirst, IsLive, queue_at, values_at};
+ghost use Rattle.std.specs.Prelude.{◌≡◌, ◌≢◌, ℕ, ◌+◌, ◌-◌, ◌<◌, max, List, [], ◌∷◌, ◌++◌, length, map, option_map, Some, None, IfOk, OnOk, OnErr, IfSome, IfNone, slice_get, remove};
+ghost use Rattle.pat_pool.specs.Queues.{Becomes, Finds, IsLive, queue_at, values_at};
 
 use crate::Test;
 use crate::region::Region;
@@ -145,12 +145,20 @@ impl<T: Drop> Pool<T> {
         self.region.get(queue, place)
     }
 
-    /// The place of the first value of a queue that passes a test. It takes no memory.
-    pub fn position<P: Test<T>>(&self, queue: u32, test: &P) -> Option<u32>
+    /// The values of a queue, in order.
+    pub fn list(&self, alloc: Global, queue: u32) -> Result<Vec<&T>, AllocError>
         requires { IsLive self.now.0 queue }
-        ensures { IsFirst (P.passes test.now) (values_at self.now.0 queue) result }
+        ensures { IfOk result (λ vs. map (λ v. v.now) vs.items ≡ values_at self.now.0 queue) }
     {
-        self.region.position(queue, test)
+        self.region.list(alloc, queue)
+    }
+
+    /// The first value of a queue that passes a test, and its place. It takes no memory.
+    pub fn find<P: Test<T>>(&self, queue: u32, test: &P) -> Option<(u32, &T)>
+        requires { IsLive self.now.0 queue }
+        ensures { Finds (P.passes test.now) (values_at self.now.0 queue) (option_map (λ f. (f.0, f.1.now)) result) }
+    {
+        self.region.find(queue, test)
     }
 
     /// How many values a queue has.

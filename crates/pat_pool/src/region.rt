@@ -1,7 +1,7 @@
 // Nodes with what they hold.
-ghost use Rattle.std.specs.Prelude.{◌≡◌, ℕ, ◌+◌, ◌<◌, ◌≤◌, List, [], ◌∷◌, ◌++◌, length, get_or, Some, None, OnOk, OnErr, slice_get, slice_set, remove, vec_len, vec_capacity};
-ghost use Rattle.pat_pool.specs.Pooled.{IsRegion, contents, passes_held};
-ghost use Rattle.pat_pool.specs.Queues.{IsFirst};
+ghost use Rattle.std.specs.Prelude.{◌≡◌, ℕ, ◌+◌, ◌<◌, ◌≤◌, List, [], ◌∷◌, ◌++◌, length, map, option_map, get_or, Some, None, IfOk, IsSome, OnOk, OnErr, slice_get, slice_set, remove, vec_len, vec_capacity};
+ghost use Rattle.pat_pool.specs.Pooled.{IsRegion, contents};
+ghost use Rattle.pat_pool.specs.Queues.{Finds};
 
 use crate::Test;
 use crate::chains::Chains;
@@ -127,24 +127,37 @@ impl<T: Drop> Region<T> {
         ensures { slice_get (get_or (contents self.now) queue []) place ≡ Some result.now }
     {
         let node = self.chains.node_at(queue, place);
-        match &self.held[node as usize] {
-            Some(value) => value,
-            // A node of a queue holds a value.
-            None => unreachable!(),
-        }
+        value_at(self.held.as_slice(), node)
     }
 
-    /// The place of the first value of a queue that passes a test.
-    pub(crate) fn position<P: Test<T>>(&self, queue: u32, test: &P) -> Option<u32>
+    /// The values of a queue, in order.
+    pub(crate) fn list(&self, alloc: Global, queue: u32) -> Result<Vec<&T>, AllocError>
         requires region { IsRegion self.now }
         requires there { queue < length (contents self.now) }
-        ensures { IsFirst (P.passes test.now) (get_or (contents self.now) queue []) result }
+        ensures { IfOk result (λ vs. map (λ v. v.now) vs.items ≡ get_or (contents self.now) queue []) }
+    {
+        let chain = self.chains.queues[queue as usize];
+        let mut values = Vec::new(alloc);
+        let mut node = chain.first;
+        for _ in 0..chain.len {
+            values.push(value_at(self.held.as_slice(), node))?;
+            node = self.chains.links[node as usize];
+        }
+        Ok(values)
+    }
+
+    /// The first value of a queue that passes a test, and its place.
+    pub(crate) fn find<P: Test<T>>(&self, queue: u32, test: &P) -> Option<(u32, &T)>
+        requires region { IsRegion self.now }
+        requires there { queue < length (contents self.now) }
+        ensures { Finds (P.passes test.now) (get_or (contents self.now) queue []) (option_map (λ f. (f.0, f.1.now)) result) }
     {
         let chain = self.chains.queues[queue as usize];
         let mut node = chain.first;
         for place in 0..chain.len {
-            if holds_passing(self.held.as_slice(), node, test) {
-                return Some(place);
+            let value = value_at(self.held.as_slice(), node);
+            if test.passes(value) {
+                return Some((place, value));
             }
             node = self.chains.links[node as usize];
         }
@@ -170,13 +183,14 @@ fn take_out<T>(held: &mut Vec<Option<T>>, node: u32) -> Option<T>
     mem::replace(&mut held[node as usize], None)
 }
 
-// Whether what a node holds passes.
-fn holds_passing<T, P: Test<T>>(held: &[Option<T>], node: u32, test: &P) -> bool
-    requires { node < length held.now }
-    ensures { result ≡ passes_held (P.passes test.now) (get_or held.now node None) }
+// The value that a node holds.
+fn value_at<T>(held: &[Option<T>], node: u32) -> &T
+    requires { IsSome (get_or held.now node None) }
+    ensures { get_or held.now node None ≡ Some result.now }
 {
     match &held[node as usize] {
-        Some(value) => test.passes(value),
-        None => false,
+        Some(value) => value,
+        // A node of a queue holds a value.
+        None => unreachable!(),
     }
 }

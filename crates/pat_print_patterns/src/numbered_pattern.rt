@@ -65,7 +65,7 @@ fn put_numbered(
         Pattern::Zero => put(out, b"0")?,
         Pattern::One => put(out, b"1")?,
         Pattern::Tag(tag) => put_tag(out, interface, *tag)?,
-        Pattern::Var(number) => put_variable(alloc, out, *number)?,
+        Pattern::Var(number) => put_variable(out, *number)?,
         Pattern::Sum(left, right) => {
             put_numbered(alloc, out, left, interface, false)?;
             put(out, b" + ")?;
@@ -128,9 +128,9 @@ fn put_tag(out: &mut Vec<u8>, interface: &Interface, tag: u8) -> Result<(), Allo
 }
 
 /// Appends a variable: its number behind a dollar sign.
-fn put_variable(alloc: Global, out: &mut Vec<u8>, number: u32) -> Result<(), AllocError>
+fn put_variable(out: &mut Vec<u8>, number: u32) -> Result<(), AllocError>
     ensures { OnOk result (out.new.items ≡ out.old.items ++ 36 ∷ decimal number) }
 {
     put(out, b"$")?;
-    push_number(alloc, out, u64::from(number))
+    push_number(out, u64::from(number))
 }

@@ -12,5 +12,3 @@ pub use enabled::plain_act;
 pub use history::{Act, Entry, Step};
 pub use pat_reduce_threads::{Control, Frame, Message, ThreadState};
 pub use pat_reduce_values::{StepError, Value};
-pub use references::other_refers;
-pub use steps::set_control;

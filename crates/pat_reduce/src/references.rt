@@ -32,8 +32,8 @@ fn has_pending(messages: &[Message], mailbox: u32) -> bool
     false
 }
 
-/// Whether another thread refers to the mailbox.
-pub fn other_refers(threads: &[(u32, ThreadState)], thread: u32, mailbox: u32) -> bool
+// Whether another thread refers to the mailbox.
+fn other_refers(threads: &[(u32, ThreadState)], thread: u32, mailbox: u32) -> bool
     ensures { result ≡ other_refers mailbox thread (threads_view threads.now) }
 {
     for entry in threads {

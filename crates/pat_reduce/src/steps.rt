@@ -296,8 +296,8 @@ pub fn state_at(threads: &[(u32, ThreadState)], thread: u32, place: usize) -> &T
     &threads[place].1
 }
 
-/// The thread at a place goes on with this control.
-pub fn set_control(threads: &mut Sequence<(u32, ThreadState)>, place: usize, control: Control)
+// The thread at a place goes on with this control.
+fn set_control(threads: &mut Sequence<(u32, ThreadState)>, place: usize, control: Control)
     requires { place < length threads.old }
     ensures { (e : ℕ × StateOf) → slice_get threads.old place ≡ Some e → threads.new ≡ slice_set threads.old place (e.0, record { control = control; frames = e.1.frames }) }
 {

@@ -9,6 +9,7 @@ ghost use Rattle.pat_residuals.specs.Rests.{product_rest};
 use pat_patterns::{Pattern, sum, take_one, take_two};
 use pat_sequences::Stack;
 use std::alloc::{AllocError, Global};
+use std::sync::Arc;
 
 /// What may still come after one message with the tag was taken from what the pattern lets in: putting
 /// that message back gives one of the pattern's words, and so it is for no other word.
@@ -112,13 +113,13 @@ fn product_with(alloc: Global, rest: Pattern, part: &Pattern) -> Result<Pattern,
         return Ok(Pattern::Zero);
     }
     if rest.is_one() {
-        return part.copy(alloc);
+        return part.copy();
     }
     if part.is_one() {
         return Ok(rest);
     }
-    let part = part.copy(alloc)?;
-    Ok(Pattern::Prod(Box::new(alloc, rest)?, Box::new(alloc, part)?))
+    let part = part.copy()?;
+    Ok(Pattern::Prod(Arc::new(alloc, rest)?, Arc::new(alloc, part)?))
 }
 
 /// The product of a part, which is copied only where it is kept, with a pattern.
@@ -131,9 +132,9 @@ fn with_product(alloc: Global, part: &Pattern, rest: Pattern) -> Result<Pattern,
     if part.is_one() {
         return Ok(rest);
     }
-    let part = part.copy(alloc)?;
+    let part = part.copy()?;
     if rest.is_one() {
         return Ok(part);
     }
-    Ok(Pattern::Prod(Box::new(alloc, part)?, Box::new(alloc, rest)?))
+    Ok(Pattern::Prod(Arc::new(alloc, part)?, Arc::new(alloc, rest)?))
 }

@@ -13,6 +13,7 @@ use pat_resolver_tables::NameTable;
 use pat_sequences::Text;
 use pat_tree::TreePattern;
 use std::alloc::{AllocError, Global};
+use std::sync::Arc;
 
 /// Refuses a pattern with a tag that isn't one of these, at the first such tag.
 pub fn check_pattern(tags: &NameTable, pattern: &TreePattern) -> Result<(), ResolveError>
@@ -51,16 +52,16 @@ pub fn number_pattern(
         TreePattern::Sum(left, right) => {
             let left = number_pattern(alloc, tags, left)?;
             let right = number_pattern(alloc, tags, right)?;
-            Ok(Pattern::Sum(Box::new(alloc, left)?, Box::new(alloc, right)?))
+            Ok(Pattern::Sum(Arc::new(alloc, left)?, Arc::new(alloc, right)?))
         }
         TreePattern::Prod(left, right) => {
             let left = number_pattern(alloc, tags, left)?;
             let right = number_pattern(alloc, tags, right)?;
-            Ok(Pattern::Prod(Box::new(alloc, left)?, Box::new(alloc, right)?))
+            Ok(Pattern::Prod(Arc::new(alloc, left)?, Arc::new(alloc, right)?))
         }
         TreePattern::Star(part) => {
             let part = number_pattern(alloc, tags, part)?;
-            Ok(Pattern::Star(Box::new(alloc, part)?))
+            Ok(Pattern::Star(Arc::new(alloc, part)?))
         }
     }
 }

@@ -11,7 +11,7 @@ use Rattle.pat_run.specs.declared.running.Finished.{Finished}
 use Rattle.pat_run.specs.Runs as one
 use Rattle.pat_workers.specs.declared.finishing.Finished.{Finished as FinishedByWorkers}
 use Rattle.pat_workers.specs.Runs as many
-use Rattle.pat_runners.specs.Runs.{RunGives}
+use Rattle.pat_run.specs.Runners.{RunGives}
 
 -- worker 0 is one of them, however many there are
 below : (n : ℕ) → 0 < n → (es : List Entry) → AllByRecursion (λ (e : Entry). e.worker ≡ 0) es → AllByRecursion (λ (e : Entry). e.worker < n) es

@@ -1,7 +1,7 @@
 // Two ways to run a program with options.
 ghost use Rattle.std.specs.Prelude.{IfOk};
 ghost use Rattle.pat_options.specs.Options.{IsWithin};
-ghost use Rattle.pat_runners.specs.Runs.{RunGives};
+ghost use Rattle.pat_run.specs.Runners.{RunGives};
 
 use pat_accepted::Accepted;
 use pat_options::RunOptions;

@@ -2,7 +2,7 @@
 ghost use Rattle.std.specs.Prelude.{◌≡◌, ◌≤◌, ℕ, List, IfOk, length};
 ghost use Rattle.pat_ports.specs.Ends.{EndsOnce, EndsThere};
 ghost use Rattle.pat_input.specs.Inputs.{IsRead, IsInputWithin, FaultsAfter};
-ghost use Rattle.pat_runners.specs.Runs.{IsRunner};
+ghost use Rattle.pat_run.specs.Runners.{IsRunner};
 ghost use Rattle.pat_session.specs.Allowed.{AllowedTo, HasBounds, HasInput, Takes, limit_of};
 ghost use Rattle.pat_session.specs.Asking.{Asks, IsAsked, IsAsking, IsOfProgram, IsOfTwoParts};
 

@@ -6,7 +6,7 @@ ghost use Rattle.pat_front.specs.declared.verdict.Verdict.{Verdict};
 ghost use Rattle.pat_session.specs.Allowed.{IsCommand, HasCommand, HasBounds, HasInput, AsksInput};
 ghost use Rattle.pat_session.specs.Answers.{Answers, Begins, IsAccepted, IsHelped, AcceptsSafe, ShowsChecked, ShowsDerived, ShowsLoad, ShowsRun, ShowsTree, ShowsReplay, ShowsVerified, ShowsVerdict};
 ghost use Rattle.pat_options.specs.Options.{IsWithin};
-ghost use Rattle.pat_runners.specs.Runs.{RunGives, IsRunner};
+ghost use Rattle.pat_run.specs.Runners.{RunGives, IsRunner};
 ghost use Rattle.pat_options.specs.declared.options.RunOptions.{RunOptions};
 ghost use Rattle.pat_session.specs.Ports.{source_state, sink_state};
 ghost use Rattle.pat_session.specs.Asking.{IsAsking};

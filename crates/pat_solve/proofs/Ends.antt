@@ -14,7 +14,7 @@ use Rattle.pat_inference.specs.Constraints.{Constraint}
 use Rattle.pat_inference.specs.Walk.{inferred, all_vars}
 use Rattle.pat_infer_problems.specs.Views.{placed_variable, placed_variable_of}
 use Rattle.pat_infer_problems.specs.declared.problem.Problem.{Problem}
-use Rattle.pat_infer.specs.Problems.{IsProblemOf}
+use Rattle.pat_infer_problems.specs.Problems.{IsProblemOf}
 use Rattle.pat_solving.specs.Answers as answers
 use Rattle.pat_solving.specs.Answers.{AllUsable, NoneTooLarge, NoneOpen, IsConstraint, IsRefuted, IsUndecided, IsRight, solution, values_from}
 use Rattle.pat_solving.specs.Laws.{AreThere, RefutedIsUntypable, LargeIsUntypable, SolvedExactly}

@@ -2,7 +2,7 @@
 ghost use Rattle.std.specs.Prelude.{◌≡◌, ◌<◌, ◌+◌, length, IfOk, IfErr};
 ghost use Rattle.pat_model.specs.WellFormed.{WellFormed};
 ghost use Rattle.pat_core.specs.Views.{program_view};
-ghost use Rattle.pat_infer.specs.Problems.{IsProblemOf, IsEnough};
+ghost use Rattle.pat_infer_problems.specs.Problems.{IsProblemOf, IsEnough};
 ghost use Rattle.pat_solving.specs.Answers.{AllUsable};
 ghost use Rattle.pat_solve_answers.specs.Views.{IsAnswer, IsRefusal, IsUntypable, IsComplete};
 ghost use Rattle.pat_solve_lowers.specs.Indexes.{IsIndexOf};

@@ -12,7 +12,7 @@ use Rattle.pat_solving.specs.Laws.{DerivedIsValid, SolvedShows}
 use Rattle.pat_core.specs.declared.program.Program.{Program}
 use Rattle.pat_core.specs.Views.{program_view, node_view}
 use Rattle.pat_derivations.specs.Views.{vars_view}
-use Rattle.pat_infer.specs.Problems.{IsProblemOf}
+use Rattle.pat_infer_problems.specs.Problems.{IsProblemOf}
 use Rattle.pat_infer_problems.specs.declared.problem.Problem.{Problem}
 use Rattle.pat_solve_answers.specs.declared.solution.Solution.{Solution}
 use Rattle.pat_solve_answers.specs.Views.{forms_of, IsSolution}

@@ -6,7 +6,7 @@ ghost use Rattle.pat_inference.specs.Walk.{inferred};
 ghost use Rattle.pat_solving.specs.Derived.{ValuesShow};
 ghost use Rattle.pat_core.specs.Views.{program_view};
 ghost use Rattle.pat_derivations.specs.Views.{certs_view, vars_view, lines_view, derivation_view};
-ghost use Rattle.pat_infer.specs.Problems.{IsProblemOf};
+ghost use Rattle.pat_infer_problems.specs.Problems.{IsProblemOf};
 ghost use Rattle.pat_solve_answers.specs.Views.{forms_of, IsSolution};
 ghost use Rattle.pat_solve_derivation.specs.Lines.{IsFound, with_certs};
 ghost use Rattle.pat_solve_derivation.specs.Made.{IsDerived};

@@ -1,7 +1,7 @@
 // The form of an interface's values.
 ghost use Rattle.std.specs.Prelude.{◌≡◌, ◌<◌, Some, length, map, IfOk};
 ghost use Rattle.pat_core.specs.Views.{program_view};
-ghost use Rattle.pat_infer.specs.Problems.{IsProblemOf, IsEnough};
+ghost use Rattle.pat_infer_problems.specs.Problems.{IsProblemOf, IsEnough};
 ghost use Rattle.pat_model.specs.WellFormed.{WellFormed};
 ghost use Rattle.pat_inclusions.specs.Values.{PatternForm, GridForm};
 ghost use Rattle.pat_derivations.specs.Views.{counts_of, value_view};

@@ -27,7 +27,7 @@ use Rattle.pat_grid_points.specs.Views.{HasPoint, points_of}
 use Rattle.pat_grid_tables.specs.Views.{AreGrids}
 use Rattle.pat_certs_trees.specs.declared.search.Refutation.{Refutation}
 use Rattle.pat_infer_problems.specs.declared.problem.Problem.{Problem}
-use Rattle.pat_infer.specs.Problems.{IsProblemOf}
+use Rattle.pat_infer_problems.specs.Problems.{IsProblemOf}
 use Rattle.pat_bounds.specs.LeastGrids.{AreLeastPoints}
 use Rattle.pat_solving.specs.LowerBounds.{sides_of, constraints_in, lowers_in}
 use Rattle.pat_solving.specs.Assignments.{vars_in, closed_rights, bound_of}

@@ -8,7 +8,7 @@ ghost use Rattle.pat_inference.specs.Walk.{inferred, all_vars};
 ghost use Rattle.pat_solving.specs.Answers.{IsInBounds, grid_bound as bound_of};
 ghost use Rattle.pat_core.specs.Views.{program_view};
 ghost use Rattle.pat_patterns.specs.Views.{pattern_view};
-ghost use Rattle.pat_infer.specs.Problems.{IsProblemOf};
+ghost use Rattle.pat_infer_problems.specs.Problems.{IsProblemOf};
 ghost use Rattle.pat_solve_lowers.specs.Indexes.{IsIndexOf};
 ghost use Rattle.pat_solve_lowers.specs.Sides.{sides_list};
 ghost use Rattle.pat_solve_renaming.specs.Systems.{side_at, picked};

@@ -6,7 +6,7 @@ ghost use Rattle.pat_inference.specs.Shapes.{ConstraintFits};
 ghost use Rattle.pat_inference.specs.Walk.{inferred, all_vars};
 ghost use Rattle.pat_solving.specs.Answers.{IsInBounds, grid_bound as bound_of};
 ghost use Rattle.pat_core.specs.Views.{program_view};
-ghost use Rattle.pat_infer.specs.Problems.{IsProblemOf};
+ghost use Rattle.pat_infer_problems.specs.Problems.{IsProblemOf};
 ghost use Rattle.pat_solve_lowers.specs.Indexes.{IsIndexOf};
 ghost use Rattle.pat_solve_grids.specs.Grids.{AreGridsOf};
 

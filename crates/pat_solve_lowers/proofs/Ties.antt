@@ -9,7 +9,7 @@ use Rattle.pat_types.specs.Views.{right_form}
 use Rattle.pat_open_types.specs.Signatures.{Variable}
 use Rattle.pat_inference.specs.Constraints as found
 use Rattle.pat_inference.specs.Walk.{inferred, all_vars}
-use Rattle.pat_infer.specs.Problems.{IsProblemOf}
+use Rattle.pat_infer_problems.specs.Problems.{IsProblemOf}
 use Rattle.pat_infer_problems.specs.Views.{PlacedVariable, placed_variable, placed_variable_of, PlacedConstraint, placed_constraint, constraint_view}
 use Rattle.pat_infer_problems.specs.declared.problem.Constraint.{Constraint}
 use Rattle.pat_infer_problems.specs.declared.problem.VarDecl.{VarDecl}

@@ -3,7 +3,7 @@ use Rattle.std.specs.Prelude.{◌≡◌, ℕ, ◌<◌, [], nat_eq, map, length, 
 use Rattle.pat_core.specs.declared.program.Program.{Program}
 use Rattle.pat_core.specs.Views.{program_view}
 use Rattle.pat_inference.specs.Walk.{inferred, all_vars}
-use Rattle.pat_infer.specs.Problems.{IsProblemOf}
+use Rattle.pat_infer_problems.specs.Problems.{IsProblemOf}
 use Rattle.pat_infer_problems.specs.declared.problem.Problem.{Problem}
 use Rattle.pat_solving.specs.LowerBounds.{sides_of}
 use Rattle.pat_solving.specs.Assignments.{vars_in}

@@ -47,7 +47,7 @@ fn sum_of_lefts(
     for number in numbers {
         made = with_left(alloc, made, left_of(constraints, *number))?;
     }
-    kept(alloc, made)
+    kept(made)
 }
 
 /// The left side of the constraint with this number.
@@ -66,7 +66,7 @@ fn with_left<'a>(
 ) -> Result<Option<Part<'a>>, AllocError>
     ensures { IfOk result (λ p. limited_view p ≡ sum_within (limited_view made.entry) (within (pattern_view left.now))) }
 {
-    let own = measure(left.copy(alloc)?);
+    let own = measure(left.copy()?);
     match own {
         Some(own) => sum(alloc, made, Some(Part::Made(own))),
         None => sum(alloc, made, None),
@@ -74,11 +74,11 @@ fn with_left<'a>(
 }
 
 /// A part as a pattern of its own, unless it is too large.
-fn kept(alloc: Global, part: Option<Part>) -> Result<Option<Measured>, AllocError>
+fn kept(part: Option<Part>) -> Result<Option<Measured>, AllocError>
     ensures { IfOk result (λ m. option_map measured_view m ≡ limited_view part.entry) }
 {
     match part {
-        Some(part) => Ok(Some(part.into_measured(alloc)?)),
+        Some(part) => Ok(Some(part.into_measured()?)),
         None => Ok(None),
     }
 }

@@ -15,6 +15,7 @@ use pat_sequences::Sequence;
 use pat_solve_replacing::find_variable;
 use pat_types::Right;
 use std::alloc::{AllocError, Global};
+use std::sync::Arc;
 
 /// The lower bound of each of the variables by the constraints with these numbers: all left sides with it on the right, renamed, and
 /// added up as they come.
@@ -126,7 +127,10 @@ fn let_chain_go(bound: Pattern) {
     let mut rest = bound;
     loop {
         match rest {
-            Pattern::Sum(left, _) => rest = Box::into_inner(left),
+            Pattern::Sum(left, _) => match Arc::into_inner(left) {
+                Some(part) => rest = part,
+                None => return,
+            },
             _ => return,
         }
     }

@@ -179,7 +179,7 @@ fn star_times<'a>(
     if slope.as_measured().pattern.is_zero() {
         return Ok(Some(slope));
     }
-    let part = copied(alloc, part)?;
+    let part = copied(part)?;
     let rounds = star(alloc, part)?;
     product(alloc, rounds, Some(slope))
 }
@@ -195,7 +195,7 @@ fn product_with<'a>(
     if slope_is_zero(&slope) {
         return Ok(slope);
     }
-    let factor = copied(alloc, factor)?;
+    let factor = copied(factor)?;
     product(alloc, slope, factor)
 }
 
@@ -210,7 +210,7 @@ fn with_product<'a>(
     if slope_is_zero(&slope) {
         return Ok(slope);
     }
-    let factor = copied(alloc, factor)?;
+    let factor = copied(factor)?;
     product(alloc, factor, slope)
 }
 
@@ -225,10 +225,10 @@ fn slope_is_zero(slope: &Option<Part>) -> bool
 }
 
 /// A copy of the pattern, unless it is too large.
-fn copied<'a>(alloc: Global, p: &Pattern) -> Result<Option<Part<'a>>, AllocError>
+fn copied<'a>(p: &Pattern) -> Result<Option<Part<'a>>, AllocError>
     ensures { IfOk result (λ part. limited_view part ≡ within (pattern_view p.now)) }
 {
-    match measure(p.copy(alloc)?) {
+    match measure(p.copy()?) {
         Some(copy) => Ok(Some(Part::Made(copy))),
         None => Ok(None),
     }

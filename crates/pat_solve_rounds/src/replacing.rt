@@ -23,7 +23,7 @@ pub fn put_one(
     ensures { let made = put_one_of variable (measured_view value.now) (measured_view f.now) in Gives result (is_small made) made }
 {
     let part = replaced(alloc, &f.pattern, &Replacement::One(variable, value))?;
-    kept(alloc, part)
+    kept(part)
 }
 
 /// The derivative of the pattern by the variable.
@@ -31,15 +31,15 @@ fn derived(alloc: Global, f: &Measured, variable: u32) -> Result<Measured, Round
     ensures { let made = derivative_of variable (measured_view f.now) in Gives result (is_small made) made }
 {
     let part = derivative(alloc, &f.pattern, variable)?;
-    kept(alloc, part)
+    kept(part)
 }
 
 /// A part as a pattern of its own, unless it is too large.
-fn kept(alloc: Global, part: Option<Part>) -> Result<Measured, RoundError>
+fn kept(part: Option<Part>) -> Result<Measured, RoundError>
     ensures { (e : Pat) → limited_view part.entry ≡ within e → Gives result (is_small e) e }
 {
     match part {
-        Some(part) => Ok(part.into_measured(alloc)?),
+        Some(part) => Ok(part.into_measured()?),
         None => Err(RoundError::TooLarge),
     }
 }
@@ -50,7 +50,7 @@ fn starred(alloc: Global, slope: Measured, base: Measured) -> Result<Measured, R
 {
     let rounds = star(alloc, Some(Part::Made(slope)))?;
     let whole = product(alloc, rounds, Some(Part::Made(base)))?;
-    kept(alloc, whole)
+    kept(whole)
 }
 
 /// The least solution for the variable of "f lies in it".

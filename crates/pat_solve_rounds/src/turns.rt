@@ -28,7 +28,7 @@ pub fn in_turn(
     requires rebuilt { AllByRecursion IsRebuilt (measured_list values.now) }
     ensures { let vs = paired variables.now (measured_list values.now) in Gives result (turn_fits vs (measured_view f.now)) (put_in_turn vs (measured_view f.now)) }
 {
-    let copy = f.copy(alloc)?;
+    let copy = f.copy()?;
     each_turn(alloc, variables, values, copy)
 }
 

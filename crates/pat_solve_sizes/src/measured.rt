@@ -6,7 +6,7 @@ ghost use Rattle.pat_inclusions.specs.ClosedForms.{is_small};
 ghost use Rattle.pat_solve_sizes.specs.Limits.{IsMeasured};
 
 use pat_patterns::{Pattern, levels, size};
-use std::alloc::{AllocError, Global};
+use std::alloc::AllocError;
 
 /// The most nodes that a pattern may have.
 pub const MOST_NODES: u32 = 65536;
@@ -86,10 +86,10 @@ impl Measured {
     }
 
     /// A second pattern, the same.
-    pub fn copy(&self, alloc: Global) -> Result<Measured, AllocError>
+    pub fn copy(&self) -> Result<Measured, AllocError>
         ensures { IfOk result (λ m. pattern_view m.pattern ≡ pattern_view self.now.pattern) }
     {
-        let pattern = self.pattern.copy(alloc)?;
+        let pattern = self.pattern.copy()?;
         Ok(Measured {
             pattern,
             nodes: self.nodes,

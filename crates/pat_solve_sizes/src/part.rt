@@ -10,6 +10,7 @@ ghost use Rattle.pat_solve_sizes.specs.Views.{part_view, limited_view, measured_
 use crate::measured::{MOST_LEVELS, MOST_NODES, Measured};
 use pat_patterns::Pattern;
 use std::alloc::{AllocError, Global};
+use std::sync::Arc;
 
 /// A part of a pattern that is made. Where a part is an `Option`, `None` stands for one that is too large: what contains it is
 /// too large as well, unless a product with 0 takes it away.
@@ -33,12 +34,12 @@ impl<'a> Part<'a> {
     }
 
     /// The pattern as one of its own.
-    pub fn into_measured(self, alloc: Global) -> Result<Measured, AllocError>
+    pub fn into_measured(self) -> Result<Measured, AllocError>
         ensures { IfOk result (λ m. measured_view m ≡ part_view self.entry) }
     {
         match self {
             Part::Made(own) => Ok(own),
-            Part::Held(held) => held.copy(alloc),
+            Part::Held(held) => held.copy(),
         }
     }
 }
@@ -106,11 +107,11 @@ fn kept_sum<'a>(
     let Some((nodes, levels)) = both_sizes(left.as_measured(), right.as_measured()) else {
         return Ok(None);
     };
-    let left = left.into_measured(alloc)?;
-    let right = right.into_measured(alloc)?;
+    let left = left.into_measured()?;
+    let right = right.into_measured()?;
     let pattern = Pattern::Sum(
-        Box::new(alloc, left.pattern)?,
-        Box::new(alloc, right.pattern)?,
+        Arc::new(alloc, left.pattern)?,
+        Arc::new(alloc, right.pattern)?,
     );
     Ok(Some(Part::Made(Measured {
         pattern,
@@ -175,11 +176,11 @@ fn kept_product<'a>(
     let Some((nodes, levels)) = both_sizes(left.as_measured(), right.as_measured()) else {
         return Ok(None);
     };
-    let left = left.into_measured(alloc)?;
-    let right = right.into_measured(alloc)?;
+    let left = left.into_measured()?;
+    let right = right.into_measured()?;
     let pattern = Pattern::Prod(
-        Box::new(alloc, left.pattern)?,
-        Box::new(alloc, right.pattern)?,
+        Arc::new(alloc, left.pattern)?,
+        Arc::new(alloc, right.pattern)?,
     );
     Ok(Some(Part::Made(Measured {
         pattern,
@@ -216,10 +217,10 @@ fn kept_star<'a>(alloc: Global, part: Part<'a>) -> Result<Option<Part<'a>>, Allo
     if inner.nodes >= MOST_NODES || inner.levels >= MOST_LEVELS {
         return Ok(None);
     }
-    let inner = part.into_measured(alloc)?;
+    let inner = part.into_measured()?;
     let nodes = inner.nodes + 1;
     let levels = inner.levels + 1;
-    let pattern = Pattern::Star(Box::new(alloc, inner.pattern)?);
+    let pattern = Pattern::Star(Arc::new(alloc, inner.pattern)?);
     Ok(Some(Part::Made(Measured {
         pattern,
         nodes,

@@ -24,7 +24,7 @@ use Rattle.pat_infer_problems.specs.declared.problem.Problem.{Problem}
 use Rattle.pat_infer_problems.specs.declared.problem.Constraint.{Constraint as CodeConstraint}
 use Rattle.pat_infer_problems.specs.declared.problem.VarDecl.{VarDecl}
 use Rattle.pat_infer_problems.specs.Views.{PlacedVariable, placed_variable, placed_variable_of}
-use Rattle.pat_infer.specs.Problems.{IsProblemOf}
+use Rattle.pat_infer_problems.specs.Problems.{IsProblemOf}
 use Rattle.pat_solve_usable.specs.Flags.{flag_of}
 use Rattle.pat_solve_lowers.specs.Sides.{sides_list}
 use Rattle.pat_solve_lowers.proofs.Ties.{sides_same}

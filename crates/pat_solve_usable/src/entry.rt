@@ -7,7 +7,7 @@ ghost use Rattle.pat_inference.specs.Walk.{inferred, all_vars};
 ghost use Rattle.pat_solving.specs.Answers.{IsUnusable, AllUsable};
 ghost use Rattle.pat_core.specs.Views.{program_view};
 ghost use Rattle.pat_primitives.specs.Views.{polarity_view};
-ghost use Rattle.pat_infer.specs.Problems.{IsProblemOf};
+ghost use Rattle.pat_infer_problems.specs.Problems.{IsProblemOf};
 ghost use Rattle.pat_solve_usable.specs.Found.{IsOpen, IsFirstOpen, NoneOpen};
 
 use crate::counting::count_omitted;

@@ -10,10 +10,10 @@ use std::alloc::{AllocError, Global};
 
 impl MailboxType {
     /// A second type, the same.
-    pub fn copy(&self, alloc: Global) -> Result<MailboxType, AllocError>
+    pub fn copy(&self) -> Result<MailboxType, AllocError>
         ensures { IfOk result (λ a. type_view a ≡ type_view self.now) }
     {
-        let pattern = self.pattern.copy(alloc)?;
+        let pattern = self.pattern.copy()?;
         Ok(MailboxType {
             interface: self.interface,
             polarity: self.polarity,
@@ -25,7 +25,7 @@ impl MailboxType {
 
 impl TypeOf {
     /// A second type, the same.
-    pub fn copy(&self, alloc: Global) -> Result<TypeOf, AllocError>
+    pub fn copy(&self) -> Result<TypeOf, AllocError>
         ensures { IfOk result (λ t. result_view t ≡ result_view self.now) }
     {
         match self {
@@ -35,7 +35,7 @@ impl TypeOf {
                 polarity,
                 pattern,
             } => {
-                let pattern = pattern.copy(alloc)?;
+                let pattern = pattern.copy()?;
                 Ok(TypeOf::Mailbox {
                     interface: *interface,
                     polarity: *polarity,
@@ -55,7 +55,7 @@ pub fn copy_needs(
 {
     let mut copies = Sequence::new(alloc);
     for (variable, of) in needs {
-        let copy = of.copy(alloc)?;
+        let copy = of.copy()?;
         copies.push((*variable, copy))?;
     }
     Ok(copies)

@@ -20,7 +20,7 @@ pub fn is_mailbox(sort: &Sort) -> bool
 }
 
 /// The type of a payload of the sort, if it is a mailbox: second-class.
-pub fn payload_type(alloc: Global, sort: &Sort) -> Result<Option<MailboxType>, AllocError>
+pub fn payload_type(sort: &Sort) -> Result<Option<MailboxType>, AllocError>
     ensures { IfOk result (λ o. option_map type_view o ≡ payload_sort (sort_view sort.now)) }
 {
     match sort {
@@ -28,7 +28,7 @@ pub fn payload_type(alloc: Global, sort: &Sort) -> Result<Option<MailboxType>, A
         Sort::Mailbox(mailbox) => match &mailbox.pattern {
             None => Ok(None),
             Some(pattern) => {
-                let pattern = pattern.copy(alloc)?;
+                let pattern = pattern.copy()?;
                 Ok(Some(MailboxType {
                     interface: mailbox.interface,
                     polarity: mailbox.polarity,
@@ -49,7 +49,7 @@ pub fn payload_types(
 {
     let mut types = Sequence::new(alloc);
     for sort in sorts {
-        let of = payload_type(alloc, sort)?;
+        let of = payload_type(sort)?;
         types.push(of)?;
     }
     Ok(types)

@@ -22,8 +22,7 @@ use Rattle.pat_primitives.proofs.Op.TheSendSync as operators
 use Rattle.pat_primitives.proofs.Base.TheSendSync as bases
 use Rattle.pat_primitives.proofs.Polarity.TheSendSync as polarities
 use Rattle.pat_syntax.proofs.span.Span.TheSendSync as spans
-use Rattle.pat_patterns.proofs.pattern.Pattern.TheLaws.TheKnot.{send-Pattern, sync-Pattern}
-use Rattle.pat_patterns.specs.contracts.pattern.Pattern as pattern
+use Rattle.pat_patterns.proofs.Crossing.{pattern_send, pattern_sync}
 use Rattle.pat_core.proofs.expression.Expr.TheLaws.TheKnot.{send-Expr, sync-Expr}
 use Rattle.pat_core.proofs.program.Clause.TheSendSync as clauses
 use Rattle.pat_core.proofs.program.Kind.TheSendSync as kinds
@@ -39,8 +38,10 @@ use Rattle.pat_core.specs.contracts.program.Program as program
 use Rattle.pat_executable.proofs.variables.Variables.TheSendSync as variables
 use Rattle.pat_executable.specs.contracts.executable.Executable as executable
 use Rattle.pat_reduce.proofs.history.Entry.TheSendSync as entries
+use Rattle.pat_machine_names.specs.contracts.names.Names as names
 use Rattle.pat_machine_states.proofs.state.State.TheSendSync as states
 use Rattle.pat_machine_states.specs.contracts.state.State as the_state
+use Rattle.pat_machine_waits.specs.contracts.ascending.Ascending as ascending
 use Rattle.pat_machine_waits.specs.contracts.waits.Waits as waits
 use Rattle.pat_reduce.specs.contracts.history.Entry as entry
 use Rattle.pat_machine.proofs.job.Receipt.TheSendSync as receipts
@@ -65,9 +66,6 @@ text_send = texts.the_send
 
 text_row_send : IsSend (the_text.the_field).row
 text_row_send = texts.the_send
-
-pattern_send : IsSend pattern.the_row
-pattern_send = as_row_send pattern.the_field (search (crosses, send-Pattern, Box-send) depth 20)
 
 expression_send : IsSend expression.the_row
 expression_send = as_row_send expression.the_field (search (crosses, send-Expr, Box-send, text_row_send, operators.the_field_send) depth 20)
@@ -102,11 +100,17 @@ executable_send = declared_send executable.the_type (search (crosses, sequence_s
 state_send : IsSend (as_row the_state.the_field)
 state_send = states.the_send
 
+names_send : IsSend names.the_row
+names_send = declared_send names.the_type (search (crosses, as_row_send) depth 20)
+
+ascending_send : IsSend ascending.the_row
+ascending_send = declared_send ascending.the_type (search (crosses, as_row_send) depth 20)
+
 waits_send : IsSend waits.the_row
-waits_send = declared_send waits.the_type (search (crosses, as_row_send, options.the_field_send, options.the_send) depth 20)
+waits_send = declared_send waits.the_type (search (crosses, as_row_send, options.the_send, ascending_send) depth 20)
 
 parts_send : IsSend parts.the_row
-parts_send = declared_send parts.the_type (search (crosses, as_row_send, options.the_field_send, options.the_send, entries.the_send, state_send, waits_send, executable_send) depth 20)
+parts_send = declared_send parts.the_type (search (crosses, as_row_send, options.the_field_send, options.the_send, entries.the_send, state_send, names_send, waits_send, executable_send) depth 20)
 
 inside_send : IsSend inside.the_row
 inside_send = declared_send inside.the_type (search (crosses, parts_send) depth 20)
@@ -151,9 +155,6 @@ u8_field_sync = as_row_sync u8-field u8_sync
 
 u32_field_sync : IsSync (as_row u32-field)
 u32_field_sync = as_row_sync u32-field u32_sync
-
-pattern_sync : IsSync pattern.the_row
-pattern_sync = as_row_sync pattern.the_field (search (crosses, u8_sync, u32_sync, i64_sync, bool_sync, u8_field_sync, u32_field_sync, sync-Pattern, Box-sync) depth 20)
 
 expression_sync : IsSync expression.the_row
 expression_sync = as_row_sync expression.the_field (search (crosses, u8_sync, u32_sync, i64_sync, bool_sync, u8_field_sync, u32_field_sync, sync-Expr, Box-sync, text_row_sync, operators.the_field_sync) depth 20)

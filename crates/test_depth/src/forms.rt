@@ -6,6 +6,7 @@ use pat_patterns::Pattern;
 use pat_sequences::Sequence;
 use std::alloc::{AllocError, Global};
 use std::io;
+use std::sync::Arc;
 
 /// How a pattern goes on.
 #[derive(Clone, Copy)]
@@ -23,25 +24,25 @@ fn grown(alloc: Global, growth: Growth, p: Pattern) -> Result<Pattern, AllocErro
     match growth {
         Growth::Stars => star(alloc, p),
         Growth::Sums => {
-            let left = Box::new(alloc, p.copy(alloc)?)?;
-            let right = Box::new(alloc, p)?;
+            let left = Arc::new(alloc, p.copy()?)?;
+            let right = Arc::new(alloc, p)?;
             Ok(Pattern::Sum(left, right))
         }
         Growth::Products => {
-            let left = p.copy(alloc)?;
+            let left = p.copy()?;
             product(alloc, left, p)
         }
     }
 }
 
 fn star(alloc: Global, p: Pattern) -> Result<Pattern, AllocError> {
-    let part = Box::new(alloc, p)?;
+    let part = Arc::new(alloc, p)?;
     Ok(Pattern::Star(part))
 }
 
 fn product(alloc: Global, left: Pattern, right: Pattern) -> Result<Pattern, AllocError> {
-    let left = Box::new(alloc, left)?;
-    let right = Box::new(alloc, right)?;
+    let left = Arc::new(alloc, left)?;
+    let right = Arc::new(alloc, right)?;
     Ok(Pattern::Prod(left, right))
 }
 

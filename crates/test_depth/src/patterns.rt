@@ -12,6 +12,7 @@ use pat_residuals::{covers, degree, inhabited, is_flat, nullable, residual};
 use pat_sequences::{Sequence, Text};
 use std::alloc::{AllocError, Global};
 use std::io;
+use std::sync::Arc;
 
 /// How a deep pattern goes on at each level.
 #[derive(Clone, Copy)]
@@ -41,16 +42,16 @@ fn grown(alloc: Global, shape: Shape, p: Pattern) -> Result<Pattern, AllocError>
     requires { IsTrue (tags_below 2 (pattern_view p)) }
     ensures { IfOk result (λ q. IsTrue (tags_below 2 (pattern_view q))) }
 {
-    let one = Box::new(alloc, Pattern::One)?;
-    let tag = Box::new(alloc, Pattern::Tag(1))?;
-    let part = Box::new(alloc, p)?;
+    let one = Arc::new(alloc, Pattern::One)?;
+    let tag = Arc::new(alloc, Pattern::Tag(1))?;
+    let part = Arc::new(alloc, p)?;
     match shape {
         Shape::Products => {
-            let side = Box::new(alloc, Pattern::Sum(one, tag))?;
+            let side = Arc::new(alloc, Pattern::Sum(one, tag))?;
             Ok(Pattern::Prod(part, side))
         }
         Shape::Sums => {
-            let side = Box::new(alloc, Pattern::Prod(one, tag))?;
+            let side = Arc::new(alloc, Pattern::Prod(one, tag))?;
             Ok(Pattern::Sum(side, part))
         }
         Shape::Stars => Ok(Pattern::Star(part)),
@@ -124,7 +125,7 @@ fn show(
         is_flat(&p)
     )?;
     println!(rt; "covers {} {}", covers(&p, 1, false), covers(&p, 1, true))?;
-    let copy = p.copy(alloc)?;
+    let copy = p.copy()?;
     println!(rt; "copy {}", copy.is_same(&p))?;
     let rest = residual(alloc, &p, rest_tag(shape))?;
     println!(rt; "residual size {} levels {}", size(&rest), levels(&rest))?;

@@ -10,6 +10,7 @@ use pat_grid_symbols::has_tags;
 use pat_patterns::Pattern;
 use std::alloc::{AllocError, Global};
 use std::process::Abort;
+use std::sync::Arc;
 use std::test::Fail;
 
 /// The pattern that is spelled so.
@@ -25,9 +26,9 @@ fn pattern(alloc: Global, text: &str) -> Result<Pattern, AllocError> {
             b'm'..=b'z' => Pattern::Tag(letter - b'm'),
             b'$' => Pattern::Var(0),
             b'%' => Pattern::Var(1),
-            b'+' => Pattern::Sum(Box::new(alloc, take(&mut done))?, Box::new(alloc, right)?),
-            b'.' => Pattern::Prod(Box::new(alloc, take(&mut done))?, Box::new(alloc, right)?),
-            b'*' => Pattern::Star(Box::new(alloc, take(&mut done))?),
+            b'+' => Pattern::Sum(Arc::new(alloc, take(&mut done))?, Arc::new(alloc, right)?),
+            b'.' => Pattern::Prod(Arc::new(alloc, take(&mut done))?, Arc::new(alloc, right)?),
+            b'*' => Pattern::Star(Arc::new(alloc, take(&mut done))?),
             _ => Pattern::Zero,
         };
         done.push(node)?;
@@ -106,10 +107,10 @@ fn derives(
 fn sixteen_tags(alloc: Global) -> Result<Pattern, AllocError> {
     let mut all = Pattern::Zero;
     for tag in 0..16 {
-        let more = Box::new(alloc, Pattern::Tag(tag))?;
-        all = Pattern::Sum(Box::new(alloc, all)?, more);
+        let more = Arc::new(alloc, Pattern::Tag(tag))?;
+        all = Pattern::Sum(Arc::new(alloc, all)?, more);
     }
-    Ok(Pattern::Star(Box::new(alloc, all)?))
+    Ok(Pattern::Star(Arc::new(alloc, all)?))
 }
 
 /// So many points has the pattern that is spelled so.

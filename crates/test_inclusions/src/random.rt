@@ -11,6 +11,7 @@ use pat_patterns::Pattern;
 use pat_sequences::Sequence;
 use std::alloc::{AllocError, Global};
 use std::process::Abort;
+use std::sync::Arc;
 
 /// A generator of numbers that look random: the same ones from the same seed.
 #[derive(Drop)]
@@ -49,8 +50,8 @@ fn pattern(alloc: Global, generator: &mut Generator) -> Result<Pattern, AllocErr
         push_letter(alloc, letter(generator), &mut done)?;
     }
     let p = take(&mut done);
-    let left = Box::new(alloc, take(&mut done))?;
-    let right = Box::new(alloc, p)?;
+    let left = Arc::new(alloc, take(&mut done))?;
+    let right = Arc::new(alloc, p)?;
     Ok(Pattern::Sum(left, right))
 }
 

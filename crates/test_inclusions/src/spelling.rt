@@ -8,6 +8,7 @@ use pat_certs_trees::Bound;
 use pat_linear::LinearSet;
 use pat_patterns::Pattern;
 use std::alloc::{AllocError, Global};
+use std::sync::Arc;
 
 /// The pattern that is spelled so.
 pub fn pattern(alloc: Global, text: &str) -> Result<Pattern, AllocError> {
@@ -29,9 +30,9 @@ pub fn push_letter(alloc: Global, letter: u8, done: &mut Vec<Pattern>) -> Result
         b'm' => Pattern::Tag(0),
         b'n' => Pattern::Tag(1),
         b'$' => Pattern::Var(0),
-        b'+' => Pattern::Sum(Box::new(alloc, take(done))?, Box::new(alloc, right)?),
-        b'.' => Pattern::Prod(Box::new(alloc, take(done))?, Box::new(alloc, right)?),
-        b'*' => Pattern::Star(Box::new(alloc, take(done))?),
+        b'+' => Pattern::Sum(Arc::new(alloc, take(done))?, Arc::new(alloc, right)?),
+        b'.' => Pattern::Prod(Arc::new(alloc, take(done))?, Arc::new(alloc, right)?),
+        b'*' => Pattern::Star(Arc::new(alloc, take(done))?),
         _ => Pattern::Zero,
     };
     done.push(node)?;

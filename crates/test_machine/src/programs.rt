@@ -19,6 +19,7 @@ use pat_primitives::{Base, Polarity};
 use pat_sequences::{Sequence, Text};
 use pat_syntax::Span;
 use std::alloc::{AllocError, Global};
+use std::sync::Arc;
 
 const NOWHERE: Span = Span { from: 0, to: 0 };
 
@@ -149,8 +150,8 @@ fn turned_nodes(alloc: Global) -> Result<Sequence<Node>, AllocError>
 fn both(alloc: Global) -> Result<Pattern, AllocError>
     ensures { IfOk result (λ p. pattern_view p ≡ Prod (Tag 0) (Tag 1)) }
 {
-    let m = Box::new(alloc, Pattern::Tag(0))?;
-    let n = Box::new(alloc, Pattern::Tag(1))?;
+    let m = Arc::new(alloc, Pattern::Tag(0))?;
+    let n = Arc::new(alloc, Pattern::Tag(1))?;
     Ok(Pattern::Prod(m, n))
 }
 
@@ -318,7 +319,7 @@ fn three_functions(alloc: Global) -> Result<Sequence<Function>, AllocError>
 fn pumping(alloc: Global) -> Result<Function, AllocError>
     ensures { IfOk result (λ f. function_view f ≡ function (codes "pump") (sending_as 0 (Star (Tag 0)) ∷ []) (MailboxOf 0 ∷ []) 0) }
 {
-    let star = Pattern::Star(Box::new(alloc, Pattern::Tag(0))?);
+    let star = Pattern::Star(Arc::new(alloc, Pattern::Tag(0))?);
     let params = vec![in alloc; mailbox(Polarity::Sending, Some(star))]?;
     let vars = vec![in alloc; Kind::Mailbox(0)]?;
     Ok(function(alloc, Text::from_slice(alloc, b"pump")?, params, vars, 0))
@@ -344,7 +345,7 @@ fn call_with(alloc: Global, function: u32, first: u32) -> Result<Core, AllocErro
 fn receive_or_free(alloc: Global) -> Result<Core, AllocError>
     ensures { IfOk result (λ core. core_view core ≡ Guard 0 (Star (Tag 0)) (Some 4) (clause 0 [] 1 5 ∷ [])) }
 {
-    let pattern = Pattern::Star(Box::new(alloc, Pattern::Tag(0))?);
+    let pattern = Pattern::Star(Arc::new(alloc, Pattern::Tag(0))?);
     let clause = Clause {
         tag: 0,
         vars: Sequence::new(alloc),

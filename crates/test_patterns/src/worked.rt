@@ -7,6 +7,7 @@ use pat_patterns::{Pattern, has_values, levels, size, subst};
 use pat_residuals::{covers, degree, inhabited, is_flat, nullable, residual};
 use std::alloc::{AllocError, Global};
 use std::process::Abort;
+use std::sync::Arc;
 use std::test::Fail;
 
 /// The pattern that is spelled so.
@@ -22,9 +23,9 @@ fn pattern(alloc: Global, text: &str) -> Result<Pattern, AllocError> {
             b'm' => Pattern::Tag(0),
             b'n' => Pattern::Tag(1),
             b'$' => Pattern::Var(0),
-            b'+' => Pattern::Sum(Box::new(alloc, take(&mut done))?, Box::new(alloc, right)?),
-            b'.' => Pattern::Prod(Box::new(alloc, take(&mut done))?, Box::new(alloc, right)?),
-            b'*' => Pattern::Star(Box::new(alloc, take(&mut done))?),
+            b'+' => Pattern::Sum(Arc::new(alloc, take(&mut done))?, Arc::new(alloc, right)?),
+            b'.' => Pattern::Prod(Arc::new(alloc, take(&mut done))?, Arc::new(alloc, right)?),
+            b'*' => Pattern::Star(Arc::new(alloc, take(&mut done))?),
             _ => Pattern::Zero,
         };
         done.push(node)?;

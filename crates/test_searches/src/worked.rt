@@ -15,6 +15,7 @@ use pat_patterns::Pattern;
 use pat_residuals::is_flat;
 use std::alloc::{AllocError, Global};
 use std::process::Abort;
+use std::sync::Arc;
 use std::test::Fail;
 
 /// What is found: no word, a word of so many m and n, or only trees that are too large.
@@ -38,9 +39,9 @@ fn pattern(alloc: Global, text: &str) -> Result<Pattern, AllocError> {
             b'm' => Pattern::Tag(0),
             b'n' => Pattern::Tag(1),
             b'$' => Pattern::Var(0),
-            b'+' => Pattern::Sum(Box::new(alloc, take(&mut done))?, Box::new(alloc, right)?),
-            b'.' => Pattern::Prod(Box::new(alloc, take(&mut done))?, Box::new(alloc, right)?),
-            b'*' => Pattern::Star(Box::new(alloc, take(&mut done))?),
+            b'+' => Pattern::Sum(Arc::new(alloc, take(&mut done))?, Arc::new(alloc, right)?),
+            b'.' => Pattern::Prod(Arc::new(alloc, take(&mut done))?, Arc::new(alloc, right)?),
+            b'*' => Pattern::Star(Arc::new(alloc, take(&mut done))?),
             _ => Pattern::Zero,
         };
         done.push(node)?;
@@ -57,7 +58,7 @@ fn at_most(alloc: Global, count: u32) -> Result<Pattern, AllocError> {
     let mut all = Pattern::One;
     for _ in 0..count {
         let one = pattern(alloc, "1m+")?;
-        all = Pattern::Prod(Box::new(alloc, all)?, Box::new(alloc, one)?);
+        all = Pattern::Prod(Arc::new(alloc, all)?, Arc::new(alloc, one)?);
     }
     Ok(all)
 }

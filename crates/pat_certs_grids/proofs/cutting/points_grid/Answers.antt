@@ -15,4 +15,4 @@ returns-then-bound-k c =
 
 pub returns : goal.returns
 returns c =
-    higher_grid c.args.k c.args.tags c.args.bound c.args.points.now c.in_ok-own.own c.in_ok-grid-2.grid c.requires.value c.if-bound-k.false c.in_ok-own.ensures.like c.in_ok-own.ensures.points c.in_ok-grid-2.ensures.like c.in_ok-grid-2.ensures.points
+    higher_grid c.args.k c.args.tags c.args.bound c.args.points.now c.in_ok-own.own c.in_ok-grid-2.grid c.requires.value (omega arith) c.in_ok-own.ensures.like c.in_ok-own.ensures.points c.in_ok-grid-2.ensures.like c.in_ok-grid-2.ensures.points

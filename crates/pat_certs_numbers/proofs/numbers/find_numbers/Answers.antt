@@ -75,12 +75,13 @@ pub loop-left-init : goal.loop-left-init
 loop-left-init c =
     let ps = words_of c.args.periods.now in
     let w = word_of c.args.word.now in
+    let none = c.reserve_exact.ensures.items ∙ c.frames.view_is ∙ c.new-frames.ensures in
     record {
-      stands = subst (Stands most_tags ps w) (sym c.new-frames.ensures) tt;
-      few = subst (λ l. length l ≤ length c.args.periods.now) (sym c.new-frames.ensures) (omega arith);
+      stands = subst (Stands most_tags ps w) (sym none) tt;
+      few = subst (λ l. length l ≤ length c.args.periods.now) (sym none) (omega arith);
       failed = subst (CameToNothing most_tags ps) (sym c.new-failed.ensures) (none_came most_tags ps);
       room = subst (λ l. length l ≤ length c.args.periods.now) (sym c.new-failed.ensures) (omega arith);
-      left = subst (λ l. word_of c.args.word.now ≡ left_of w l) (sym c.new-frames.ensures) refl;
+      left = subst (λ l. word_of c.args.word.now ≡ left_of w l) (sym none) refl;
     }
 
 pub comes_to_nothing-requires-clause-failed : goal.comes_to_nothing-requires-clause-failed

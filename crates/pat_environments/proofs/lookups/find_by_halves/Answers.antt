@@ -19,4 +19,4 @@ returns-in-Err c =
     let by_key = facts.position (λ own. own.0) (answers_always _ _ _ (λ f a r g called. search rules)) in
     let es = c.args.env.now in
     let x = c.args.variable in
-    not_found es x c.requires c.in-Err.field-0 (subst (λ r. IsBinarySearchResult (λ e. nat_cmp e.0 x) es r) c.in-Err.is by_key)
+    not_found es x c.requires c.in-Err.place (subst (λ r. IsBinarySearchResult (λ e. nat_cmp e.0 x) es r) c.in-Err.is by_key)

@@ -1,6 +1,20 @@
-use Rattle.pat_grid_tables.proofs.Relaxing.{lowered}
+use Rattle.std.proofs.Common.{ap, ◌*◌, ◌+◌, get_or, arith}
+use Rattle.std.proofs.lemmas.Bool.{ltb-false}
+use Rattle.pat_grid_tables.proofs.Relaxing.{lowered, not_lowered}
 use Rattle.pat_grid_tables.proofs.entries.lower.Goals as goal
 
-pub returns-then-size-entries : goal.returns-then-size-entries
-returns-then-size-entries c =
-    lowered c.args.board.now c.args.entries.now c.args.changed.now c.args.s c.args.number c.args.size c.requires.board c.requires.all c.requires.place c.requires.step c.if-size-entries.true
+pub returns-then-size-old : goal.returns-then-size-old
+returns-then-size-old c =
+    let i = c.args.s * c.args.board.now.points + c.args.number in
+    let e = ap (λ es. get_or es i 0) c.as_slice-entries.ensures in
+    not_lowered c.args.board.now c.args.sizes.now c.args.changed.now c.args.s c.args.number c.args.size c.requires.board c.requires.all c.requires.place
+    (let l = c.if-size-old.true in omega arith)
+
+pub returns : goal.returns
+returns c =
+    let i = c.args.s * c.args.board.now.points + c.args.number in
+    let e = ap (λ es. get_or es i 0) c.as_slice-entries.ensures in
+    lowered c.args.board.now c.args.sizes.now _ c.args.changed.now _ c.args.s c.args.number c.short.result c.args.size c.short.ensures c.requires.board c.requires.all c.requires.place c.requires.step
+    (let l = c.if-size-old.false in omega arith)
+    (λ no. let l = ltb-false _ _ no in omega arith)
+    c.write.ensures c.in_ok-note_if.ensures c.in_ok-push.ensures.ok

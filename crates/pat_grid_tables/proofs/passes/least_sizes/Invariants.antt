@@ -4,7 +4,7 @@ use Rattle.pat_grid_tables.specs.Waiting.{Stands}
 use Rattle.pat_grid_tables.proofs.passes.least_sizes.Given as goal
 
 abbrev pub invariant-loop-waits : goal.invariant-loop-waits
-invariant-loop-waits l = Stands (setting_of l.board) l.entries.items l.waits.items
+invariant-loop-waits l = Stands (setting_of l.board) l.sizes l.waits.items
 
 abbrev pub decreases-loop-waits : goal.decreases-loop-waits
-decreases-loop-waits l = total l.entries.items
+decreases-loop-waits l = total l.sizes.entries

@@ -14,9 +14,9 @@ loop-second-preserved c =
     let seconds = c.args.seconds.now in
     let j = c.loop-second.second-index in
     let points = c.requires.board.points in
-    moved_both g s (AreOthers a b s) (RowBefore g s a b v seconds j) (PairAt g s a b v (get_or seconds j 0)) (RowBefore g s a b v seconds (j + 1)) c.args.entries.now c.loop-second.entries c.relax_pair.new.entries c.args.changed.now c.loop-second.changed c.relax_pair.new.changed c.loop-second.invariant c.relax_pair.ensures
-    (λ apart lowers before. row_kept g s a b v j seconds c.loop-second.entries c.relax_pair.new.entries
+    moved_both g s (AreOthers a b s) (RowBefore g s a b v seconds j) (PairAt g s a b v (get_or seconds j 0)) (RowBefore g s a b v seconds (j + 1)) c.args.sizes.now c.loop-second.sizes c.relax_pair.new.sizes c.args.changed.now c.loop-second.changed c.relax_pair.new.changed c.loop-second.invariant c.in_ok-relax_pair.ensures
+    (λ apart lowers before. row_kept g s a b v j seconds c.loop-second.sizes.entries c.relax_pair.new.sizes.entries
     (subst (λ n. v < n) points c.requires.place.1)
     (λ i l. subst (λ n. get_or seconds i 0 < n) points (c.requires.seconds i (let m = c.loop-second-test.true in omega arith)))
     apart lowers before)
-    (λ before here. before_more (λ i. PairAt g s a b v (get_or seconds i 0) c.relax_pair.new.entries) j before here)
+    (λ before here. before_more (λ i. PairAt g s a b v (get_or seconds i 0) c.relax_pair.new.sizes.entries) j before here)

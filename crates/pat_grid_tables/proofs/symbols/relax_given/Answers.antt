@@ -1,16 +1,19 @@
 use Rattle.std.proofs.Common.{ap, sym, ◌∙◌}
 use Rattle.pat_grid_points.specs.declared.grid.Grid.{Grid}
 use Rattle.pat_grid_tables.proofs.Turns.{past_given, given_takes, given_moved}
+use Rattle.pat_grid_tables.proofs.Waiting.{on_ok}
 use Rattle.pat_grid_tables.proofs.symbols.relax_given.Goals as goal
 
 pub relax_held-requires-clause-takes : goal.relax_held-requires-clause-takes
 relax_held-requires-clause-takes c =
-    given_takes c.args.board.now c.requires.board c.args.s c.args.entries.now c.args.changed.now c.args.variable c.requires.symbol c.index-board-variable.result c.as_slice-held.result.now c.if-variable-board.true c.index-board-variable.is (c.as_slice-held.ensures ∙ ap (λ (y : Grid). y.held) (sym c.index-board-variable.is))
+    given_takes c.args.board.now c.requires.board c.args.s c.args.sizes.now c.args.changed.now c.args.variable c.requires.symbol c.index-board-variable.result c.as_slice-held.result.now c.if-variable-board.true c.index-board-variable.is (c.as_slice-held.ensures ∙ ap (λ (y : Grid). y.held) (sym c.index-board-variable.is))
 
 pub returns-then-variable-board : goal.returns-then-variable-board
 returns-then-variable-board c =
-    given_moved c.args.board.now c.requires.board c.args.s c.args.entries.now c.args.changed.now c.args.variable c.requires.symbol c.index-board-variable.result c.as_slice-held.result.now c.if-variable-board.true c.index-board-variable.is (c.as_slice-held.ensures ∙ ap (λ (y : Grid). y.held) (sym c.index-board-variable.is)) c.relax_held.new.entries c.relax_held.new.changed c.relax_held.ensures
+    on_ok _ _ _
+    (λ m. given_moved c.args.board.now c.requires.board c.args.s c.args.sizes.now c.args.changed.now c.args.variable c.requires.symbol c.index-board-variable.result c.as_slice-held.result.now c.if-variable-board.true c.index-board-variable.is (c.as_slice-held.ensures ∙ ap (λ (y : Grid). y.held) (sym c.index-board-variable.is)) c.relax_held.new.sizes c.relax_held.new.changed m)
+    c.relax_held.ensures
 
 pub returns-else-variable-board : goal.returns-else-variable-board
 returns-else-variable-board c =
-    past_given c.args.board.now c.requires.board c.args.s c.args.entries.now c.args.changed.now c.args.variable c.requires.symbol c.if-variable-board.false
+    past_given c.args.board.now c.requires.board c.args.s c.args.sizes.now c.args.changed.now c.args.variable c.requires.symbol c.if-variable-board.false

@@ -5,4 +5,4 @@ use Rattle.pat_grid_tables.proofs.symbols.relax_held.Given as goal
 abbrev pub invariant-loop-number : goal.invariant-loop-number
 invariant-loop-number l =
     let g = setting_of l.board in
-    Moved g l.s (Unit {0}) (HeldBefore g l.s l.held l.number) l.initial.entries l.initial.changed l.entries l.changed
+    Moved g l.s (Unit {0}) (HeldBefore g l.s l.held l.number) l.initial.sizes l.initial.changed l.sizes l.changed

@@ -3,6 +3,7 @@ use Rattle.pat_bounds.specs.Numbers.{table_of}
 use Rattle.pat_grid_tables.specs.Views.{setting_of}
 use Rattle.pat_grid_tables.proofs.Closing.{some_points, step_one}
 use Rattle.pat_grid_tables.proofs.Turns.{one_moved}
+use Rattle.pat_grid_tables.proofs.Waiting.{on_ok}
 use Rattle.pat_grid_tables.proofs.symbols.relax_one.Goals as goal
 
 pub lower-requires-clause-place : goal.lower-requires-clause-place
@@ -14,8 +15,8 @@ lower-requires-clause-place c =
 
 pub lower-requires-clause-step : goal.lower-requires-clause-step
 lower-requires-clause-step c =
-    let g = setting_of c.args.board.now in step_one g c.args.s (table_of g c.args.entries.now) c.requires.symbol
+    let g = setting_of c.args.board.now in step_one g c.args.s (table_of g c.args.sizes.now.entries) c.requires.symbol
 
 pub returns : goal.returns
 returns c =
-    one_moved c.args.board.now c.requires.board c.args.s c.args.entries.now c.args.changed.now c.lower.new.entries c.lower.new.changed c.requires.symbol c.lower.ensures
+    on_ok _ _ _ (λ m. one_moved c.args.board.now c.requires.board c.args.s c.args.sizes.now c.args.changed.now c.lower.new.sizes c.lower.new.changed c.requires.symbol m) c.lower.ensures

@@ -3,13 +3,16 @@ use Rattle.pat_bounds.specs.Tables.{IsKnown}
 use Rattle.pat_grid_tables.specs.Views.{setting_of}
 use Rattle.pat_grid_tables.specs.Moves.{entry_at, Lists}
 use Rattle.pat_grid_tables.proofs.Turns.{product_moved}
+use Rattle.pat_grid_tables.proofs.Waiting.{on_ok}
 use Rattle.pat_grid_tables.proofs.symbols.relax_product.Goals as goal
 
 pub returns : goal.returns
 returns c =
     let b = c.args.board.now in
     let g = setting_of b in
-    product_moved b c.requires.board c.args.s c.args.entries.now c.args.changed.now c.args.parts.0 c.args.parts.1 c.as_slice.result.now c.as_slice-2.result.now c.relax_parts.new.entries c.relax_parts.new.changed c.requires.symbol
-    (subst (Lists (λ i. IsKnown g.limit (entry_at g c.args.entries.now c.args.parts.0 i)) 0 b.points) (sym c.as_slice.ensures) c.in_ok-firsts.ensures)
-    (subst (Lists (λ i. IsKnown g.limit (entry_at g c.args.entries.now c.args.parts.1 i)) 0 b.points) (sym c.as_slice-2.ensures) c.in_ok-seconds.ensures)
+    on_ok _ _ _
+    (λ m. product_moved b c.requires.board c.args.s c.args.sizes.now c.args.changed.now c.args.parts.0 c.args.parts.1 c.as_slice.result.now c.as_slice-2.result.now c.relax_parts.new.sizes c.relax_parts.new.changed c.requires.symbol
+    (subst (Lists (λ i. IsKnown g.limit (entry_at g c.args.sizes.now.entries c.args.parts.0 i)) 0 b.points) (sym c.as_slice.ensures) c.in_ok-firsts.ensures)
+    (subst (Lists (λ i. IsKnown g.limit (entry_at g c.args.sizes.now.entries c.args.parts.1 i)) 0 b.points) (sym c.as_slice-2.ensures) c.in_ok-seconds.ensures)
+    m)
     c.relax_parts.ensures

@@ -6,6 +6,7 @@ use Rattle.pat_bounds_laws.proofs.NumberLaws.{number_below}
 use Rattle.pat_grid_tables.specs.Views.{setting_of}
 use Rattle.pat_grid_tables.proofs.Closing.{step_tag, tag_small}
 use Rattle.pat_grid_tables.proofs.Turns.{tag_moved}
+use Rattle.pat_grid_tables.proofs.Waiting.{on_ok}
 use Rattle.pat_grid_tables.proofs.symbols.relax_tag.Goals as goal
 
 pub one-requires : goal.one-requires
@@ -24,13 +25,15 @@ pub lower-requires-clause-step : goal.lower-requires-clause-step
 lower-requires-clause-step c =
     let b = c.args.board.now in
     let g = setting_of b in
-    step_tag g c.args.s c.args.tag c.number_of-number.result (table_of g c.args.entries.now) c.requires.symbol
+    step_tag g c.args.s c.args.tag c.number_of-number.result (table_of g c.args.sizes.now.entries) c.requires.symbol
     (tag_small b c.args.s c.args.tag c.requires.board c.requires.symbol).0
     (c.number_of-number.ensures ∙ ap (λ (w : Word). number_of b.k b.tags (cut_at b.k w)) c.one.ensures)
 
 pub returns : goal.returns
 returns c =
     let b = c.args.board.now in
-    tag_moved b c.requires.board c.args.s c.args.entries.now c.args.changed.now c.args.tag c.number_of-number.result c.lower.new.entries c.lower.new.changed c.requires.symbol
+    on_ok _ _ _
+    (λ m. tag_moved b c.requires.board c.args.s c.args.sizes.now c.args.changed.now c.args.tag c.number_of-number.result c.lower.new.sizes c.lower.new.changed c.requires.symbol
     (c.number_of-number.ensures ∙ ap (λ (w : Word). number_of b.k b.tags (cut_at b.k w)) c.one.ensures)
+    m)
     c.lower.ensures

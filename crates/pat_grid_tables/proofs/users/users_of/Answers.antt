@@ -1,6 +1,5 @@
-use Rattle.std.proofs.Common.{length}
 use Rattle.pat_grid_tables.specs.Views.{setting_of}
-use Rattle.pat_grid_tables.proofs.Waiting.{users_more, users_whole}
+use Rattle.pat_grid_tables.proofs.Waiting.{users_more}
 use Rattle.pat_grid_tables.proofs.users.users_of.Goals as goal
 
 pub loop-s-preserved : goal.loop-s-preserved

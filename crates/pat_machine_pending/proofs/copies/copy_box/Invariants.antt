@@ -1,8 +1,13 @@
-use Rattle.std.proofs.Common.{◌≡◌, ◌++◌, map, take}
+use Rattle.std.proofs.Common.{◌≡◌, ◌++◌, map, length}
+use Rattle.std.specs.Borrow.{Bor}
+use Rattle.std.specs.Vec.Iter.{into_iter_items, into_iter_len}
+use Rattle.pat_reduce_threads.specs.declared.state.Message.{Message}
 use Rattle.pat_reduce_threads.specs.ThreadViews.{message_view}
-use Rattle.pat_mailboxes.specs.Mailboxes.{pending_at}
 use Rattle.pat_machine_pending.proofs.copies.copy_box.Given as goal
 
--- the copies so far
-abbrev pub invariant-loop-place : goal.invariant-loop-place
-invariant-loop-place l = map message_view l.own ≡ map message_view l.fn.own ++ map message_view (take l.place (pending_at l.mailboxes.mailboxes l.mailbox))
+-- the copies so far, and the messages that are left
+abbrev pub invariant-loop-message : goal.invariant-loop-message
+invariant-loop-message l = record {
+  whole : map message_view l.own ++ map message_view (map (λ (m : Bor Message). m.now) (into_iter_items l.message-iterator)) ≡ map message_view l.fn.own ++ map message_view (map (λ (m : Bor Message). m.now) (into_iter_items l.initial.message-iterator));
+  count : into_iter_len l.message-iterator ≡ length (into_iter_items l.message-iterator);
+}

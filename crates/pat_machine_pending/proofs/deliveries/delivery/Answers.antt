@@ -1,9 +1,8 @@
-use Rattle.std.proofs.Common.{◌≡◌, ℕ, Some, Err, sym, ap, ◌∙◌, subst}
+use Rattle.std.proofs.Common.{◌≡◌, Some, Err, sym, subst}
 use Rattle.pat_model.specs.Steps.{redex}
 use Rattle.pat_core.specs.Views.{program_view}
 use Rattle.pat_reduce_values.specs.declared.error.StepError.TheVariants.{Disabled}
 use Rattle.pat_reduce_values.specs.Results.{Gives}
-use Rattle.pat_reduce_threads.specs.declared.state.Message.{Message}
 use Rattle.pat_reduce_threads.specs.ThreadViews.{control_view, message_view}
 use Rattle.pat_reduce_threads.specs.GuardViews.{guard_view}
 use Rattle.pat_reduce_threads.specs.ThreadActs.{received_of}
@@ -13,22 +12,19 @@ use Rattle.pat_machine_pending.proofs.deliveries.delivery.Goals as goal
 pub returns-in-Ok-clause-ok : goal.returns-in-Ok-clause-ok
 returns-in-Ok-clause-ok c =
     let p = program_view c.args.code.now.program in
-    let m = c.get-message.result.now in
-    let own = c.in-Some-message_place.ensures.there in
-    let same : own.0 ≡ m = (let e : Some own.0 ≡ Some m = sym own.1 ∙ c.get-message.ensures in cc) in
-    delivers c.args.mailboxes.now.mailboxes c.requires p (redex p (control_view c.args.control.now)) (guard_view c.in-Some.guard) (sym c.in-Some.ensures) c.args.number c.in-Some-message_place.place m (control_view c.in-Ok.control) c.get-message.ensures (ap (λ (n : Message). n.number) (sym same) ∙ own.2) c.in-Ok.ensures
+    let own = c.in-Some-find_numbered.ensures.there in
+    delivers c.args.mailboxes.now.mailboxes c.requires p (redex p (control_view c.args.control.now)) (guard_view c.in-Some.guard) (sym c.in-Some.ensures) c.args.number c.in-Some-find_numbered.place c.in-Some-find_numbered.message.now (control_view c.in-Ok.control) own.0 own.1 c.in-Ok.ensures
 
 pub returns-in-Err-clause-disabled : goal.returns-in-Err-clause-disabled
 returns-in-Err-clause-disabled c is =
     let p = program_view c.args.code.now.program in
-    let m = c.get-message.result.now in
-    let own = c.in-Some-message_place.ensures.there in
-    let same : own.0 ≡ m = (let e : Some own.0 ≡ Some m = sym own.1 ∙ c.get-message.ensures in cc) in
+    let m = c.in-Some-find_numbered.message.now in
+    let own = c.in-Some-find_numbered.ensures.there in
     let error : c.in-Err.error ≡ Disabled = cc in
     let none = subst (λ e. Gives control_view (received_of p (guard_view c.in-Some.guard) (Some (message_view m))) (Err e)) error c.in-Err.ensures in
-    undelivered c.args.mailboxes.now.mailboxes c.requires p (redex p (control_view c.args.control.now)) (guard_view c.in-Some.guard) (sym c.in-Some.ensures) c.args.number c.in-Some-message_place.place m c.get-message.ensures (ap (λ (n : Message). n.number) (sym same) ∙ own.2) none
+    undelivered c.args.mailboxes.now.mailboxes c.requires p (redex p (control_view c.args.control.now)) (guard_view c.in-Some.guard) (sym c.in-Some.ensures) c.args.number c.in-Some-find_numbered.place m own.0 own.1 none
 
-pub returns-in-None-message_place-clause-disabled : goal.returns-in-None-message_place-clause-disabled
-returns-in-None-message_place-clause-disabled c is =
+pub returns-in-None-find_numbered-clause-disabled : goal.returns-in-None-find_numbered-clause-disabled
+returns-in-None-find_numbered-clause-disabled c is =
     let p = program_view c.args.code.now.program in
-    missing c.args.mailboxes.now.mailboxes c.requires p (redex p (control_view c.args.control.now)) (guard_view c.in-Some.guard) (sym c.in-Some.ensures) c.args.number c.in-None-message_place.ensures.none
+    missing c.args.mailboxes.now.mailboxes c.requires p (redex p (control_view c.args.control.now)) (guard_view c.in-Some.guard) (sym c.in-Some.ensures) c.args.number c.in-None-find_numbered.ensures.none

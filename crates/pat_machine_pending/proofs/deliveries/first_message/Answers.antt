@@ -5,7 +5,7 @@ use Rattle.pat_reduce_threads.specs.GuardViews.{guard_view}
 use Rattle.pat_reduce_threads.specs.ThreadActs.{takes}
 use Rattle.pat_mailboxes.specs.Mailboxes.{pending_at as pending_of}
 use Rattle.pat_mailboxes.proofs.Firsts.{none_found, first_found}
-use Rattle.pat_machine_pending.proofs.Boxed.{none_pending, in_length}
+use Rattle.pat_machine_pending.proofs.Boxed.{none_pending}
 use Rattle.pat_machine_pending.proofs.Delivering.{number_in}
 use Rattle.pat_machine_pending.proofs.deliveries.first_message.Goals as goal
 
@@ -15,18 +15,13 @@ returns-then-not-is_live c =
     let ms = c.args.mailboxes.now.mailboxes in
     number_in ms c.requires g None (ap (find (λ m. takes g (message_view m))) (none_pending ms g.mailbox (sym c.is_live.ensures ∙ c.if-not-is_live.true)))
 
-pub get-requires-clause-there : goal.get-requires-clause-there
-get-requires-clause-there c =
-    let first = c.in-Some.ensures.first in
-    in_length (pending_of c.args.mailboxes.now.mailboxes c.args.guard.now.mailbox) c.in-Some.place first.0 first.1
-
 pub returns-in-Some : goal.returns-in-Some
 returns-in-Some c =
     let g = guard_view c.args.guard.now in
     let ms = c.args.mailboxes.now.mailboxes in
     let first = c.in-Some.ensures.first in
-    let found = first_found (λ m. takes g (message_view m)) (pending_of ms g.mailbox) c.in-Some.place first.0 first.1 first.2 first.3 in
-    number_in ms c.requires g (Some c.get.result.now) (found ∙ sym first.1 ∙ c.get.ensures)
+    let found = first_found (λ m. takes g (message_view m)) (pending_of ms g.mailbox) c.in-Some.field-0-0 c.in-Some.message.now first.0 first.1 first.2 in
+    number_in ms c.requires g (Some c.in-Some.message.now) found
 
 pub returns-in-None : goal.returns-in-None
 returns-in-None c =

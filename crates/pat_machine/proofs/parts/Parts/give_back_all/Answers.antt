@@ -25,6 +25,7 @@ returns-clause-kept c =
           subst (λ k. MachineInvariant p m.budget m.limit m.state es (m.left + k) c.clear.new.out.items) (sym c.requires.lent)
           (subst (λ (o : Out). MachineInvariant p m.budget m.limit m.state es (m.left + allowances m.out.items) o) (sym c.clear.ensures)
           (give_all_stands p m.budget m.limit m.state es m.left m.out.items c.requires.stands));
+      counted = c.requires.counted;
       noted = c.requires.noted;
       lent = sym (nothing_lent (length m.out.items)) ∙ ap allowances (sym c.clear.ensures);
     }

@@ -29,6 +29,7 @@ returns-clause-kept c =
     let all = c.requires.kept.lent in
     record {
       stands = take_stands p m.budget m.limit m.state es m.left m.out.items c.requires.kept.stands c.args.thread n s.0 s.1 c.requires.ready.0 (omega arith) (omega arith);
+      counted = c.requires.kept.counted;
       noted = c.requires.kept.noted;
       lent = omega arith;
     }

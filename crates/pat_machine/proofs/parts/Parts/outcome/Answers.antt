@@ -1,17 +1,23 @@
-use Rattle.std.proofs.Common.{◌≡◌, true, inl, sym, subst}
-use Rattle.pat_model.specs.Programs.{is_among}
+use Rattle.std.proofs.Common.{inl, sym, subst}
 use Rattle.pat_core.specs.Views.{program_view}
-use Rattle.pat_machine_waits.proofs.Noting.{enabled_awake}
+use Rattle.pat_locality_laws.specs.Senders.{AreCandidates}
+use Rattle.pat_machine_waits.proofs.Noting.{candidates}
 use Rattle.pat_machine.proofs.Ending.{lent_out, stuck, full, spent, goes_on}
+use Rattle.pat_machine.proofs.Naming.{told}
 use Rattle.pat_machine.proofs.parts.Parts.outcome.Goals as goal
+
+pub prospect-requires-clause-told : goal.prospect-requires-clause-told
+prospect-requires-clause-told c = told c.args.self.now c.requires
 
 pub returns-then-self-gt0 : goal.returns-then-self-gt0
 returns-then-self-gt0 c = inl (lent_out c.outcome_laws.ensures.outcomes c.args.self.now c.requires c.if-self-gt0.true)
 
-pub prospect-requires : goal.prospect-requires
-prospect-requires c t can =
+pub prospect-requires-clause-candidates : goal.prospect-requires-clause-candidates
+prospect-requires-clause-candidates c =
     let m = c.args.self.now in
-    subst (λ l. is_among t l ≡ true) (sym c.as_slice-candidates.ensures.value) (enabled_awake (program_view m.code.program) m.state m.waits c.requires.noted t can)
+    let p = program_view m.code.program in
+    subst (λ l. AreCandidates p m.state l c.as_slice-senders.result.now) (sym c.as_slice-others.ensures.value)
+    (subst (AreCandidates p m.state m.waits.awake.numbers.items) (sym c.as_slice-senders.ensures.value) (candidates p m.state m.waits c.requires.noted))
 
 pub returns-in-Stuck : goal.returns-in-Stuck
 returns-in-Stuck c = stuck c.outcome_laws.ensures.outcomes c.args.self.now c.requires c.if-self-gt0.false c.in-Stuck.ensures

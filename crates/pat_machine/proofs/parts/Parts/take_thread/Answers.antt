@@ -3,7 +3,11 @@ use Rattle.pat_core.specs.Views.{program_view}
 use Rattle.pat_model_laws.proofs.Lists.{clash}
 use Rattle.pat_commits.specs.Turns.{is_ready}
 use Rattle.pat_commit_laws.proofs.Ready.{ready_passes, passes_ready}
+use Rattle.pat_machine.proofs.Naming.{told}
 use Rattle.pat_machine.proofs.parts.Parts.take_thread.Goals as goal
+
+pub is_ready-requires : goal.is_ready-requires
+is_ready-requires c = record { told = told c.args.self.now c.requires }
 
 pub returns-then-not-is_ready-clause-taken : goal.returns-then-not-is_ready-clause-taken
 returns-then-not-is_ready-clause-taken c =

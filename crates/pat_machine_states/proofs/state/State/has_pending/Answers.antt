@@ -6,9 +6,9 @@ use Rattle.pat_machine_states.proofs.state.State.has_pending.Goals as goal
 pub returns-then-is_live : goal.returns-then-is_live
 returns-then-is_live c =
     let i = c.self.inside in
-    pending_test i.config i.latest i.mailboxes.mailboxes c.self.invariant c.args.mailbox c.len.result c.len.ensures ∙ ap (λ (d : Config). has_pending c.args.mailbox d.messages) c.self.view_is
+    pending_test i.placed i.latest i.mailboxes.mailboxes c.self.invariant c.args.mailbox c.len.result c.len.ensures ∙ ap (λ (d : Config). has_pending c.args.mailbox d.messages) c.self.view_is
 
 pub returns-else-is_live : goal.returns-else-is_live
 returns-else-is_live c =
     let i = c.self.inside in
-    none_test i.config i.latest i.mailboxes.mailboxes c.self.invariant c.args.mailbox (sym c.is_live.ensures ∙ c.if-is_live.false) ∙ ap (λ (d : Config). has_pending c.args.mailbox d.messages) c.self.view_is
+    none_test i.placed i.latest i.mailboxes.mailboxes c.self.invariant c.args.mailbox (sym c.is_live.ensures ∙ c.if-is_live.false) ∙ ap (λ (d : Config). has_pending c.args.mailbox d.messages) c.self.view_is

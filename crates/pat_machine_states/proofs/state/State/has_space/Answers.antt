@@ -7,4 +7,4 @@ use Rattle.pat_machine_states.proofs.state.State.has_space.Goals as goal
 pub returns : goal.returns
 returns c =
     let i = c.self.inside in
-    ap (λ n. nat_lt n c.args.limit) (c.pending.ensures ∙ counted i.config i.latest i.mailboxes.mailboxes c.self.invariant ∙ ap (λ (d : Config). length d.messages) c.self.view_is)
+    ap (λ n. nat_lt n c.args.limit) (c.pending.ensures ∙ counted i.placed i.latest i.mailboxes.mailboxes c.self.invariant ∙ ap (λ (d : Config). length d.messages) c.self.view_is)

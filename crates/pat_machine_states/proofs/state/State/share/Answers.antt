@@ -1,16 +1,17 @@
 use Rattle.std.proofs.Common.{sym, ap, ◌∙◌, subst, arith}
-use Rattle.std.specs.Prelude.{option_map}
 use Rattle.pat_model.specs.Configs.{thread_at, with_thread}
 use Rattle.pat_model.specs.Orders.{IsOrdered}
+use Rattle.pat_model.specs.Steps.{message_at}
 use Rattle.pat_core.specs.Views.{program_view}
 use Rattle.pat_reduce_threads.specs.ThreadViews.{thread_view}
-use Rattle.pat_reduce.specs.Views.{act_view}
 use Rattle.pat_commits.specs.Tops.{below}
 use Rattle.pat_commit_laws.proofs.Exchanges.{frames_after, ordered_on_top, share_over}
-use Rattle.pat_machine_states.specs.Aside.{aside_view}
+use Rattle.pat_machine_threads.specs.Aside.{aside_view}
 use Rattle.pat_machine_states.specs.Stepping.{ReferToLive}
+use Rattle.pat_machine_states.specs.Taking.{taken_act}
 use Rattle.pat_machine_states.proofs.Asides.{top_there, room_there, back_there}
 use Rattle.pat_machine_states.proofs.Referring.{refer_on_top}
+use Rattle.pat_machine_states.proofs.Reaching.{stands_on_top}
 use Rattle.pat_machine_states.proofs.state.State.share.Goals as goal
 
 pub take_open-requires-clause-ordered : goal.take_open-requires-clause-ordered
@@ -26,6 +27,13 @@ take_open-requires-clause-live c =
     let a = c.in_ok-kept.ensures.ok in
     subst ReferToLive (sym a.put) (refer_on_top c.args.self.now c.args.thread (thread_view c.args.top) (below c.args.gone s.0) (c.requires.typed s.0 s.1).typed.numbers.threads_live)
 
+pub take_open-requires-clause-alone : goal.take_open-requires-clause-alone
+take_open-requires-clause-alone c =
+    let s = c.requires.there in
+    let a = c.in_ok-kept.ensures.ok in
+    let there = top_there c.args.self.now c.set_aside.new.self c.args.thread c.args.top c.in_ok-kept.kept a in
+    stands_on_top (program_view c.args.code.now.program) c.args.self.now c.set_aside.new.self c.args.thread (thread_view c.args.top) (below c.args.gone s.0) c.args.alone a.put there (c.requires.alone s.0 s.1)
+
 pub cover-requires : goal.cover-requires
 cover-requires c = λ r at.
     let middle = c.set_aside.new.self in
@@ -34,7 +42,7 @@ cover-requires c = λ r at.
     let a = c.in_ok-kept.ensures.ok in
     let ordered = subst IsOrdered (sym a.put) (ordered_on_top c.args.self.now t (thread_view c.args.top) (below c.args.gone s.0) (c.requires.typed s.0 s.1).typed.numbers.ordered) in
     let there = top_there c.args.self.now middle t c.args.top c.in_ok-kept.kept a in
-    let few = frames_after (program_view c.args.code.now.program) middle t (thread_view c.args.top) r ordered there (option_map act_view c.in-Ok.act) c.take_open.new.self c.in-Ok.ensures.ok.taken at in
+    let few = frames_after (program_view c.args.code.now.program) middle t (thread_view c.args.top) r ordered there (taken_act c.in-Ok.taken) c.take_open.new.self c.in-Ok.ensures.ok.taken at in
     let room = room_there c.args.self.now middle t c.args.top c.in_ok-kept.kept a in
     omega arith
 
@@ -47,7 +55,7 @@ restore-requires c = (
 pub returns-in-Ok-clause-ok : goal.returns-in-Ok-clause-ok
 returns-in-Ok-clause-ok c = λ s at.
     let a = c.in_ok-kept.ensures.ok in
-    share_over (program_view c.args.code.now.program) c.args.limit c.args.self.now c.set_aside.new.self c.take_open.new.self c.cover.new.self c.args.thread c.args.gone (aside_view c.in_ok-kept.kept) (thread_view c.args.top) (option_map act_view c.in-Ok.act)
+    share_over (program_view c.args.code.now.program) c.args.limit c.args.self.now c.set_aside.new.self c.take_open.new.self c.cover.new.self c.args.thread c.args.gone (aside_view c.in_ok-kept.kept) (thread_view c.args.top) (taken_act c.in-Ok.taken)
     a.there a.put c.in-Ok.ensures.ok c.cover.ensures s at (c.requires.frame s at)
 
 pub returns-in-Err-clause-err : goal.returns-in-Err-clause-err
@@ -55,3 +63,6 @@ returns-in-Err-clause-err c =
     c.restore.ensures
     ∙ ap (λ d. with_thread d c.args.thread (aside_view c.in_ok-kept.kept)) c.in-Err.ensures.err
     ∙ back_there c.args.self.now c.set_aside.new.self c.args.thread c.args.top c.in_ok-kept.kept c.in_ok-kept.ensures.ok
+
+pub returns-in-Ok-clause-message : goal.returns-in-Ok-clause-message
+returns-in-Ok-clause-message c = λ k is. c.in-Ok.ensures.message k is ∙ ap (λ d. message_at d k) c.in_ok-kept.ensures.ok.put

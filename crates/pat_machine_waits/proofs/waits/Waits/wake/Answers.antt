@@ -1,29 +1,36 @@
-use Rattle.std.proofs.Common.{◌≡◌, ℕ, Some, None, sym, ap, ◌∙◌, subst, inl, inr, ⊎_elim, arith}
+use Rattle.std.proofs.Common.{◌≡◌, ℕ, Some, None, refl, sym, ap, ◌∙◌, subst, inl, inr, ⊎_elim, arith}
 use Rattle.pat_commit_laws.proofs.Tables.{set_here}
-use Rattle.pat_machine_waits.specs.Waits.{sleeper_at, IsAwake}
-use Rattle.pat_machine_waits.proofs.Slept.{cleared, slept_there, within}
+use Rattle.pat_machine_waits.specs.Waits.{sleeper_at}
+use Rattle.pat_machine_waits.specs.Ascending.{Has}
+use Rattle.pat_machine_waits.proofs.Slept.{cleared, cleared_count, slept_there, uncleared, within}
 use Rattle.pat_machine_waits.proofs.waits.Waits.wake.Goals as goal
 
 pub returns-in-Some : goal.returns-in-Some
 returns-in-Some c =
     let w = c.args.self.now in
     let a = c.args.mailbox in
-    let own : sleeper_at w.sleepers.items a ≡ Some c.in-Some.thread = sym c.sleeper_at.ensures ∙ c.in-Some.is in
+    let own : sleeper_at w.sleepers.items a ≡ Some c.in-Some.thread = sym c.sleeper.ensures ∙ c.in-Some.is in
     let k = c.add.ensures in
+    let there = slept_there w.sleepers.items a c.in-Some.thread own in
+    let one = cleared_count w.sleepers.items a c.in-Some.thread there in
+    let len = k.len in
     record {
-      order = k.order;
+      order = (k.order, c.requires.order.1);
       others = k.others;
       only = λ u on. ⊎_elim (λ was. inl was) (λ same. inr (own ∙ ap (λ (x : ℕ). Some x) (sym same))) (k.only u on);
-      empty = subst (λ l. sleeper_at l a ≡ None) (sym k.asleep) (set_here w.sleepers.items a None (within w.sleepers.items a _ (slept_there w.sleepers.items a c.in-Some.thread own)));
+      empty = set_here w.sleepers.items a None (within w.sleepers.items a _ there);
       woken = λ u s.
           let both : Some c.in-Some.thread ≡ Some u = sym own ∙ s in
           let same : c.in-Some.thread ≡ u = cc in
-          subst (IsAwake c.add.new.self) same k.own;
+          subst (Has c.add.new.self) same k.own;
       asleep = λ b u s. ⊎_elim
-          (λ stays. inl (subst (λ l. sleeper_at l b ≡ Some u) (sym k.asleep) stays))
-          (λ same. inr (subst (IsAwake c.add.new.self) (sym same) k.own))
+          (λ stays. inl stays)
+          (λ same. inr (subst (Has c.add.new.self) (sym same) k.own))
           (cleared w.sleepers.items a c.in-Some.thread b u own s);
-      space = record { len = k.space.len; capacity = k.space.capacity };
+      slept = λ b u s. uncleared w.sleepers.items a b u (within w.sleepers.items a _ there) s;
+      senders = refl;
+      space = record { len = omega arith; capacity = k.capacity; held = omega arith; hold = omega arith };
+      room = λ had. had;
     }
 
 pub returns-in-None : goal.returns-in-None
@@ -31,8 +38,20 @@ returns-in-None c = record {
   order = c.requires.order;
   others = λ u on. on;
   only = λ u on. inl on;
-  empty = sym c.sleeper_at.ensures ∙ c.in-None.is;
-  woken = λ u s. let none = sym c.sleeper_at.ensures ∙ c.in-None.is in cc;
+  empty = sym c.sleeper.ensures ∙ c.in-None.is;
+  woken = λ u s. let none = sym c.sleeper.ensures ∙ c.in-None.is in cc;
   asleep = λ b u s. inl s;
-  space = record { len = omega arith; capacity = omega arith };
+  slept = λ b u s. s;
+  senders = refl;
+  space = record { len = omega arith; capacity = omega arith; held = omega arith; hold = omega arith };
+  room = λ had. had;
 }
+
+pub add-requires-clause-space : goal.add-requires-clause-space
+add-requires-clause-space c =
+    let w = c.args.self.now in
+    let a = c.args.mailbox in
+    let own : sleeper_at w.sleepers.items a ≡ Some c.in-Some.thread = sym c.sleeper.ensures ∙ c.in-Some.is in
+    let one = cleared_count w.sleepers.items a c.in-Some.thread (slept_there w.sleepers.items a c.in-Some.thread own) in
+    let had = c.requires.space in
+    omega arith

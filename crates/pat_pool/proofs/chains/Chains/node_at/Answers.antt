@@ -4,7 +4,7 @@ use Rattle.std.proofs.lemmas.List.{length-map}
 use Rattle.pat_pool.specs.Chained.{nodes_of}
 use Rattle.pat_pool.specs.Nodes.{path, AreBelow}
 use Rattle.pat_pool.proofs.ChainLaws.{chain_is, is_queue}
-use Rattle.pat_pool.proofs.Linking.{own_length, own_nodes, own_below}
+use Rattle.pat_pool.proofs.Linking.{own_length, own_nodes, own_fits, own_below, last_at}
 use Rattle.pat_pool.proofs.chains.Chains.node_at.Goals as goal
 
 pub index-chain-requires : goal.index-chain-requires
@@ -15,6 +15,24 @@ index-chain-requires c =
     let size = length-map m.queues.items (nodes_of m.links.items) in
     let sizes = m.queues.ok.0 in
     omega arith
+
+pub overflow_add-place : goal.overflow_add-place
+overflow_add-place c =
+    let m = c.args.self.now in
+    let own = c.index-chain.result.now in
+    let there = c.requires.there in
+    let is = chain_is m.links.items m.queues.items c.args.queue own (is_queue (queue_nodes m) c.args.queue (omega arith)) c.index-chain.ensures in
+    let size = own_length m.links.items m.first_free m.spare m.queues.items c.args.queue own is in
+    let fits = own_fits m.links.items m.first_free m.spare m.queues.items c.args.queue own is [] c.requires.chained in
+    omega arith
+
+pub returns-then-place-chain : goal.returns-then-place-chain
+returns-then-place-chain c =
+    let m = c.args.self.now in
+    let own = c.index-chain.result.now in
+    let there = c.requires.there in
+    let is = chain_is m.links.items m.queues.items c.args.queue own (is_queue (queue_nodes m) c.args.queue (omega arith)) c.index-chain.ensures in
+    last_at m.links.items m.first_free m.spare m.queues.items c.args.queue own is c.args.place [] c.requires.chained c.if-place-chain.true
 
 pub node_at-requires-clause-there : goal.node_at-requires-clause-there
 node_at-requires-clause-there c =

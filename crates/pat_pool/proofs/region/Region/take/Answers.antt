@@ -1,7 +1,7 @@
 use Rattle.std.proofs.Common.{◌∙◌, List, Option, ap, sym, subst}
 use Rattle.pat_pool.specs.Chained.{queue_nodes}
 use Rattle.pat_pool.specs.Pooled.{IsHolding, contents_of}
-use Rattle.pat_pool.proofs.Holding.{value_in, taken_there, taken_value, taken_some}
+use Rattle.pat_pool.proofs.Holding.{value_in, found, taken_value, not_empty}
 use Rattle.pat_pool.proofs.region.Region.take.Goals as goal
 
 pub give_back-node-requires-clause-there : goal.give_back-node-requires-clause-there
@@ -10,7 +10,7 @@ give_back-node-requires-clause-there g c = let m = c.args.self.now in (value_in 
 pub unreachable-requires : goal.unreachable-requires
 unreachable-requires g c =
     let m = c.args.self.now in
-    taken_some m.chains m.held.items c.args.queue c.args.place c.give_back-node.result c.take_out.result c.requires.region c.requires.there c.give_back-node.ensures.node c.take_out.ensures.value c.in-None.is
+    not_empty m.chains m.held.items c.args.queue c.args.place c.give_back-node.result c.take_out.result c.requires.region c.requires.there c.give_back-node.ensures.node c.take_out.ensures.value c.in-None.is
 
 pub returns-clause-region : goal.returns-clause-region
 returns-clause-region g c =
@@ -22,7 +22,7 @@ returns-clause-region g c =
 pub returns-clause-value : goal.returns-clause-value
 returns-clause-value g c =
     let m = c.args.self.now in
-    taken_there m.chains m.held.items c.args.queue c.args.place c.give_back-node.result c.take_out.result c.requires.region c.requires.there c.give_back-node.ensures.node c.take_out.ensures.value ∙ c.in-Some.is
+    found m.chains m.held.items c.args.queue c.args.place c.give_back-node.result c.take_out.result c.requires.region c.requires.there c.give_back-node.ensures.node c.take_out.ensures.value ∙ c.in-Some.is
 
 pub returns-clause-contents : goal.returns-clause-contents
 returns-clause-contents g c =

@@ -1,0 +1,89 @@
+// Sizes of least trees, and where they are known.
+ghost use Rattle.std.specs.Prelude.{◌≡◌, ◌<◌, [], length, get_or, set, replicate, IfOk, OnOk, if◌then◌else◌};
+ghost use Rattle.pat_grid_tables.specs.Waiting.{noted};
+
+use pat_sequences::Sequence;
+use std::alloc::{AllocError, Global};
+use std::mem;
+
+/// The sizes of least trees as far as they are known. Mostly a symbol has trees at a handful of points, so these are also
+/// listed.
+#[derive(Drop)]
+pub struct Sizes {
+    /// For each symbol an entry for each point.
+    pub entries: Sequence<u16>,
+    /// Of each symbol the numbers of the points at which it has a tree, as they were reached.
+    pub reached: Sequence<Sequence<u16>>,
+    /// The numbers at which an entry was lowered since the look at a symbol began.
+    pub news: Sequence<usize>,
+}
+
+/// The numbers at which the symbol has a tree.
+pub fn reached_at<'a>(sizes: &'a Sizes, s: usize) -> &'a [u16]
+    ensures { result.now ≡ get_or sizes.now.reached s [] }
+{
+    let reached = sizes.reached.as_slice();
+    if s < reached.len() {
+        reached[s].as_slice()
+    } else {
+        &[]
+    }
+}
+
+/// Notes that the symbol has a tree at the number, if it is asked for.
+pub fn note_if(
+    wanted: bool,
+    reached: &mut Sequence<Sequence<u16>>,
+    s: usize,
+    number: u16,
+) -> Result<(), AllocError>
+    ensures { OnOk result (reached.new ≡ (if wanted then noted reached.old s number else reached.old)) }
+{
+    if wanted {
+        note(reached, s, number)?;
+    }
+    Ok(())
+}
+
+fn note(reached: &mut Sequence<Sequence<u16>>, s: usize, number: u16) -> Result<(), AllocError>
+    ensures { OnOk result (reached.new ≡ noted reached.old s number) }
+{
+    if s < reached.len() {
+        reached.items[s].push(number)?;
+    }
+    Ok(())
+}
+
+/// A list of no number for each symbol.
+pub fn none_reached(alloc: Global, count: usize) -> Result<Sequence<Sequence<u16>>, AllocError>
+    ensures { IfOk result (λ reached. reached ≡ replicate count []) }
+{
+    let mut reached = Sequence::new(alloc);
+    for _ in 0..count {
+        reached.push(Sequence::new(alloc))?;
+    }
+    Ok(reached)
+}
+
+/// Writes an entry.
+pub fn write(entries: &mut Sequence<u16>, place: usize, size: u16)
+    requires { place < length entries.old }
+    ensures { entries.new ≡ set entries.old place size }
+{
+    entries.items[place] = size;
+}
+
+/// From now on nothing is new.
+pub fn forget(news: &mut Sequence<usize>)
+    ensures { news.new ≡ [] }
+{
+    news.items.clear();
+}
+
+/// What is new; from now on nothing is.
+pub fn take(alloc: Global, news: &mut Sequence<usize>) -> Sequence<usize>
+    ensures old { result ≡ news.old }
+    ensures now { news.new ≡ [] }
+{
+    mem::replace(news, Sequence::new(alloc))
+}

@@ -1,0 +1,23 @@
+// Threads whose next step is a send.
+ghost use Rattle.std.specs.Prelude.{◌≡◌, option_map, IsTrue};
+ghost use Rattle.pat_core.specs.Views.{program_view};
+ghost use Rattle.pat_reduce_threads.specs.ThreadViews.{thread_view};
+ghost use Rattle.pat_reduce.specs.Views.{act_view};
+ghost use Rattle.pat_locality_laws.specs.Senders.{is_about_to_send};
+ghost use Rattle.pat_machine_states.specs.Opening.{is_sending};
+
+use pat_executable::Executable;
+use pat_reduce::{Act, ThreadState, plain_act};
+
+/// Whether the thread is found to stand at a send, which is held back where there is no space. Nothing else is looked at.
+pub fn is_about_to_send(code: &Executable, state: &ThreadState) -> bool
+    ensures { IsTrue result → IsTrue (is_about_to_send (program_view code.now.program) (thread_view state.now)) }
+{
+    is_sending(plain_act(code, state))
+}
+
+fn is_sending(act: Option<Act>) -> bool
+    ensures { result ≡ is_sending (option_map act_view act) }
+{
+    matches!(act, Some(Act::Send))
+}

@@ -1,0 +1,4 @@
+mod Turns
+mod Sums
+mod Times
+mod Lists

@@ -1,0 +1,9 @@
+//! A configuration whose threads stand at the places of their numbers, and steps of one thread by itself.
+#![tactic(auto)]
+
+mod copies;
+mod moves;
+mod placed;
+mod steps;
+
+pub use placed::Placed;

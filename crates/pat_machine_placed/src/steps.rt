@@ -1,0 +1,47 @@
+// Steps of one thread, by itself.
+ghost use Rattle.std.specs.Prelude.{◌≡◌, [], Some};
+ghost use Rattle.pat_model.specs.Configs.{Thread as ThreadOf, thread_at};
+ghost use Rattle.pat_core.specs.Views.{program_view};
+ghost use Rattle.pat_reduce.specs.Views.{step_view};
+ghost use Rattle.pat_commits.specs.Machines.{HasRoom};
+ghost use Rattle.pat_machine_placed.specs.Steps.{StepsApart};
+
+use crate::Placed;
+use crate::moves::{put_back, set_apart};
+use pat_executable::Executable;
+use pat_reduce::{Step, StepError};
+use std::alloc::Global;
+
+impl Placed {
+    /// Takes a step of a thread by itself, while no other one is there and no message: what is left of it goes back to its place.
+    /// An error changes nothing.
+    pub fn step(&mut self, alloc: Global, code: &Executable, step: &Step) -> Result<(), StepError>
+        requires room { HasRoom self.old }
+        requires none { self.old.messages ≡ [] }
+        ensures { StepsApart (program_view code.now.program) self.old (step_view step.now) self.new result }
+    {
+        match self.table.get(step.thread) {
+            Some(_) => self.step_there(alloc, code, step),
+            None => Err(StepError::Disabled),
+        }
+    }
+
+    // The same of a thread that is there.
+    fn step_there(&mut self, alloc: Global, code: &Executable, step: &Step) -> Result<(), StepError>
+        requires there { (s : ThreadOf) × (thread_at self.old step.now.thread ≡ Some s) }
+        requires room { HasRoom self.old }
+        requires none { self.old.messages ≡ [] }
+        ensures { StepsApart (program_view code.now.program) self.old (step_view step.now) self.new result }
+    {
+        self.table.reserve()?;
+        set_apart(
+            alloc,
+            &mut self.config.threads,
+            &mut self.table,
+            step.thread,
+        )?;
+        let taken = self.config.step_at_place(alloc, code, step, 0);
+        put_back(&mut self.config.threads, &mut self.table, step.thread);
+        taken
+    }
+}

@@ -1,0 +1,56 @@
+-- The end of a commit is one of the definitions.
+use Rattle.std.proofs.Common.{◌≡◌, ℕ, ◌<◌, ◌≤◌, Option, Some, refl, sym, ap, ◌∙◌, subst, arith, ⊎_elim}
+use Rattle.std.specs.Prelude.{nat_lt}
+use Rattle.std.proofs.lemmas.Bool.{ltb-true, ltb-false, cases_Bool}
+use Rattle.pat_model.specs.Programs.{Program}
+use Rattle.pat_model.specs.Configs.{Thread, Config, thread_at, with_thread}
+use Rattle.pat_model.specs.Steps.{Act}
+use Rattle.pat_model.specs.Runs.{Entry, IsSharedOrNone, run_from, shared_step}
+use Rattle.pat_commits.specs.Commits.{IsLocalRun, Shares, IsCommit}
+use Rattle.pat_commit_laws.proofs.Runs.{commit_shared}
+use Rattle.pat_machine_threads.specs.declared.settling.Settled.{Settled}
+use Rattle.pat_machine_threads.specs.Settling.{IsRunOnTop, settled_thread}
+use Rattle.pat_machine_shares.specs.Settling.{IsSettled, half_way, Finishes}
+
+-- the end leads from the settled state on
+pub run_of : (p : Program) (allowance limit : ℕ) (half d : Config) (t k : ℕ) (a : Option Act) → Finishes p allowance limit half t k a d → k ≤ allowance → run_from p half (shared_step t a) ≡ Some d
+run_of p allowance limit half d t k a f within = ⊎_elim
+    (λ less. (f.shared (ltb-true k allowance less)).taken)
+    (λ more.
+    let beyond = ltb-false k allowance more in
+    let q = f.spent (omega arith) in
+    ap (λ o. run_from p half (shared_step t o)) q.0 ∙ ap (λ (x : Config). Some x) (sym q.1))
+    (cases_Bool (nat_lt k allowance))
+
+module _ (p : Program) (c : Config) (t allowance : ℕ) (s : Settled) (h : IsSettled p c t allowance s) where
+  -- the thread is the one that is there
+  pub kept_is : (x : Thread) → thread_at c t ≡ Some x → h.kept ≡ x
+  kept_is x at =
+      let both : Some h.kept ≡ Some x = sym h.there ∙ at in
+      cc
+
+  pub settled_run : (x : Thread) → thread_at c t ≡ Some x → IsRunOnTop p allowance x s
+  settled_run x at = subst (λ w. IsRunOnTop p allowance w s) (kept_is x at) h.run
+
+  -- the settled state and its end are a commit
+  pub commit_of : (limit : ℕ) (d : Config) (e : Entry) → e.thread ≡ t → e.local_steps ≡ s.steps → Finishes p allowance limit (half_way c t h.kept s) t s.steps e.shared d → IsCommit p allowance limit c e d
+  commit_of limit d e thread steps f =
+      let middle = settled_thread h.kept s in
+      record {
+        kept = h.kept;
+        middle = middle;
+        there = ap (thread_at c) thread ∙ h.there;
+        local = subst (λ k. IsLocalRun p allowance h.kept k middle) (sym steps) h.run.local;
+        shared = λ less.
+            subst (λ u. Shares p limit (with_thread c u middle) u e.shared d) (sym thread)
+            (f.shared (subst (λ k. k < allowance) steps less));
+        spent = λ all.
+            let q = f.spent (sym steps ∙ all) in
+            (q.0, q.1 ∙ ap (λ u. with_thread c u middle) (sym thread));
+      }
+
+  -- so its shared step is no local one
+  pub shared_or_none : (limit : ℕ) (a : Option Act) (d : Config) → Finishes p allowance limit (half_way c t h.kept s) t s.steps a d → IsSharedOrNone a
+  shared_or_none limit a d f =
+      let e : Entry = record { worker = 0; thread = t; local_steps = s.steps; shared = a } in
+      commit_shared p allowance limit c d e (commit_of limit d e refl refl f)

@@ -1,0 +1,15 @@
+use Rattle.std.proofs.Common.{sym, ap, ◌∙◌, subst}
+use Rattle.std.specs.Prelude.{option_map, option_copied}
+use Rattle.pat_reduce_threads.specs.ThreadViews.{thread_view}
+use Rattle.pat_naming_laws.specs.Naming.{times_in_thread}
+use Rattle.pat_naming_laws.specs.Counting.{times_if_thread}
+use Rattle.pat_machine_names.specs.Changes.{HasPlaces}
+use Rattle.pat_machine_shares.proofs.Left.{bare_top}
+use Rattle.pat_machine_shares.proofs.counting.count_spawned.Goals as goal
+
+pub count_top-requires : goal.count_top-requires
+count_top-requires c =
+    let there = sym c.thread.ensures ∙ ap (λ o. option_map thread_view (option_copied o)) c.in-Some.is in
+    let s = thread_view c.in-Some.spawned.now in
+    subst (λ x. HasPlaces c.args.names.now (λ a. times_in_thread a x)) (bare_top s (c.requires.bare s there))
+    (subst (λ o. HasPlaces c.args.names.now (λ a. times_if_thread a o)) there c.requires.places)

@@ -1,0 +1,7 @@
+//! The end of a job on the kept configuration, with the names of mailboxes counted as they change.
+#![tactic(auto)]
+
+mod counting;
+mod sharing;
+
+pub use sharing::share;

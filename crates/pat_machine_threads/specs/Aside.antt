@@ -1,0 +1,8 @@
+-- A thread's state that is set aside.
+use Rattle.std.specs.Prelude.{map}
+use Rattle.pat_model.specs.Configs.{Thread}
+use Rattle.pat_reduce_threads.specs.ThreadViews.{control_view, frame_view}
+use Rattle.pat_machine_threads.specs.declared.asides.Aside.{Aside}
+
+abbrev pub aside_view : Aside → Thread
+aside_view kept = record { control = control_view kept.rest.control; frames = map frame_view kept.frames.0 }
