@@ -43,6 +43,20 @@ def below(name):
     return frozenset(found)
 
 
+def reads():
+    """How many files are read to tell by which sources each library was made: `rt` walks each way down through crates.txt
+    anew, and reads on it all files of all crates."""
+    known = {}
+
+    def of(name):
+        if name not in known:
+            known[name] = len(files(name, "")) + sum(of(it) for it in own(uses_of[name]))
+        return known[name]
+
+    uses_of = uses()
+    return sum(of(name) for name in uses_of if os.path.isfile(f"{ROOT}/crates/{name}/src/lib.rt"))
+
+
 @functools.lru_cache(maxsize=None)
 def files(name, ending, part=""):
     """The paths from the top of the crate's files with that ending, what is built left out."""

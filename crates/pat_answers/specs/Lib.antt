@@ -1,2 +1,4 @@
+pub use Rattle.pat_front.specs.Lines
+pub use Rattle.pat_front.specs.Texts
 pub mod Statuses
 pub mod Answers

@@ -5,4 +5,5 @@ mod answer;
 mod status;
 
 pub use answer::{Answer, accepted_answer, refused, verdict_answer, verdict_answer_with};
+pub use pat_front::{check_tree, tree_of};
 pub use status::Status;

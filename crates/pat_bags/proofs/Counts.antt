@@ -3,7 +3,7 @@ use Rattle.std.proofs.Common.{◌≡◌, ◌≢◌, ℕ, ◌<◌, ◌≤◌, Lis
 use Rattle.std.proofs.lemmas.List.{get_or_past, get_or-set_same, get_or-set_other, get_or-replicate, length-replicate}
 use Rattle.std.proofs.lemmas.Bool.{cases_lt, cond_both, eqb-true, eq-eqb}
 use Rattle.pat_words.specs.Words.{Word, no_word, one, LiesIn}
-use Rattle.pat_words.proofs.WordLaws.{word_ext, count_eq}
+use Rattle.pat_words_laws.proofs.WordLaws.{word_ext, count_eq}
 use Rattle.pat_bags.specs.Views.{counted}
 
 -- a list of zeros counts nothing

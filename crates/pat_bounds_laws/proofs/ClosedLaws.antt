@@ -4,7 +4,7 @@ use Rattle.std.proofs.lemmas.Bool.{and_parts, and_from}
 use Rattle.pat_words.specs.Words.{Word}
 use Rattle.pat_words.specs.Patterns.{Pat, Zero, One, Tag, Sum, Prod, Star, Var, Language, In, InUnder, no_values, is_closed, subst_of}
 use Rattle.pat_words.specs.Flats.{is_choice, is_flat}
-use Rattle.pat_words.proofs.FormLaws.{times_mono, subst_to, subst_from}
+use Rattle.pat_words_laws.proofs.FormLaws.{times_mono, subst_to, subst_from}
 use Rattle.pat_words.specs.Languages.{MemberOf}
 use Rattle.pat_words.specs.Cuts.{CutOf}
 use Rattle.pat_bounds.specs.Trees.{Derivable, derivable}

@@ -5,7 +5,7 @@ use Rattle.std.proofs.lemmas.Bool.{and_parts}
 use Rattle.pat_words.specs.Words.{Word}
 use Rattle.pat_words.specs.Patterns.{Pat, Zero, One, Tag, Sum, Prod, Star, Var, Language, Times, In, InUnder, no_values}
 use Rattle.pat_words.specs.Cuts.{cut_at, CutOf}
-use Rattle.pat_words.proofs.FormLaws.{subst_to}
+use Rattle.pat_words_laws.proofs.FormLaws.{subst_to}
 use Rattle.pat_words.specs.Tags.{tags_below, HasTagsBelow}
 use Rattle.std.proofs.lemmas.Bool.{ltb-true}
 use Rattle.pat_inclusions.specs.Points.{points_pattern}

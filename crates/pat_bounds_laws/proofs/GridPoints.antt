@@ -4,7 +4,7 @@ use Rattle.std.specs.Prelude.{◌&&◌, nat_le}
 use Rattle.std.specs.List.{AllByRecursion, list_all, list_any}
 use Rattle.std.proofs.lemmas.Bool.{and_from, or_cases, or_left, or_right, cond_both, cases_lt, le-leb}
 use Rattle.pat_words.specs.Words.{Word}
-use Rattle.pat_words.proofs.WordLaws.{word_ext}
+use Rattle.pat_words_laws.proofs.WordLaws.{word_ext}
 use Rattle.pat_words.specs.Tags.{HasTagsBelow}
 use Rattle.pat_inclusions.specs.Counts.{same_below, counted}
 use Rattle.pat_inclusions.specs.Points.{grid_fits, point_fits, comes_before, points_ascend, points_fit}

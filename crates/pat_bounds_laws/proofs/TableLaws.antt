@@ -3,7 +3,7 @@ use Rattle.std.proofs.Common.{◌≡◌, ℕ, zero, suc, ◌+◌, ◌≤◌, ◌
 use Rattle.pat_words.specs.Words.{Word, no_word, one, plus}
 use Rattle.pat_words.specs.Patterns.{Pat, Zero, One, Tag, Sum, Prod, Star, Var, Language, Times, InUnder}
 use Rattle.pat_words.specs.Cuts.{cut_at}
-use Rattle.pat_words.proofs.WordLaws.{word_ext, count_eq, none_plus}
+use Rattle.pat_words_laws.proofs.WordLaws.{word_ext, count_eq, none_plus}
 use Rattle.pat_words.specs.Tags.{HasTagsBelow}
 use Rattle.pat_words.specs.Languages.{MemberOf}
 use Rattle.pat_inclusions.specs.Counts.{same_below}

@@ -5,15 +5,15 @@ use Rattle.std.specs.List.{AllByRecursion}
 use Rattle.std.proofs.lemmas.Bool.{and_parts, and_from, eqb-true, eq-eqb, cases_lt}
 use Rattle.pat_words.specs.Words.{Word, plus, LiesIn}
 use Rattle.pat_words.specs.Tags.{HasTagsBelow}
-use Rattle.pat_words.proofs.WordLaws.{count_eq}
+use Rattle.pat_words_laws.proofs.WordLaws.{count_eq}
 use Rattle.pat_bags.specs.declared.Bag.{Bag}
 use Rattle.pat_bags.specs.Views.{word_of}
 use Rattle.pat_inclusions.specs.Counts.{most_tags, same_below}
 use Rattle.pat_inclusions.specs.LinearSets.{LinearSet, combined, SetsBelow}
 use Rattle.pat_inclusions.specs.Covers.{CoverEntry, makes, makes_from, make_each, entry_covers, is_cover, IsDirectlyCovered}
-use Rattle.pat_inclusion_laws.proofs.Spans.{same_counts}
-use Rattle.pat_inclusion_laws.proofs.CoverLaws.{cover_direct}
-use Rattle.pat_inclusion_laws.proofs.Exact.{direct_cover}
+use Rattle.pat_linear.proofs.Spans.{same_counts}
+use Rattle.pat_linear.proofs.CoverLaws.{cover_direct}
+use Rattle.pat_linear.proofs.Exact.{direct_cover}
 use Rattle.pat_linear.specs.declared.set.LinearSet.{LinearSet as CodeSet}
 use Rattle.pat_linear.specs.Views.{words_of, set_view, sets_view}
 use Rattle.pat_certs_numbers.specs.Numbers.{MakesFirst, NoNumbers, FindsNumbers}

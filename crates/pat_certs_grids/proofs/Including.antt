@@ -7,7 +7,7 @@ use Rattle.pat_words.specs.Patterns.{Pat, In, Included, no_values, subst_of}
 use Rattle.pat_words.specs.Flats.{is_flat, degree_of}
 use Rattle.pat_words.specs.Tags.{tags_below, HasTagsBelow}
 use Rattle.pat_words.specs.Cuts.{cut_at, CutOf}
-use Rattle.pat_words.proofs.FormLaws.{subst_to}
+use Rattle.pat_words_laws.proofs.FormLaws.{subst_to}
 use Rattle.pat_inclusions.specs.Points.{grid_fits}
 use Rattle.pat_inclusions.specs.Values.{VarValue, PatternForm, GridForm}
 use Rattle.pat_inclusion_laws.proofs.CutLaws.{cut_below, cut_twice}

@@ -20,7 +20,7 @@ use Rattle.pat_bounds_laws.proofs.GridLaws.{under_below}
 use Rattle.pat_grid_points.specs.declared.grid.Grid.{Grid}
 use Rattle.pat_grid_points.specs.Views.{HasPoint, points_of}
 use Rattle.pat_grid_points.proofs.Members.{member_point, point_member}
-use Rattle.pat_grid_tables.specs.Views.{given_words, AreGrids}
+use Rattle.pat_grid.specs.Views.{given_words, AreGrids}
 use Rattle.pat_certs_grids.specs.declared.values.VarValue.{VarValue as CodeValue}
 use Rattle.pat_certs_grids.specs.declared.values.Right.{Right as CodeRight}
 use Rattle.pat_certs_grids.specs.declared.values.Right.TheVariants.{Pattern as RightPattern, Var as RightVar}

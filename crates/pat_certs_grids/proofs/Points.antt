@@ -7,7 +7,7 @@ use Rattle.pat_words.specs.Words.{Word}
 use Rattle.pat_words.specs.Patterns.{In}
 use Rattle.pat_words.specs.Tags.{HasTagsBelow}
 use Rattle.pat_words.specs.Cuts.{cut_at, CutOf}
-use Rattle.pat_words.proofs.WordLaws.{word_ext, count_eq}
+use Rattle.pat_words_laws.proofs.WordLaws.{word_ext, count_eq}
 use Rattle.pat_bags.specs.declared.Bag.{Bag}
 use Rattle.pat_bags.specs.Views.{word_of}
 use Rattle.pat_inclusions.specs.Counts.{same_below, counted}

@@ -3,11 +3,11 @@ use Rattle.std.proofs.Common.{◌≡◌, ℕ, zero, suc, ◌*◌, ◌<◌, Bool,
 use Rattle.std.specs.Prelude.{nat_lt}
 use Rattle.std.proofs.lemmas.Bool.{and_parts, and_from, or_left, or_right, or_cases, eqb-true, eq-eqb, lt-ltb, cases_lt, cases_Bool}
 use Rattle.pat_words.specs.Words.{Word, plus}
-use Rattle.pat_words.proofs.WordLaws.{count_eq}
+use Rattle.pat_words_laws.proofs.WordLaws.{count_eq}
 use Rattle.pat_inclusions.specs.Counts.{same_below, scaled}
 use Rattle.pat_inclusions.specs.LinearSets.{combined}
 use Rattle.pat_inclusions.specs.Covers.{makes}
-use Rattle.pat_inclusion_laws.proofs.Spans.{same_counts}
+use Rattle.pat_linear.proofs.Spans.{same_counts}
 use Rattle.pat_certs_numbers.specs.Numbers.{NoNumbers, occurs, tags_occur}
 
 pub same_each : (n : ℕ) (u v : Word) → ((t : ℕ) → t < n → u t ≡ v t) → same_below n u v ≡ true

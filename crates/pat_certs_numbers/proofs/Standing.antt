@@ -5,7 +5,7 @@ use Rattle.std.proofs.lemmas.List.{take_rest}
 use Rattle.std.proofs.lemmas.Bool.{cases_lt}
 use Rattle.pat_words.specs.Words.{Word, no_word, plus, LiesIn}
 use Rattle.pat_words.specs.Tags.{HasTagsBelow}
-use Rattle.pat_words.proofs.WordLaws.{word_ext, count_eq}
+use Rattle.pat_words_laws.proofs.WordLaws.{word_ext, count_eq}
 use Rattle.pat_bags.specs.declared.Bag.{Bag}
 use Rattle.pat_bags.specs.Views.{word_of}
 use Rattle.pat_inclusions.specs.Counts.{most_tags, scaled}

@@ -3,7 +3,7 @@ use Rattle.std.proofs.Common.{◌≡◌, ℕ, ◌<◌, ◌≤◌, Bool, true, fa
 use Rattle.std.specs.Prelude.{Result, Ok, Err, IfOk, slice_get, IsTrue, ◌↔◌}
 use Rattle.pat_words.specs.Words.{Word, no_word, one, plus}
 use Rattle.pat_words.specs.Patterns.{Pat, Zero, One, Tag, Sum, Prod, Star, Var}
-use Rattle.pat_words.proofs.WordLaws.{count_eq, plus_assoc, plus_none, none_plus, plus_comm, one_same, cancel_one}
+use Rattle.pat_words_laws.proofs.WordLaws.{count_eq, plus_assoc, plus_none, none_plus, plus_comm, one_same, cancel_one}
 use Rattle.pat_bounds.specs.Trees.{Bound, EmptyTree, TagTree, LeftTree, RightTree, BothTree, StarEndTree, StarMoreTree, LowerTree, tree_size, bounds_of, bound_in, takes_one, plus_if, kept_if, tree_word}
 use Rattle.pat_certs_refutations.specs.Tasks.{Task, WalkTask, TakeTask, ForgetTask, SeeTask, opened, opened_bound, Opens, Takes, Done, weights, Does}
 

@@ -4,7 +4,7 @@ use Rattle.std.specs.Prelude.{slice_get}
 use Rattle.std.specs.List.{AllByRecursion}
 use Rattle.std.proofs.lemmas.Bool.{cases_lt}
 use Rattle.pat_words.specs.Words.{Word, no_word, plus}
-use Rattle.pat_words.proofs.WordLaws.{none_plus, count_eq}
+use Rattle.pat_words_laws.proofs.WordLaws.{none_plus, count_eq}
 use Rattle.pat_words.specs.Patterns.{Pat}
 use Rattle.pat_words.specs.Flats.{is_flat, degree_of}
 use Rattle.pat_words.specs.Tags.{tags_below}

@@ -1,7 +1,7 @@
 -- What a step says of the root of a least tree.
 use Rattle.std.proofs.Common.{◌≡◌, ℕ, zero, suc, ◌+◌, ◌*◌, ◌<◌, ◌≤◌, zero-mul, ⊎_elim, List, [], refl, sym, ap, ap₂, ◌∙◌, subst, arith}
 use Rattle.std.proofs.lemmas.Bool.{cases_lt}
-use Rattle.pat_words.proofs.WordLaws.{word_ext}
+use Rattle.pat_words_laws.proofs.WordLaws.{word_ext}
 use Rattle.pat_words.specs.Languages.{MemberOf}
 use Rattle.pat_bounds.specs.CutSets.{IsPoint}
 use Rattle.pat_grid_tables.specs.Views.{given_words}

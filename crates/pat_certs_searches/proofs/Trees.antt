@@ -4,7 +4,7 @@ use Rattle.std.specs.Prelude.{nat_eq, Result, Ok, Err, IfOk}
 use Rattle.std.proofs.lemmas.Bool.{cases_eq, cond-true, cond-false, eq-eqb, ne_eqb}
 use Rattle.pat_words.specs.Words.{Word, no_word, one, plus}
 use Rattle.pat_words.specs.Cuts.{cut_at}
-use Rattle.pat_words.proofs.WordLaws.{count_eq, plus_none, plus_assoc}
+use Rattle.pat_words_laws.proofs.WordLaws.{count_eq, plus_none, plus_assoc}
 use Rattle.pat_inclusion_laws.proofs.Spans.{plus_below}
 use Rattle.pat_inclusion_laws.proofs.CutLaws.{cut_below, cut_none, cut_twice}
 use Rattle.pat_bounds.specs.Trees.{Bound, EmptyTree, TagTree, LeftTree, RightTree, BothTree, StarEndTree, StarMoreTree, LowerTree, tree_size}

@@ -16,7 +16,7 @@ use pat_core::Program;
 use pat_front::Reason;
 use pat_infer_problems::{Constraint, Problem};
 use pat_solve_answers::SolveError;
-use pat_solving_laws::refusal_laws;
+use pat_solve_derivation::refusal_laws;
 use pat_syntax::Span;
 use std::alloc::{AllocError, Global};
 

@@ -4,7 +4,7 @@ ghost use Rattle.pat_checked.specs.Laws.{NeverRefused, OneVerdict};
 
 use pat_front::verdict_law;
 use pat_names_laws::text_laws;
-use pat_solving_laws::one_answer_laws;
+use pat_solve_derivation::one_answer_laws;
 
 /// A text isn't refused whose program can be typed, of which each interface is in bounds and each sending variable of a signature has a
 /// derivable word: it is accepted, want of memory aside.

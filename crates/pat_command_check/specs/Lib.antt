@@ -1,1 +1,2 @@
+pub use Rattle.pat_checked.specs.Inputs
 pub mod Allowed

@@ -5,7 +5,7 @@ use Rattle.pat_answers.specs.Answers.{IsCommandStatus}
 use Rattle.pat_answers.specs.declared.status.Status.{Status}
 use Rattle.pat_options.specs.declared.options.RunOptions.{RunOptions}
 use Rattle.pat_command_run.specs.declared.command.Detail.TheVariants.{Summary}
-use Rattle.pat_command_run.proofs.Statuses.{run_status}
+pub use Rattle.pat_command_run.proofs.Statuses.{run_status}
 use Rattle.pat_command_load.specs.Allowed.{AllowedLoad}
 
 pub load_status : (n : ℕ) (options : RunOptions) (text : List ℕ) (s : Status) → AllowedLoad n options text s → IsCommandStatus (load_text n) s

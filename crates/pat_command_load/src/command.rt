@@ -1,16 +1,15 @@
 // The generated program of a size, treated as the input of `run` is.
 ghost use Rattle.std.specs.Prelude.{◌≤◌, IfOk};
 ghost use Rattle.pat_options.specs.Options.{IsWithin};
-ghost use Rattle.pat_run.specs.Runners.{IsRunner};
+ghost use Rattle.pat_command_run.specs.Runners.{IsRunner};
 ghost use Rattle.pat_command_load.specs.Allowed.{AllowedLoad};
 
 use pat_accepted::Accepted;
 use pat_answers::Answer;
-use pat_command_run::{Detail, answer_run};
+use pat_command_run::{Detail, Finished, answer_run};
 use pat_input::lex_bytes;
 use pat_load::program_text;
 use pat_options::RunOptions;
-use pat_run::Finished;
 use std::alloc::{AllocError, Global};
 
 /// What `load` with this size and these options answers, where a program is run so.

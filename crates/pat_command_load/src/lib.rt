@@ -4,3 +4,4 @@
 mod command;
 
 pub use command::answer_load;
+pub use pat_command_run::{Detail, Finished, answer_run};

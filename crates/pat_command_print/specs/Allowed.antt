@@ -3,8 +3,8 @@ use Rattle.std.specs.Prelude.{◌≡◌, ℕ, List}
 use Rattle.pat_model.specs.Programs.{Program}
 use Rattle.pat_grammar.specs.Trees.{Tree}
 use Rattle.pat_canonical.specs.Text.{canonical_text}
-use Rattle.pat_front.specs.Lines.{line_of_verdict}
-use Rattle.pat_front.specs.Texts.{IsProgramText, IsRefusal}
+use Rattle.pat_answers.specs.Lines.{line_of_verdict}
+use Rattle.pat_answers.specs.Texts.{IsProgramText, IsRefusal}
 use Rattle.pat_answers.specs.declared.status.Status.{Status}
 use Rattle.pat_answers.specs.declared.status.Status.TheVariants.{Ok, Refused}
 

@@ -3,11 +3,10 @@ ghost use Rattle.std.specs.Prelude.{◌≡◌, ◌<◌, ℕ, List, IfOk, length}
 ghost use Rattle.pat_grammar_laws.specs.Counts.{tree_size};
 ghost use Rattle.pat_tree.specs.Views.{tree_view};
 ghost use Rattle.pat_input.specs.Inputs.{IsRead};
-ghost use Rattle.pat_front.specs.Texts.{IsTreeText};
+ghost use Rattle.pat_answers.specs.Texts.{IsTreeText};
 ghost use Rattle.pat_command_print.specs.Allowed.{AllowedPrint};
 
-use pat_answers::{Answer, Status, refused};
-use pat_front::{check_tree, tree_of};
+use pat_answers::{Answer, Status, check_tree, refused, tree_of};
 use pat_input::Input;
 use pat_tree::Tree;
 use std::alloc::{AllocError, Global};

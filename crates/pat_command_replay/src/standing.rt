@@ -2,11 +2,11 @@
 ghost use Rattle.std.specs.Prelude.{◌≡◌, option_map};
 ghost use Rattle.pat_core.specs.Views.{program_view};
 ghost use Rattle.pat_reduce.specs.Views.{config_view};
-ghost use Rattle.pat_machine.specs.Gives.{outcome_view};
+ghost use Rattle.pat_lines.specs.Gives.{outcome_view};
 ghost use Rattle.pat_command_replay.specs.Allowed.{standing};
 
 use pat_executable::Executable;
-use pat_machine::Outcome;
+use pat_lines::Outcome;
 use pat_reduce::Config;
 
 /// Done, waiting, or none of them, where a thread is left and a step is enabled.

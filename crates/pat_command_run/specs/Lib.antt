@@ -1,1 +1,2 @@
+pub use Rattle.pat_run.specs.Runners
 pub mod Allowed

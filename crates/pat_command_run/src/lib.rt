@@ -4,3 +4,4 @@
 mod command;
 
 pub use command::{Detail, answer_run};
+pub use pat_run::Finished;

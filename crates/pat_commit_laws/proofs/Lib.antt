@@ -1,3 +1,5 @@
+pub use Rattle.pat_preservation_laws.proofs.Args
+pub use Rattle.pat_preservation_laws.proofs.Refers
 -- for others: lemmas on jobs, commits and what a machine keeps
 pub mod Locals
 pub mod Opens

@@ -10,7 +10,7 @@ use Rattle.pat_model.specs.Steps.{Act, ActLocal, ActNew, ActSend, ActSpawn, ActP
 use Rattle.pat_model.specs.Runs.{Entry, run_from, IsSharedOrNone, shared_step, entry_steps, entry_from, replay_from, replay, step_count}
 use Rattle.pat_model_laws.proofs.Replays.{runs_join, replays_join}
 use Rattle.pat_model_laws.proofs.Lists.{all_snoc}
-use Rattle.pat_typing.specs.Interfaces.{interfaces_along}
+use Rattle.pat_commits.specs.Interfaces.{interfaces_along}
 use Rattle.pat_preservation_laws.proofs.Preserved.{run_keeps}
 use Rattle.pat_commits.specs.Opens.{IsOpen}
 use Rattle.pat_commits.specs.Commits.{local_of, IsCommit, noted}

@@ -7,7 +7,7 @@ use Rattle.pat_model.specs.Programs.{Program, Function, function_at}
 use Rattle.pat_model.specs.WellFormed.{WellFormed}
 use Rattle.pat_model.specs.Configs.{Thread, Config, thread_at, start, start_of}
 use Rattle.pat_model.specs.Runs.{Entry, replay}
-use Rattle.pat_typing.specs.Typings.{IsTypable}
+use Rattle.pat_commits.specs.Typings.{IsTypable}
 use Rattle.pat_preservation_laws.proofs.Preserved.{run_typed}
 use Rattle.pat_commits.specs.Lendings.{Out, all_in, allowance_of, allowances}
 use Rattle.pat_commits.specs.Machines.{MachineInvariant}

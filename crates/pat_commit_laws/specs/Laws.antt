@@ -6,7 +6,7 @@ use Rattle.pat_model.specs.Configs.{Frame, Thread, Config, start, thread_at, wit
 use Rattle.pat_model.specs.Orders.{IsOrdered}
 use Rattle.pat_model.specs.Steps.{Act}
 use Rattle.pat_model.specs.Runs.{Entry, IsSharedOrNone, run_from, entry_steps, replay_from}
-use Rattle.pat_typing.specs.Typings.{IsTypable}
+use Rattle.pat_commits.specs.Typings.{IsTypable}
 use Rattle.pat_commits.specs.Opens.{IsOpen, IsStill, can_go_on}
 use Rattle.pat_commits.specs.Commits.{IsLocalRun, Shares, IsCommit, noted}
 use Rattle.pat_commits.specs.Tops.{top_of, below, over, with_below}

@@ -1,3 +1,5 @@
+pub use Rattle.pat_typing.specs.Interfaces
+pub use Rattle.pat_typing.specs.Typings
 pub mod Opens
 pub mod Commits
 pub mod Tops

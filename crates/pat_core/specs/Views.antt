@@ -1,7 +1,7 @@
 -- What the code's programs are in the definitions, which have no places in a text.
 use Rattle.std.specs.Prelude.{map, option_map}
-use Rattle.pat_model.specs.Values.{BaseUnit, BaseBool, BaseInt, BaseText, Kind, Plain, MailboxOf, UnitConst, BoolConst, IntConst, TextConst, Expr, VarExpr, Literal, OpExpr}
-use Rattle.pat_model.specs.Programs.{Sort, BaseSort, MailboxSort, TagDecl, Interface, Function, Clause, Core, Val, Let, Call, If, Print, New, Send, Spawn, Guard, Node, Program}
+use Rattle.pat_primitives.specs.Values.{BaseUnit, BaseBool, BaseInt, BaseText, Kind, Plain, MailboxOf, UnitConst, BoolConst, IntConst, TextConst, Expr, VarExpr, Literal, OpExpr}
+use Rattle.pat_primitives.specs.Programs.{Sort, BaseSort, MailboxSort, TagDecl, Interface, Function, Clause, Core, Val, Let, Call, If, Print, New, Send, Spawn, Guard, Node, Program}
 use Rattle.pat_patterns.specs.Views.{pattern_view}
 use Rattle.pat_primitives.specs.Views.{base_view, polarity_view, op_view}
 use Rattle.pat_core.specs.declared.expression.Expr.{Expr as CodeExpr, Var as CodeVar, Unit as CodeUnitExpr, Bool as CodeBoolExpr, Int as CodeIntExpr, Str as CodeStrExpr, Op' as CodeOpExpr}

@@ -1,2 +1,3 @@
+pub use Rattle.pat_environments.specs.Lists
 pub mod Views
 pub mod Listed

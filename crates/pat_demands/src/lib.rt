@@ -13,3 +13,6 @@ pub use passing::{
     as_returnable, divide_names, drop_all, names_but, part_there, pass_asked, pass_names,
     pass_result, pass_to_part,
 };
+pub use pat_environments::{
+    but_not, copy_of, holds, made_returnable, names_of, then_others, without,
+};

@@ -12,7 +12,7 @@ use Rattle.pat_open_types.specs.NodeTypes.{Needs, need_of}
 use Rattle.pat_validity.specs.Derivations.{Line, Derivation, line_at, written_typing}
 use Rattle.pat_validity.specs.Demands.{Demand, Pass}
 use Rattle.pat_validity.specs.Conditions.{then_others, but_not, but_not_name, passes, divides, of_line, to_part, result_passes, value_asks, value_names, name_demands, named_demands, let_demands, call_demands, send_demands, clause_demands, free_demands, clauses_demand, bodies_demand, guard_demands, target_demands, term_demands}
-use Rattle.pat_environments.specs.Lists.{without_entry, returnable_entries, with_others}
+use Rattle.pat_demands.specs.Lists.{without_entry, returnable_entries, with_others}
 use Rattle.pat_demands.specs.Listed.{Signature, asked_args, asked_value, entry_before, named_payloads, clause_entries, passes_in, divides_in, passes_to, listed_name, listed_named, asks, drops, listed_call, listed_send, listed_target, let_names, listed_let, listed_clause, listed_free, listed_clauses, listed_bodies, listed_guard, listed_term}
 use Rattle.pat_demands_terms.proofs.Listing.{cons_is, before_is, returnable_is, with_are, passes_are, divides_are, theres_are, without_is, joined, StandAt, first_at, later_at, none_at, none_later, args_are, args_named}
 

@@ -12,7 +12,7 @@ use Rattle.pat_typing.specs.Typings.{with_option, args_need, if_mailbox, mailbox
 use Rattle.pat_open_types.specs.NodeTypes.{Needs, need_of}
 use Rattle.pat_validity.specs.Demands.{Pass, Divide, There}
 use Rattle.pat_validity.specs.Conditions.{then_others, passes, divides}
-use Rattle.pat_environments.specs.Lists.{without_entry, returnable_entries, others_in, with_others}
+use Rattle.pat_demands.specs.Lists.{without_entry, returnable_entries, others_in, with_others}
 use Rattle.pat_demands.specs.Listed.{asked_arg, asked_args, entry_before, passes_in, divides_in, theres_in}
 
 turn : (a b : ℕ) → nat_eq a b ≡ nat_eq b a

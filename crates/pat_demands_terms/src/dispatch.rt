@@ -8,7 +8,7 @@ ghost use Rattle.pat_core.specs.Views.{kind_view, core_view, program_view};
 ghost use Rattle.pat_types.specs.Views.{result_view, needs_view, node_type_view};
 ghost use Rattle.pat_validity.specs.Conditions.{result_passes};
 ghost use Rattle.pat_validity.specs.Derivations.{line_at};
-ghost use Rattle.pat_environments.specs.Lists.{returnable_entries};
+ghost use Rattle.pat_demands.specs.Lists.{returnable_entries};
 ghost use Rattle.pat_derivations.specs.Views.{derivation_view};
 ghost use Rattle.pat_demands.specs.Views.{demands_view, signature_view};
 ghost use Rattle.pat_demands.specs.Listed.{drops, passes_to, listed_term};
@@ -16,11 +16,10 @@ ghost use Rattle.pat_demands.specs.Listed.{drops, passes_to, listed_term};
 use crate::terms::{call, guard, let_in, send_to};
 use pat_core::{Core, Kind, Program};
 use pat_demands::{
-    Demand, Signature, drop_all, kind_of, line_of, pass_asked, pass_result, pass_to_part,
-    signature_of, value_asked,
+    Demand, Signature, drop_all, kind_of, line_of, made_returnable, names_of, pass_asked,
+    pass_result, pass_to_part, signature_of, value_asked,
 };
 use pat_derivations::Derivation;
-use pat_environments::{made_returnable, names_of};
 use pat_patterns::Pattern;
 use pat_primitives::Polarity;
 use pat_sequences::Sequence;

@@ -9,4 +9,5 @@ mod terms;
 pub use dispatch::term;
 pub use nodes::demands;
 pub use opening::signatures;
+pub use pat_demands::{Demand, Signature, kind_of, line_of, push_arguments, signature_of, tag_of};
 pub use terms::first;

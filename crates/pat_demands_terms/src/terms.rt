@@ -8,19 +8,18 @@ ghost use Rattle.pat_core.specs.Views.{kind_view, expr_view, tag_view, clause_vi
 ghost use Rattle.pat_open_types.specs.NodeTypes.{need_of};
 ghost use Rattle.pat_types.specs.Views.{type_view, result_view, needs_view};
 ghost use Rattle.pat_validity.specs.Conditions.{but_not_name};
-ghost use Rattle.pat_environments.specs.Lists.{with_others};
+ghost use Rattle.pat_demands.specs.Lists.{with_others};
 ghost use Rattle.pat_derivations.specs.Views.{line_view, derivation_view};
 ghost use Rattle.pat_demands.specs.Views.{demands_view, signature_view};
 ghost use Rattle.pat_demands.specs.Listed.{listed_name, listed_named, listed_call, listed_send, listed_target, listed_let, listed_clause, listed_free, free_before, waits_after, free_last, listed_one, listed_clauses, listed_bodies, listed_guard, listed_first};
 
 use pat_core::{Clause, Expr, Kind, Program, TagDecl};
 use pat_demands::{
-    Demand, Signature, clause_given, divide_names, drop_all, kind_of, line_of, names_but,
-    params_given, part_there, pass_asked, pass_names, pass_result, pass_to_part, push_arguments,
-    signature_of, tag_of, value_asked,
+    Demand, Signature, but_not, clause_given, copy_of, divide_names, drop_all, kind_of, line_of,
+    names_but, names_of, params_given, part_there, pass_asked, pass_names, pass_result,
+    pass_to_part, push_arguments, signature_of, tag_of, then_others, value_asked, without,
 };
 use pat_derivations::{Derivation, DerivedNode};
-use pat_environments::{but_not, copy_of, names_of, then_others, without};
 use pat_patterns::Pattern;
 use pat_primitives::Polarity;
 use pat_sequences::Sequence;

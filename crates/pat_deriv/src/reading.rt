@@ -7,8 +7,7 @@ ghost use Rattle.pat_derivation_text.specs.Reading.{ReadsTo, no_lines};
 ghost use Rattle.pat_deriv.specs.Answers.{FirstGives, Gives};
 
 use pat_core::Program;
-use pat_deriv_lines::cut;
-use pat_deriv_nodes::read_line;
+use pat_deriv_nodes::{cut, read_line};
 use pat_deriv_patterns::Unread;
 use pat_derivations::Derivation;
 use pat_sequences::Sequence;

@@ -1,1 +1,2 @@
+pub use Rattle.pat_derivation_text_laws.proofs.Cutting
 mod Names

@@ -6,3 +6,4 @@ mod lines;
 mod values;
 
 pub use lines::read_line;
+pub use pat_deriv_lines::cut;

@@ -9,7 +9,7 @@ use Rattle.pat_typing.specs.Types.{Usage, Second, Returnable, MailboxType, TypeO
 use Rattle.pat_inclusions.specs.Covers.{CoverEntry}
 use Rattle.pat_inclusions.specs.Values.{VarValue, PatternForm, GridForm, VarLine}
 use Rattle.pat_inclusions.specs.Certificates.{Cert, CoverCert, GridCert}
-use Rattle.pat_open_types.specs.NodeTypes.{Needs}
+use Rattle.pat_validity.specs.NodeTypes.{Needs}
 use Rattle.pat_validity.specs.Derivations.{Line, Derivation}
 use Rattle.pat_pattern_text.specs.PatternText.{pat_text}
 use Rattle.pat_derivation_text.specs.Joined.{joined}

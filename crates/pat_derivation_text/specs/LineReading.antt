@@ -8,7 +8,7 @@ use Rattle.pat_inclusions.specs.Covers.{CoverEntry}
 use Rattle.pat_inclusions.specs.Points.{grid_fits, points_fit}
 use Rattle.pat_inclusions.specs.Values.{VarValue, PatternForm, GridForm, VarLine}
 use Rattle.pat_inclusions.specs.Certificates.{Cert, CoverCert, GridCert}
-use Rattle.pat_open_types.specs.NodeTypes.{Needs, NodeType}
+use Rattle.pat_validity.specs.NodeTypes.{Needs, NodeType}
 use Rattle.pat_validity.specs.Derivations.{Line, Derivation, ascends_from}
 use Rattle.pat_pattern_text.specs.Numbers.{read_number}
 use Rattle.pat_pattern_text.specs.PatternReading.{place_of, read_pattern, behind}

@@ -2,8 +2,8 @@
 use Rattle.std.specs.Prelude.{ℕ, List, map}
 use Rattle.pat_bags.specs.declared.Bag.{Bag}
 use Rattle.pat_patterns.specs.Views.{pattern_view}
-use Rattle.pat_inclusions.specs.Values as values
-use Rattle.pat_inclusions.specs.Certificates as certificates
+use Rattle.pat_certs_covers.specs.Values as values
+use Rattle.pat_certs_covers.specs.Certificates as certificates
 use Rattle.pat_certs_covers.specs.Views.{entries_view}
 use Rattle.pat_types.specs.Views.{node_type_view}
 use Rattle.pat_validity.specs.Derivations as derivations

@@ -4,7 +4,7 @@ use Rattle.std.specs.Prelude.{nat_lt, take, bytes_eq, option_map}
 use Rattle.std.specs.List.{AllByRecursion, list_any}
 use Rattle.std.proofs.lemmas.Bool.{and_parts, or_cases, eqb-true, lt-ltb, cond-true, cond-false, false_from_ne_true}
 use Rattle.pat_words.specs.Patterns.{is_inhabited}
-use Rattle.pat_words.proofs.PatternLaws.{inhabited_to}
+use Rattle.pat_words_laws.proofs.PatternLaws.{inhabited_to}
 use Rattle.pat_model.specs.Values.{BaseUnit, BaseBool, BaseInt, BaseText, Kind, Expr, VarExpr, Literal, OpExpr, occurs}
 use Rattle.pat_model.specs.Programs.{Program, Sending, Receiving, Sort, BaseSort, MailboxSort, Interface, TagDecl, Function, Core, Val, Let, Call, If, Print, New, Send, Spawn, Guard, Node, node_at, function_at, kind_of, parts, option_list, clause_binders, is_among, clause_uses, core_uses, option_uses, is_free_within, is_free}
 use Rattle.pat_model.specs.WellFormed.{WellFormed, InterfaceFits, FunctionFits, NodeFits, IsPartOf, IsPayload, IsSignature, uses_of, bindings_of}

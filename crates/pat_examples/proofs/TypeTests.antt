@@ -5,8 +5,8 @@ use Rattle.std.specs.List.{list_any}
 use Rattle.std.proofs.lemmas.Bool.{and_parts, or_cases, or_parts, eqb-true, ne_eqb, cond-false, cases_Bool}
 use Rattle.std.proofs.lemmas.Option.{slice_get_past}
 use Rattle.pat_words.specs.Patterns.{Pat, Tag, Prod, In, pat_eq, covers, residual, is_nullable, is_inhabited}
-use Rattle.pat_words.proofs.PatternLaws.{pat_eq_same, nullable_to, inhabited_to}
-use Rattle.pat_words.proofs.CoverLaws.{covers_to}
+use Rattle.pat_words_laws.proofs.PatternLaws.{pat_eq_same, nullable_to, inhabited_to}
+use Rattle.pat_words_laws.proofs.CoverLaws.{covers_to}
 use Rattle.pat_model.specs.Values.{BaseUnit, Kind, MailboxOf, Expr, VarExpr, Literal, OpExpr}
 use Rattle.pat_model.specs.Programs.{Program, Polarity, Sending, Receiving, Sort, TagDecl, Function, Clause, Core, Val, Let, Call, If, Print, New, Send, Spawn, Guard, Node, node_at, function_at, tag_at, is_among, clause_binders}
 use Rattle.pat_typing.specs.Types.{Usage, Second, Returnable, MailboxType, TypeOf, BaseTerm, MailboxTerm, kind_of_type, mailbox_type, UsageFits, PatternFits, Fits, TypeFits, MayDrop, TypeEnv, PassesTo, EnvPasses, PatternJoins, Joins, SplitsTo, EnvSplits, no_types, with_type, without, returnable}

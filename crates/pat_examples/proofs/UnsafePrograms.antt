@@ -3,8 +3,8 @@ use Rattle.std.proofs.Common.{◌≡◌, ℕ, true, false, List, [], ◌∷◌, 
 use Rattle.std.specs.Prelude.{codes}
 use Rattle.pat_words.specs.Words.{Word, no_word, LiesIn}
 use Rattle.pat_words.specs.Patterns.{One, Tag, Sum, In}
-use Rattle.pat_words.proofs.WordLaws.{count_eq}
-use Rattle.pat_words.proofs.CoverLaws.{covers_to}
+use Rattle.pat_words_laws.proofs.WordLaws.{count_eq}
+use Rattle.pat_words_laws.proofs.CoverLaws.{covers_to}
 use Rattle.pat_model.specs.Values.{BaseUnit, VarExpr, Mailbox}
 use Rattle.pat_model.specs.Programs.{Sending, Receiving, Send, Guard, is_free}
 use Rattle.pat_model.specs.WellFormed.{WellFormed}

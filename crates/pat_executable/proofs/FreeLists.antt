@@ -4,8 +4,8 @@ use Rattle.std.specs.Prelude.{option_map}
 use Rattle.std.proofs.lemmas.Bool.{cases_lt}
 use Rattle.std.proofs.lemmas.List.{drop_all, length-map, length-set, get_or-set_same, get_or-set_other}
 use Rattle.std.proofs.lemmas.Option.{slice_get-map, slice_get_past, slice_get-get_or}
-use Rattle.pat_model.specs.Programs.{Program, Core, core_at, node_at, is_among, is_free, is_free_within, option_uses, core_uses}
-use Rattle.pat_model.specs.WellFormed.{WellFormed}
+use Rattle.pat_model_laws.specs.Programs.{Program, Core, core_at, node_at, is_among, is_free, is_free_within, option_uses, core_uses}
+use Rattle.pat_model_laws.specs.WellFormed.{WellFormed}
 use Rattle.pat_model_laws.proofs.FreeVars.{free_unfolds, core_agrees, part_after}
 use Rattle.pat_core.specs.declared.program.Node.{Node as CodeNode}
 use Rattle.pat_core.specs.declared.program.Program.{Program as CodeProgram}

@@ -1,8 +1,8 @@
 -- Sets of variables with one more.
 use Rattle.std.proofs.Common.{◌≡◌, ℕ, ◌+◌, ◌<◌, ◌≤◌, ◌⊎◌, inl, inr, Bool, true, false, ◌||◌, nat_eq, List, [], ◌∷◌, ◌++◌, Result, Ok, Err, refl, sym, ap, ◌∙◌, subst, arith, eqb-true}
 use Rattle.std.specs.Prelude.{IsTrue, OnOk, OnErr}
-use Rattle.pat_model.specs.Programs.{is_among}
-use Rattle.pat_model.specs.WellFormed.{count_if, count_among}
+use Rattle.pat_model_laws.specs.Programs.{is_among}
+use Rattle.pat_model_laws.specs.WellFormed.{count_if, count_among}
 
 -- a variable that isn't there counts for nothing
 not_counted : (x : ℕ) (xs : List ℕ) → is_among x xs ≡ false → count_among x xs ≡ 0

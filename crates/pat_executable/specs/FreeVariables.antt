@@ -1,6 +1,6 @@
 -- Sets of free variables, one for each node.
 use Rattle.std.specs.Prelude.{ℕ, Bool, false, List, Option, Some, None, slice_get}
-use Rattle.pat_model.specs.Programs.{is_among}
+use Rattle.pat_model_laws.specs.Programs.{is_among}
 use Rattle.pat_executable.specs.declared.variables.Variables.{Variables}
 
 abbrev pub is_in : Option Variables → ℕ → Bool

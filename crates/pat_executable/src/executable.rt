@@ -1,7 +1,7 @@
 // Programs with the free variables of their nodes.
 ghost use Rattle.std.specs.Prelude.{◌≡◌, ◌<◌, ℕ, IsTrue, IfOk};
-ghost use Rattle.pat_model.specs.Programs.{is_free};
-ghost use Rattle.pat_model.specs.WellFormed.{WellFormed};
+ghost use Rattle.pat_model_laws.specs.Programs.{is_free};
+ghost use Rattle.pat_model_laws.specs.WellFormed.{WellFormed};
 ghost use Rattle.pat_core.specs.Views.{program_view};
 ghost use Rattle.pat_executable.specs.FreeVariables.{is_listed};
 

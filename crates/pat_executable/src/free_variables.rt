@@ -1,9 +1,9 @@
 // The free variables of each node of a program, from the last node to the first.
 ghost use Rattle.std.specs.Prelude.{◌≡◌, ℕ, ◌||◌, ◌&&◌, ◌++◌, not, map, IfOk, OnOk};
 ghost use Rattle.std.specs.List.{list_any};
-ghost use Rattle.pat_model.specs.Values.{occurs};
-ghost use Rattle.pat_model.specs.Programs.{is_among, option_list, clause_uses, core_uses, is_free};
-ghost use Rattle.pat_model.specs.WellFormed.{WellFormed};
+ghost use Rattle.pat_model_laws.specs.Values.{occurs};
+ghost use Rattle.pat_model_laws.specs.Programs.{is_among, option_list, clause_uses, core_uses, is_free};
+ghost use Rattle.pat_model_laws.specs.WellFormed.{WellFormed};
 ghost use Rattle.pat_core.specs.Views.{expr_view, clause_view, core_view, program_view};
 ghost use Rattle.pat_executable.specs.FreeVariables.{is_listed};
 

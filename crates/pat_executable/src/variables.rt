@@ -1,7 +1,7 @@
 // Sets of variables.
 ghost use Rattle.std.specs.Prelude.{◌≡◌, ◌≤◌, ◌<◌, ◌||◌, ℕ, false, nat_eq, IsTrue, OnOk, OnErr};
-ghost use Rattle.pat_model.specs.Programs.{is_among};
-ghost use Rattle.pat_model.specs.WellFormed.{count_among};
+ghost use Rattle.pat_model_laws.specs.Programs.{is_among};
+ghost use Rattle.pat_model_laws.specs.WellFormed.{count_among};
 
 use pat_sequences::Sequence;
 use std::alloc::{AllocError, Global};

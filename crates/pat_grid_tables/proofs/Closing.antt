@@ -6,7 +6,7 @@ use Rattle.std.proofs.Math.Nat.{one-le-pow}
 use Rattle.pat_words.specs.Words.{Word, no_word, one, plus}
 use Rattle.pat_words.specs.Cuts.{cut_at}
 use Rattle.pat_words.specs.Languages.{MemberOf}
-use Rattle.pat_words.proofs.WordLaws.{word_ext}
+use Rattle.pat_words_laws.proofs.WordLaws.{word_ext}
 use Rattle.pat_bounds.specs.CutSets.{IsPoint}
 use Rattle.pat_bounds.specs.Symbols.{NoSymbol, OneSymbol, TagSymbol, SumSymbol, ProdSymbol, StarSymbol, LowerSymbol, GivenSymbol, symbol_in, symbol_at, root_at}
 use Rattle.pat_bounds.specs.Tables.{Setting, Table, IsKnown, Step, StepAt, StepByOne, StepByTwo}

@@ -6,7 +6,7 @@ use Rattle.std.proofs.lemmas.List.{get_or-set_same, get_or-set_other, get_or_pas
 use Rattle.pat_words.specs.Words.{plus}
 use Rattle.pat_words.specs.Cuts.{cut_at}
 use Rattle.pat_words.specs.Tags.{HasTagsBelow}
-use Rattle.pat_words.proofs.WordLaws.{word_ext}
+use Rattle.pat_words_laws.proofs.WordLaws.{word_ext}
 use Rattle.pat_bounds.specs.CutSets.{IsPoint}
 use Rattle.pat_bounds.specs.Tables.{Setting, IsSound, IsKnown, Step, StepByOne, StepByTwo, capped}
 use Rattle.pat_bounds.specs.Numbers.{points_in, point_of, place_of, table_of, unknown, HasAllEntries}

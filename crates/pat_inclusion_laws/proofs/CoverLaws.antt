@@ -5,7 +5,7 @@ use Rattle.std.specs.List.{AllByRecursion}
 use Rattle.std.proofs.lemmas.Bool.{and_parts, cases_Bool, cond-true, cond-false}
 use Rattle.pat_words.specs.Words.{Word, plus}
 use Rattle.pat_words.specs.Patterns.{Pat, Included}
-use Rattle.pat_words.proofs.WordLaws.{plus_assoc}
+use Rattle.pat_words_laws.proofs.WordLaws.{plus_assoc}
 use Rattle.pat_words.specs.Tags.{tags_below, HasTagsBelow}
 use Rattle.pat_words.specs.Languages.{MemberOf}
 use Rattle.pat_inclusions.specs.Counts.{same_below, scaled}

@@ -5,7 +5,7 @@ use Rattle.std.proofs.lemmas.Bool.{and_parts, cases_lt, cases_eq, cond_both, ltb
 use Rattle.pat_words.specs.Words.{Word, no_word, one, plus}
 use Rattle.pat_words.specs.Patterns.{Pat, Zero, One, Tag, Sum, Prod, Star, Var, Language, In}
 use Rattle.pat_words.specs.Cuts.{cut_at, CutOf}
-use Rattle.pat_words.proofs.WordLaws.{word_ext, plus_assoc, plus_none, none_plus}
+use Rattle.pat_words_laws.proofs.WordLaws.{word_ext, plus_assoc, plus_none, none_plus}
 use Rattle.pat_words.specs.Tags.{tags_below, HasTagsBelow}
 use Rattle.pat_words.specs.Languages.{SumOf, StarOf, EitherOf, MemberOf}
 use Rattle.pat_inclusions.specs.Counts.{has_word, scaled}

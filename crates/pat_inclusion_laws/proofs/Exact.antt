@@ -6,7 +6,7 @@ use Rattle.std.proofs.lemmas.Bool.{and_parts, and_from, or_cases, or_left, or_ri
 use Rattle.pat_words.specs.Words.{Word, no_word, plus}
 use Rattle.pat_words.specs.Patterns.{Pat, Zero, One, Tag, Sum, Prod, Star, Var, In}
 use Rattle.pat_words.specs.Cuts.{cut_at, CutOf}
-use Rattle.pat_words.proofs.WordLaws.{plus_none}
+use Rattle.pat_words_laws.proofs.WordLaws.{plus_none}
 use Rattle.pat_words.specs.Tags.{tags_below, HasTagsBelow}
 use Rattle.pat_words.specs.Languages.{MemberOf}
 use Rattle.pat_inclusions.specs.Counts.{most_tags, same_below, has_word, scaled, counted}

@@ -3,7 +3,7 @@ use Rattle.std.proofs.Common.{◌≡◌, ℕ, ◌<◌, true, nat_eq, List, [], �
 use Rattle.std.proofs.lemmas.Bool.{and_parts, ltb-true, ne_eqb, cond-false}
 use Rattle.pat_words.specs.Words.{Word, no_word, one, plus}
 use Rattle.pat_words.specs.Patterns.{Pat, Zero, One, Tag, Sum, Prod, Star, Var, Language, In}
-use Rattle.pat_words.proofs.WordLaws.{plus_assoc, plus_none, none_plus}
+use Rattle.pat_words_laws.proofs.WordLaws.{plus_assoc, plus_none, none_plus}
 use Rattle.pat_words.specs.Tags.{tags_below, HasTagsBelow}
 use Rattle.pat_words.specs.Languages.{SumOf, StarOf, EitherOf, MemberOf}
 use Rattle.pat_inclusions.specs.LinearSets.{LinearSet, linear_set, combined, InSet, InSets, SetBelow, SetsBelow}

@@ -2,8 +2,8 @@
 use Rattle.std.proofs.Common.{◌≡◌, ℕ, zero, suc, inl, inr, ⊎_elim, refl, sym, ap, ◌∙◌, subst, arith, suc-mul, zero-mul}
 use Rattle.pat_words.specs.Words.{Word, no_word, plus}
 use Rattle.pat_words.specs.Patterns.{Language, Times}
-use Rattle.pat_words.proofs.WordLaws.{word_ext, plus_comm, plus_assoc, plus_none, none_plus}
-use Rattle.pat_words.proofs.FormLaws.{times_mono}
+use Rattle.pat_words_laws.proofs.WordLaws.{word_ext, plus_comm, plus_assoc, plus_none, none_plus}
+use Rattle.pat_words_laws.proofs.FormLaws.{times_mono}
 use Rattle.pat_words.specs.Languages.{SumOf, StarOf, EitherOf}
 use Rattle.pat_inclusions.specs.Counts.{scaled}
 

@@ -5,8 +5,8 @@ use Rattle.std.proofs.lemmas.Bool.{and_from, cases_lt, cases_eq, cond_both, ltb-
 use Rattle.pat_words.specs.Words.{Word, no_word, one, plus}
 use Rattle.pat_words.specs.Patterns.{Pat, Zero, One, Tag, Sum, Prod, Star, In, no_values, is_zero, is_one, pat_eq, sum_of, prod_of, star_of}
 use Rattle.pat_words.specs.Cuts.{cut_at}
-use Rattle.pat_words.proofs.WordLaws.{word_ext, count_eq, plus_comm}
-use Rattle.pat_words.proofs.PatternLaws.{sum_of_to, sum_of_from, prod_of_to, prod_of_from}
+use Rattle.pat_words_laws.proofs.WordLaws.{word_ext, count_eq, plus_comm}
+use Rattle.pat_words_laws.proofs.PatternLaws.{sum_of_to, sum_of_from, prod_of_to, prod_of_from}
 use Rattle.pat_words.specs.Tags.{tags_below, HasTagsBelow}
 use Rattle.pat_inclusions.specs.Counts.{counted, scaled}
 use Rattle.pat_inclusions.specs.Points.{tag_power, count_pattern, point_pattern, with_points, points_pattern}

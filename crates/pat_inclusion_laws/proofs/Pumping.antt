@@ -5,7 +5,7 @@ use Rattle.pat_words.specs.Words.{Word, no_word, one, plus}
 use Rattle.pat_words.specs.Patterns.{Pat, Zero, One, Tag, Sum, Prod, Star, Var, Language, In}
 use Rattle.pat_words.specs.Flats.{is_choice, is_flat, degree_of}
 use Rattle.pat_words.specs.Cuts.{cut_at}
-use Rattle.pat_words.proofs.WordLaws.{word_ext, count_eq, plus_none}
+use Rattle.pat_words_laws.proofs.WordLaws.{word_ext, count_eq, plus_none}
 use Rattle.pat_words.specs.Languages.{StarOf}
 use Rattle.pat_inclusions.specs.Counts.{scaled}
 use Rattle.pat_inclusion_laws.proofs.Languages.{star_one, star_least, star_scaled, star_either_to, star_either_from}

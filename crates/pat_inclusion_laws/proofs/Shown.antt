@@ -7,8 +7,8 @@ use Rattle.pat_words.specs.Words.{Word}
 use Rattle.pat_words.specs.Patterns.{Pat, Zero, One, Tag, Sum, Prod, Star, Var, Language, InUnder, In, Included, no_values, pat_eq, is_closed, subst_of}
 use Rattle.pat_words.specs.Flats.{is_flat, degree_of, is_choice}
 use Rattle.pat_words.specs.Cuts.{cut_at}
-use Rattle.pat_words.proofs.PatternLaws.{pat_eq_same}
-use Rattle.pat_words.proofs.FormLaws.{times_mono, subst_to, subst_from}
+use Rattle.pat_words_laws.proofs.PatternLaws.{pat_eq_same}
+use Rattle.pat_words_laws.proofs.FormLaws.{times_mono, subst_to, subst_from}
 use Rattle.pat_words.specs.Tags.{tags_below}
 use Rattle.pat_inclusions.specs.Points.{grid_fits, points_pattern}
 use Rattle.pat_inclusions.specs.CutWords.{cuts_lie}

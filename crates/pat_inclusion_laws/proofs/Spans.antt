@@ -4,7 +4,7 @@ use Rattle.std.specs.List.{AllByRecursion}
 use Rattle.std.proofs.lemmas.Bool.{and_parts, or_cases, eqb-true, cond_both, cases_lt}
 use Rattle.pat_words.specs.Words.{Word, no_word, plus}
 use Rattle.pat_words.specs.Patterns.{Language}
-use Rattle.pat_words.proofs.WordLaws.{word_ext, plus_none, none_plus}
+use Rattle.pat_words_laws.proofs.WordLaws.{word_ext, plus_none, none_plus}
 use Rattle.pat_words.specs.Tags.{HasTagsBelow}
 use Rattle.pat_words.specs.Languages.{StarOf, EitherOf, MemberOf}
 use Rattle.pat_inclusions.specs.Counts.{same_below, is_empty_below, has_word, scaled}

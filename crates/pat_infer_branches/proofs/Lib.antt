@@ -1,2 +1,3 @@
+pub use Rattle.pat_infer_terms.proofs.Payloads
 mod Outer
 mod Order

@@ -17,7 +17,7 @@ use Rattle.pat_infer_problems.specs.Views.{placed_variable, placed_variable_of, 
 use Rattle.pat_infer_problems.specs.Results.{first_of}
 use Rattle.pat_infer_problems.specs.Growing.{Grows}
 use Rattle.pat_infer_problems.specs.declared.problem.Problem.{Problem}
-use Rattle.pat_infer_needs.specs.Gathering.{IsGathered}
+use Rattle.pat_infer_terms.specs.Gathering.{IsGathered}
 use Rattle.pat_infer_problems.specs.Walked.{IsWalked}
 use Rattle.pat_infer_branches.specs.Guards.{own_guard}
 use Rattle.pat_infer_branches.specs.declared.guards.Guarded.{Guarded}

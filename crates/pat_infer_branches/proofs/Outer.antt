@@ -12,10 +12,10 @@ use Rattle.pat_inference.specs.Constraints.{AtNode, BranchRule, unless, each_unl
 use Rattle.pat_inference.specs.Needs.{add_all, Combined, vars_with, constraints_with, need_before, gather, Gathered}
 use Rattle.pat_inference.specs.Branches.{Arm, outer_needs, arm_names, arm_needs, branches_agree, branches}
 use Rattle.pat_inference.specs.Walk.{arms_findings, arms_gathered}
-use Rattle.pat_infer_needs.specs.Types.{types_at}
+use Rattle.pat_infer_terms.specs.Types.{types_at}
 use Rattle.pat_infer_terms.proofs.Payloads.{names_by}
 use Rattle.pat_infer_names.specs.Names.{names_of_outer}
-use Rattle.pat_infer_needs.specs.Gathering.{column_at, outer_gathered}
+use Rattle.pat_infer_terms.specs.Gathering.{column_at, outer_gathered}
 
 same_column : (x : ℕ) (arms : List Arm) → column_at x (map outer_needs arms) ≡ arm_needs x arms
 same_column x [] = refl

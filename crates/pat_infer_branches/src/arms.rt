@@ -6,15 +6,14 @@ ghost use Rattle.pat_core.specs.Views.{clause_view};
 ghost use Rattle.pat_types.specs.Views.{needs_view};
 ghost use Rattle.pat_infer_problems.specs.Results.{Meets, first_of};
 ghost use Rattle.pat_infer_names.specs.Names.{names_of_outer};
-ghost use Rattle.pat_infer_needs.specs.Gathering.{column_at};
+ghost use Rattle.pat_infer_terms.specs.Gathering.{column_at, Gathers};
 ghost use Rattle.pat_inference.specs.Walk.{arms_findings, arms_gathered};
-ghost use Rattle.pat_infer_needs.specs.Gathering.{Gathers};
 ghost use Rattle.pat_infer_branches.specs.Arms.{arm_view};
 
 use pat_core::{Clause, Program};
 use pat_infer_names::names_of;
-use pat_infer_needs::{column_of, do_agree, first_places, gather_branches, without};
 use pat_infer_problems::{InferError, Problem, Rule, check_node};
+use pat_infer_terms::{column_of, do_agree, first_places, gather_branches, without};
 use pat_sequences::Sequence;
 use pat_types::{MailboxType, copy_needs};
 use std::alloc::{AllocError, Global};

@@ -23,9 +23,10 @@ ghost use Rattle.pat_infer_problems.specs.Walked.{Infers};
 use crate::arms::{WalkedArm, check_arms, clause_names, gather_arms};
 use crate::covering::is_covered;
 use pat_core::{Clause, Program, Sort, TagDecl};
-use pat_infer_needs::{find, is_named, put};
 use pat_infer_problems::{InferError, Problem, Rule, check_node};
-use pat_infer_terms::{Binder, bind, bind_all, check_names, constrain_names, tag_of, types_of_tag};
+use pat_infer_terms::{
+    Binder, bind, bind_all, check_names, constrain_names, find, is_named, put, tag_of, types_of_tag,
+};
 use pat_patterns::Pattern;
 use pat_primitives::Polarity;
 use pat_residuals::residual;

@@ -4,3 +4,4 @@
 mod lets;
 
 pub use lets::{asked_of, join_let};
+pub use pat_infer_needs::without;

@@ -4,8 +4,8 @@ use Rattle.std.specs.List.{AllByRecursion, insert}
 use Rattle.std.specs.Prelude.{filter, IsTrue, ◌↔◌}
 use Rattle.std.proofs.lemmas.Bool.{cond-true, cond-false, ne_eqb, lt-ltb, false_from_ne_true, ltb-true, eqb-true, eq-eqb}
 use Rattle.pat_words.specs.Patterns.{Pat, pat_eq}
-use Rattle.pat_words.proofs.PatternLaws.{pat_eq_same}
-use Rattle.pat_words.proofs.FormLaws.{pat_eq_refl}
+use Rattle.pat_words_laws.proofs.PatternLaws.{pat_eq_same}
+use Rattle.pat_words_laws.proofs.FormLaws.{pat_eq_refl}
 use Rattle.pat_typing.specs.Types as types
 use Rattle.pat_open_types.specs.NodeTypes.{Needs}
 use Rattle.pat_model.specs.Programs.{is_among}

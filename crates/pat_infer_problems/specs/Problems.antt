@@ -5,7 +5,7 @@ use Rattle.std.specs.List.{AllByRecursion}
 use Rattle.pat_words.specs.Patterns.{Pat}
 use Rattle.pat_model.specs.Programs as core
 use Rattle.pat_model.specs.Programs.{node_at}
-use Rattle.pat_typing.specs.Typings.{IsTyping}
+use Rattle.pat_inference.specs.Typings.{IsTyping}
 use Rattle.pat_open_types.specs.Signatures.{signature_vars}
 use Rattle.pat_inference.specs.Walk.{inferred, all_vars}
 use Rattle.pat_inference.specs.Shapes.{ConstraintFits, NodeTypeFits}

@@ -21,10 +21,10 @@ use Rattle.pat_infer_problems.specs.Growing.{Grows}
 use Rattle.pat_infer_problems.specs.declared.problem.Problem.{Problem}
 use Rattle.pat_infer_problems.specs.declared.error.InferError.{InferError}
 use Rattle.pat_infer_signatures.specs.Opened.{Signature, signatures_from}
-use Rattle.pat_infer_needs.specs.Types.{types_at}
+use Rattle.pat_infer_lets.specs.Types.{types_at}
 use Rattle.pat_infer_walk.specs.Walking.{HasGrown, Finds}
 use Rattle.pat_infer_problems.specs.Walked.{IsWalked}
-use Rattle.pat_infer_terms.proofs.Payloads.{names_same}
+use Rattle.pat_infer_branches.proofs.Payloads.{names_same}
 use Rattle.pat_infer_walk.proofs.Parts.{grows_then}
 use Rattle.pat_infer_problems.proofs.Joining.{first_behind, refuses_behind}
 use Rattle.pat_infer_walk.proofs.SignedNumbers.{signed_as}

@@ -23,9 +23,9 @@ use Rattle.pat_infer_problems.specs.Growing.{Grows, settled}
 use Rattle.pat_infer_problems.specs.declared.problem.Problem.{Problem}
 use Rattle.pat_infer_problems.specs.declared.error.InferError.{InferError}
 use Rattle.pat_infer_problems.specs.declared.error.InferError.TheVariants.{Untypable, NoMemory}
-use Rattle.pat_infer_needs.specs.Gathering.{IsGathered}
+use Rattle.pat_infer_lets.specs.Gathering.{IsGathered}
 use Rattle.pat_infer_lets.specs.Lets.{own_let}
-use Rattle.pat_infer_terms.specs.Adding.{IsAdded}
+use Rattle.pat_infer_branches.specs.Adding.{IsAdded}
 use Rattle.pat_infer_branches.specs.Guards.{own_guard}
 use Rattle.pat_infer_branches.specs.Arms.{arm_view}
 use Rattle.pat_infer_branches.specs.declared.guards.Guarded.{Guarded}

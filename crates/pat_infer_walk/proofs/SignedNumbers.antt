@@ -19,10 +19,10 @@ use Rattle.pat_infer_problems.specs.Growing.{settled}
 use Rattle.pat_infer_problems.specs.declared.problem.Problem.{Problem}
 use Rattle.pat_infer_problems.specs.declared.error.InferError.{InferError}
 use Rattle.pat_infer_signatures.specs.Opened.{Signature, open_params, params_end, signature_of, signature_end, signatures_from}
-use Rattle.pat_infer_needs.specs.Types.{types_at}
-use Rattle.pat_infer_terms.specs.Adding.{Adds}
-use Rattle.pat_infer_terms.specs.Calls.{signed_call}
-use Rattle.pat_infer_terms.proofs.Payloads.{needs_same, args_same}
+use Rattle.pat_infer_lets.specs.Types.{types_at}
+use Rattle.pat_infer_branches.specs.Adding.{Adds}
+use Rattle.pat_infer_branches.specs.Calls.{signed_call}
+use Rattle.pat_infer_branches.proofs.Payloads.{needs_same, args_same}
 use Rattle.pat_infer_problems.specs.Walked.{Infers}
 
 -- the type at a place

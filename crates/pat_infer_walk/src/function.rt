@@ -5,15 +5,15 @@ ghost use Rattle.pat_inference.specs.Walk.{walk_function as found_of_function};
 ghost use Rattle.pat_core.specs.Views.{program_view, function_view, sort_view};
 ghost use Rattle.pat_types.specs.Views.{type_view, needs_view};
 ghost use Rattle.pat_infer_signatures.specs.Views.{signature_view};
-ghost use Rattle.pat_infer_needs.specs.Types.{types_at};
-ghost use Rattle.pat_infer_terms.specs.Views.{binder_view};
+ghost use Rattle.pat_infer_lets.specs.Types.{types_at};
+ghost use Rattle.pat_infer_branches.specs.Views.{binder_view};
 ghost use Rattle.pat_infer_walk.specs.Walking.{IsSigned, Finds};
 
 use crate::walk::{Signed, walk};
 use pat_core::{Function, Program, Sort};
+use pat_infer_branches::{Binder, bind_at, check_names, constrain_names};
 use pat_infer_problems::{InferError, Problem};
 use pat_infer_signatures::Signature;
-use pat_infer_terms::{Binder, bind_at, check_names, constrain_names};
 use pat_sequences::Sequence;
 use pat_types::MailboxType;
 use std::alloc::{AllocError, Global};

@@ -18,12 +18,13 @@ ghost use Rattle.pat_infer_walk.specs.Walking.{IsSigned, InfersArms, branch_view
 ghost use Rattle.pat_infer_problems.specs.Walked.{IsWalked, Infers};
 
 use pat_core::{Clause, Core, Kind, Node, Program};
-use pat_infer_branches::{Guarded, WalkedArm, check_arms, gather_arms, guard_needs};
-use pat_infer_lets::{asked_of, join_let};
-use pat_infer_needs::without;
+use pat_infer_branches::{
+    Guarded, WalkedArm, call_needs, check_arms, constrain_new, gather_arms, guard_needs,
+    send_needs, value_needs,
+};
+use pat_infer_lets::{asked_of, join_let, without};
 use pat_infer_problems::{InferError, Problem, set_node};
 use pat_infer_signatures::Signature;
-use pat_infer_terms::{call_needs, constrain_new, send_needs, value_needs};
 use pat_primitives::Base;
 use pat_sequences::{Sequence, Stack};
 use pat_types::{MailboxType, NodeType, TypeOf, Usage, copy_needs};

@@ -10,8 +10,8 @@ use Rattle.pat_model.specs.Faults.{IsIn}
 use Rattle.pat_model.specs.WellFormed.{WellFormed}
 use Rattle.pat_typing.specs.Types.{Second, Returnable, MailboxType, mailbox_type, TypeOf, BaseTerm, MailboxTerm, TypeEnv, with_type, without}
 use Rattle.pat_typing.specs.Typings.{Typing, param_type, result_type, payload_type, args_need, clause_env, without_name}
-use Rattle.pat_inclusions.specs.Values.{replaced}
-use Rattle.pat_inclusions.specs.Certificates.{is_arm}
+use Rattle.pat_open_types.specs.Values.{replaced}
+use Rattle.pat_open_types.specs.Certificates.{is_arm}
 use Rattle.pat_open_types.specs.Signatures.{signature_vars}
 use Rattle.pat_inference.specs.Constraints.{Constraint}
 use Rattle.pat_inference.specs.Walk.{var_interface, inferred}

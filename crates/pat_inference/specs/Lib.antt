@@ -1,3 +1,6 @@
+pub use Rattle.pat_typing.specs.Typings
+pub use Rattle.pat_open_types.specs.NodeTypes
+pub use Rattle.pat_open_types.specs.Signatures
 pub mod Constraints
 pub mod Needs
 pub mod Binders

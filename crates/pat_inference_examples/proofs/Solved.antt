@@ -2,7 +2,7 @@
 use Rattle.std.proofs.Common.{nat_eq, if◌then◌else◌, ◌≡◌, ℕ, suc, Bool, true, ◌&&◌, List, [], ◌∷◌, refl}
 use Rattle.std.proofs.lemmas.Bool.{and_parts}
 use Rattle.pat_words.specs.Patterns.{Pat, One, Tag, Star, is_inhabited}
-use Rattle.pat_words.proofs.PatternLaws.{inhabited_to}
+use Rattle.pat_words_laws.proofs.PatternLaws.{inhabited_to}
 use Rattle.pat_model.specs.Programs.{Polarity, Sending, Receiving, Program, is_free}
 use Rattle.pat_typing.specs.Typings.{IsTypable, HasWord}
 use Rattle.pat_inclusions.specs.Values.{replaced}

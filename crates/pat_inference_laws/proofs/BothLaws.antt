@@ -3,7 +3,7 @@ use Rattle.std.proofs.Common.{◌≡◌, ℕ, true, not, ◌&&◌, Option, Some,
 use Rattle.std.specs.List.{AllByRecursion}
 use Rattle.pat_words.specs.Words.{no_word}
 use Rattle.pat_words.specs.Patterns.{Pat, Prod, Var, In, Included, prod_of}
-use Rattle.pat_words.proofs.WordLaws.{none_plus, plus_none}
+use Rattle.pat_words_laws.proofs.WordLaws.{none_plus, plus_none}
 use Rattle.pat_model.specs.Programs.{Polarity, Sending, Receiving}
 use Rattle.pat_typing.specs.Types.{Usage, Second, Returnable, MailboxType, mailbox_type, UsageFits, PatternFits, PatternJoins, DropsAs, Fits, Joins, PassesTo, SplitsTo}
 use Rattle.pat_typing.specs.Typings.{Typing}

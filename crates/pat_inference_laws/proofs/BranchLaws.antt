@@ -4,7 +4,7 @@ use Rattle.std.specs.List.{AllByRecursion}
 use Rattle.std.proofs.lemmas.Bool.{and_left, and_parts, and_from, or_cases, or_parts, or_from, or_left, or_right, cond_both}
 use Rattle.pat_words.specs.Words.{no_word}
 use Rattle.pat_words.specs.Patterns.{Pat, One, Var, In, Included, pat_eq, sum_of}
-use Rattle.pat_words.proofs.PatternLaws.{pat_eq_same}
+use Rattle.pat_words_laws.proofs.PatternLaws.{pat_eq_same}
 use Rattle.pat_model.specs.Programs.{Polarity, Sending, Receiving}
 use Rattle.pat_model_laws.proofs.Lists.{clash, not_true}
 use Rattle.pat_typing.specs.Types.{Usage, Second, Returnable, MailboxType, mailbox_type, UsageFits, PatternFits, DropsAs, Fits, PassesTo}

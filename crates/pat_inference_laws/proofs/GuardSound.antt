@@ -4,7 +4,7 @@ use Rattle.std.specs.Prelude.{is_some, is_none}
 use Rattle.std.specs.List.{AllByRecursion, IsDistinct, flat_map}
 use Rattle.std.proofs.lemmas.Bool.{cond_both, eqb-true, or_right}
 use Rattle.pat_words.specs.Patterns.{Pat, covers, is_closed}
-use Rattle.pat_words.proofs.CoverLaws.{covers_from}
+use Rattle.pat_words_laws.proofs.CoverLaws.{covers_from}
 use Rattle.pat_model.specs.Programs.{Receiving, Clause, Program, is_among, clause_binders, clause_bodies}
 use Rattle.pat_model.specs.WellFormed.{WellFormed}
 use Rattle.pat_model_laws.proofs.Lists.{all_join, among_first, among_second, among_head}

@@ -5,7 +5,7 @@ use Rattle.std.specs.Map.{keys_of}
 use Rattle.std.specs.List.{AllByRecursion, list_any, flat_map}
 use Rattle.std.proofs.lemmas.Bool.{cond_both, cond-true, cond-false, or_cases, or_parts, or_left, or_right, and_from, eq-eqb, eqb-true, cases_Bool, false_from_ne_true}
 use Rattle.pat_words.specs.Patterns.{Pat, covers, residual, is_closed}
-use Rattle.pat_words.proofs.CoverLaws.{covers_to}
+use Rattle.pat_words_laws.proofs.CoverLaws.{covers_to}
 use Rattle.pat_model.specs.Values.{Base, Kind, Plain, MailboxOf}
 use Rattle.pat_model.specs.Programs.{Sending, Receiving, Sort, BaseSort, MailboxSort, TagDecl, Clause, Guard, Node, Program, node_at, kind_of, is_among, is_free, option_list, binders, clause_bodies, clause_binders, clause_uses}
 use Rattle.pat_model.specs.Faults.{payloads_of}

@@ -3,7 +3,7 @@ use Rattle.std.proofs.Common.{◌||◌, if◌then◌else◌, nat_eq, ◌≡◌, 
 use Rattle.std.proofs.lemmas.Bool.{and_parts, and_from, cond_both}
 use Rattle.pat_words.specs.Words.{Word}
 use Rattle.pat_words.specs.Patterns.{Pat, Zero, One, Tag, Sum, Prod, Star, Var, Language, Times, InUnder, In, is_closed, sum_of, prod_of, residual, is_zero, is_one, pat_eq}
-use Rattle.pat_words.proofs.PatternLaws.{sum_of_to, sum_of_from, prod_of_to, prod_of_from}
+use Rattle.pat_words_laws.proofs.PatternLaws.{sum_of_to, sum_of_from, prod_of_to, prod_of_from}
 use Rattle.pat_inclusions.specs.Values.{replaced}
 
 -- the words that variables have by these patterns

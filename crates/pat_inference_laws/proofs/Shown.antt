@@ -4,8 +4,8 @@ use Rattle.std.specs.List.{AllByRecursion}
 use Rattle.std.proofs.lemmas.Bool.{cond_both, cond-true, or_left, or_right, or_cases}
 use Rattle.pat_words.specs.Words.{Word}
 use Rattle.pat_words.specs.Patterns.{Pat, Zero, One, Tag, Sum, Prod, Star, Var, In, InUnder, pat_eq, is_zero, is_one, sum_of, prod_of, subst_of}
-use Rattle.pat_words.proofs.PatternLaws.{pat_eq_same, is_zero_same, is_one_same}
-use Rattle.pat_words.proofs.FormLaws.{pat_eq_refl, subst_from}
+use Rattle.pat_words_laws.proofs.PatternLaws.{pat_eq_same, is_zero_same, is_one_same}
+use Rattle.pat_words_laws.proofs.FormLaws.{pat_eq_refl, subst_from}
 use Rattle.pat_model.specs.Programs.{Polarity, Sending, Receiving}
 use Rattle.pat_model_laws.proofs.Lists.{clash, not_true}
 use Rattle.pat_typing.specs.Types.{MailboxType, mailbox_type}

@@ -6,10 +6,10 @@ use Rattle.pat_validity.specs.Conditions.{Place}
 use Rattle.pat_validity.specs.Rules.{uses_well, drops_well, payloads_stand_apart, guard_covers, certs_show}
 use Rattle.pat_validity.specs.Validity.{Rule, ShapeRule, EmptyRule, AliasRule, UseRule, DropRule, PayloadRule, CoversRule, CertRule, broken_or}
 use Rattle.pat_patterns.specs.Views.{patterns_view}
-use Rattle.pat_demands.specs.Views.{signature_view}
-use Rattle.pat_demands_terms.specs.Opened.{opened_from}
+use Rattle.pat_judge_uses.specs.Views.{signature_view}
+use Rattle.pat_judge_uses.specs.Opened.{opened_from}
 use Rattle.pat_judge_scopes.specs.Upwards.{AreAbove}
-use Rattle.pat_judge_values.specs.Tested.{IsTested}
+use Rattle.pat_judge_shape.specs.Tested.{IsTested}
 use Rattle.pat_judge_certs.specs.Plain.{all_plain}
 use Rattle.pat_rules.specs.declared.Rule.{Rule as CodeRule}
 use Rattle.pat_rules.specs.declared.Rule.TheVariants as rule

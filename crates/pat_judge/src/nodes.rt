@@ -9,19 +9,17 @@ ghost use Rattle.pat_validity.specs.Rules.{has_values};
 ghost use Rattle.pat_validity.specs.Validity.{broken_at, broken_in, broken_rule as broken_rule_of};
 ghost use Rattle.pat_core.specs.Views.{node_view, function_view, program_view};
 ghost use Rattle.pat_derivations.specs.Views.{line_view, derivation_view};
-ghost use Rattle.pat_demands.specs.Views.{demands_view};
+ghost use Rattle.pat_judge_uses.specs.Views.{demands_view};
 ghost use Rattle.pat_judge.specs.Views.{rule_view, AreTables, after_alias};
 
 use crate::tables::Tables;
 use pat_core::{Function, Node, Program};
-use pat_demands::Demand;
-use pat_demands_terms::demands;
 use pat_derivations::{Derivation, DerivedNode};
 use pat_judge_certs::are_shown;
 use pat_judge_drops::drops_well;
 use pat_judge_scopes::names_in_scope;
 use pat_judge_shape::{guard_covers, has_shape, has_words};
-use pat_judge_uses::{has_no_alias, payloads_stand_apart, uses_well};
+use pat_judge_uses::{Demand, demands, has_no_alias, payloads_stand_apart, uses_well};
 use pat_rules::Rule;
 use std::alloc::{AllocError, Global};
 

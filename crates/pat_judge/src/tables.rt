@@ -7,12 +7,11 @@ ghost use Rattle.pat_derivations.specs.Views.{derivation_view};
 ghost use Rattle.pat_judge.specs.Views.{AreTables};
 
 use pat_core::Program;
-use pat_demands::Signature;
-use pat_demands_terms::signatures;
 use pat_derivations::Derivation;
 use pat_judge_certs::plain_values;
 use pat_judge_scopes::nodes_above;
-use pat_judge_values::{Tests, tests_of};
+use pat_judge_shape::{Tests, tests_of};
+use pat_judge_uses::{Signature, signatures};
 use pat_patterns::Pattern;
 use pat_sequences::Sequence;
 use std::alloc::{AllocError, Global};

@@ -8,8 +8,8 @@ use Rattle.pat_words.specs.Patterns.{Pat, Zero, One, Tag, Sum, Prod, Star, Var, 
 use Rattle.pat_words.specs.Substitutions.{has_values}
 use Rattle.pat_inclusions.specs.Values.{VarValue, PatternForm, GridForm, VarLine, Scope, var_at, has_interface, is_formed, plain_or_var, plainly_replaced}
 use Rattle.pat_inclusions.specs.Certificates.{is_arm, is_trivial}
-use Rattle.pat_words.proofs.FormLaws.{pat_eq_refl}
-use Rattle.pat_words.proofs.PatternLaws.{pat_eq_same}
+use Rattle.pat_words_laws.proofs.FormLaws.{pat_eq_refl}
+use Rattle.pat_words_laws.proofs.PatternLaws.{pat_eq_same}
 use Rattle.pat_patterns.specs.declared.pattern.Pattern.{Pattern}
 use Rattle.pat_patterns.specs.Views.{pattern_view, patterns_view, value_at}
 use Rattle.pat_judge_certs.specs.Plain.{plain_value_of, plain_from, all_plain}

@@ -13,8 +13,7 @@ ghost use Rattle.pat_derivations.specs.Views.{derivation_view};
 use pat_certs_covers::{CoverEntry, check_cover};
 use pat_core::Program;
 use pat_derivations::Derivation;
-use pat_judge_forms::form_of;
-use pat_judge_values::tags_are_few;
+use pat_judge_forms::{form_of, tags_are_few};
 use pat_patterns::Pattern;
 use std::alloc::{AllocError, Global};
 

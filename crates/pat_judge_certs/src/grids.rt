@@ -14,7 +14,7 @@ use crate::numbering::{add_names, renumbered, right_of, values_of};
 use pat_certs_grids::{check_grid, is_grid};
 use pat_core::Program;
 use pat_derivations::Derivation;
-use pat_judge_values::{tag_count, tags_are_few};
+use pat_judge_forms::{tag_count, tags_are_few};
 use pat_patterns::Pattern;
 use pat_sequences::Sequence;
 use std::alloc::{AllocError, Global};

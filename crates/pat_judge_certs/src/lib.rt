@@ -9,5 +9,6 @@ mod showing;
 mod trivial;
 
 pub use inclusions::{Inclusion, inclusion_of};
+pub use pat_judge_forms::form_of;
 pub use showing::are_shown;
 pub use trivial::{is_trivial, plain_values};

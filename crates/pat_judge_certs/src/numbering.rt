@@ -8,9 +8,9 @@ ghost use Rattle.pat_judge_certs.specs.Numbering.{with_name, with_names, place_o
 
 use pat_bags::Bag;
 use pat_certs_grids::{Right, VarValue};
+use pat_demands::holds;
 use pat_derivations as derivations;
-use pat_environments::holds;
-use pat_judge_values::var_of;
+use pat_judge_forms::var_of;
 use pat_patterns::{Pattern, join_product, join_star, join_sum, take_one};
 use pat_sequences::{Sequence, Stack};
 use std::alloc::{AllocError, Global};

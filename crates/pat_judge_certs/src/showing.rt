@@ -20,7 +20,7 @@ use crate::trivial::is_trivial;
 use pat_core::Program;
 use pat_demands::Demand;
 use pat_derivations::{Cert, Derivation};
-use pat_judge_values::is_formed;
+use pat_judge_forms::is_formed;
 use pat_patterns::Pattern;
 use std::alloc::{AllocError, Global};
 

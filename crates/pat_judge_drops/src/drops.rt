@@ -7,14 +7,13 @@ ghost use Rattle.pat_core.specs.Views.{program_view};
 ghost use Rattle.pat_types.specs.Views.{type_view, result_view};
 ghost use Rattle.pat_validity.specs.Derivations.{scope_of};
 ghost use Rattle.pat_validity.specs.Demands.{Pass, drops_as as drops_as_of, term_may_drop as term_may_drop_of, is_dropped_well};
-ghost use Rattle.pat_derivations.specs.Views.{derivation_view};
+ghost use Rattle.pat_judge_values.specs.Views.{derivation_view};
 ghost use Rattle.pat_demands.specs.Views.{demand_view, demands_view};
 ghost use Rattle.pat_judge_values.specs.Tested.{IsTested};
 
 use pat_core::Program;
 use pat_demands::Demand;
-use pat_derivations::Derivation;
-use pat_judge_values::{Tests, has_empty_word, is_formed};
+use pat_judge_values::{Derivation, Tests, has_empty_word, is_formed};
 use pat_patterns::Pattern;
 use pat_primitives::Polarity;
 use pat_types::{MailboxType, TypeOf};

@@ -4,8 +4,8 @@ use Rattle.std.specs.Prelude.{if◌then◌else◌}
 use Rattle.std.proofs.lemmas.Bool.{cond_both, cond-true, cond-false, or_cases, or_left, or_right}
 use Rattle.pat_words.specs.Patterns.{Pat, Zero, One, Tag, Sum, Prod, Star, Var, pat_eq, is_zero, is_one, sum_of, prod_of, star_of}
 use Rattle.pat_words.specs.Sizes.{size_of}
-use Rattle.pat_words.proofs.FormLaws.{pat_eq_refl}
-use Rattle.pat_words.proofs.PatternLaws.{is_zero_same, is_one_same, pat_eq_same}
+use Rattle.pat_words_laws.proofs.FormLaws.{pat_eq_refl}
+use Rattle.pat_words_laws.proofs.PatternLaws.{is_zero_same, is_one_same, pat_eq_same}
 
 zero_small : (e : Pat) → is_zero e ≡ true → size_of e ≡ 1
 zero_small e z = ap size_of (is_zero_same e z)

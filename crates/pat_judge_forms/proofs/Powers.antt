@@ -7,7 +7,7 @@ use Rattle.pat_words.specs.Patterns.{Pat, Zero, One, Tag, Prod, Star, is_zero, i
 use Rattle.pat_words.specs.Sizes.{size_of}
 use Rattle.std.proofs.Math.Seq.{drop-cons}
 use Rattle.pat_bags.specs.declared.Bag.{Bag}
-use Rattle.pat_derivations.specs.Views.{counts_of}
+use Rattle.pat_judge_values.specs.Views.{counts_of}
 use Rattle.pat_patterns.specs.Views.{pattern_view}
 use Rattle.pat_inclusions.specs.Counts.{counted}
 use Rattle.pat_inclusions.specs.Points.{tag_power, count_pattern, point_pattern, with_points, points_pattern}

@@ -10,12 +10,11 @@ ghost use Rattle.pat_validity.specs.Derivations.{scope_of};
 ghost use Rattle.pat_linear.specs.Views.{sets_view};
 ghost use Rattle.pat_patterns.specs.Views.{pattern_view};
 ghost use Rattle.pat_core.specs.Views.{program_view};
-ghost use Rattle.pat_derivations.specs.Views.{derivation_view};
+ghost use Rattle.pat_judge_values.specs.Views.{derivation_view};
 
 use crate::replacing::replaced;
 use pat_core::Program;
-use pat_derivations::Derivation;
-use pat_judge_values::tags_are_few;
+use pat_judge_values::{Derivation, tags_are_few};
 use pat_linear::{FormError, LinearSet, closed_form};
 use pat_patterns::Pattern;
 use pat_sequences::Sequence;

@@ -7,3 +7,4 @@ mod point_patterns;
 mod replacing;
 
 pub use forms::form_of;
+pub use pat_judge_values::{is_formed, tag_count, tags_are_few, var_of};

@@ -2,7 +2,7 @@
 ghost use Rattle.std.specs.Prelude.{◌≡◌, ◌<◌, map, IfOk};
 ghost use Rattle.pat_inclusions.specs.Counts.{counted};
 ghost use Rattle.pat_inclusions.specs.Points.{tag_power, count_pattern, point_pattern, points_pattern};
-ghost use Rattle.pat_derivations.specs.Views.{counts_of};
+ghost use Rattle.pat_judge_values.specs.Views.{counts_of};
 ghost use Rattle.pat_judge_forms.specs.Limits.{Limits};
 
 use crate::building::{Built, leaf, product, star, sum};

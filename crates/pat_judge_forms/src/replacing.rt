@@ -7,15 +7,14 @@ ghost use Rattle.pat_inclusions.specs.Values.{pattern_of};
 ghost use Rattle.pat_validity.specs.Derivations.{scope_of};
 ghost use Rattle.pat_patterns.specs.Views.{pattern_view};
 ghost use Rattle.pat_core.specs.Views.{program_view};
-ghost use Rattle.pat_derivations.specs.Views.{derivation_view};
+ghost use Rattle.pat_judge_values.specs.Views.{derivation_view};
 ghost use Rattle.pat_judge_forms.specs.declared.building.Built.{Built as BuiltValue};
 ghost use Rattle.pat_judge_forms.specs.Limits.{IsLimited, Limits, Puts};
 
 use crate::building::{Built, copied, leaf, product_within, star_within, sum_within};
 use crate::point_patterns::points;
 use pat_core::Program;
-use pat_derivations::{Derivation, VarValue};
-use pat_judge_values::{tag_count, tags_are_few, var_of};
+use pat_judge_values::{Derivation, VarValue, tag_count, tags_are_few, var_of};
 use pat_patterns::Pattern;
 use pat_sequences::Stack;
 use std::alloc::{AllocError, Global};

@@ -13,7 +13,7 @@ use Rattle.pat_validity.specs.Derivations.{Line, Derivation, ascends_from, scope
 use Rattle.pat_validity.specs.Scopes.{is_in_scope, kind_at}
 use Rattle.pat_validity.specs.Conditions.{Place}
 use Rattle.pat_validity.specs.Rules.{type_is_formed, is_named_well, tails_agree, first_agrees, has_values, has_shape, param_has_word, params_have_words, type_has_word, signature_has_words}
-use Rattle.pat_demands.specs.Listed.{Signature}
+use Rattle.pat_demands_terms.specs.Listed.{Signature}
 use Rattle.pat_demands_terms.specs.Opened.{opened_from}
 use Rattle.pat_demands_terms.proofs.Listing.{StandAt, first_at, later_at, none_at, none_later}
 use Rattle.pat_demands_terms.proofs.Demanded.{IsSignatureOf}

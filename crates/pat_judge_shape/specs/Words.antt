@@ -7,7 +7,7 @@ use Rattle.pat_validity.specs.Same.{is_same_type}
 use Rattle.pat_validity.specs.Derivations.{Derivation}
 use Rattle.pat_validity.specs.Conditions.{Place, is_first}
 use Rattle.pat_validity.specs.Rules.{param_has_word, type_has_word, signature_has_words}
-use Rattle.pat_demands.specs.Listed.{Signature}
+use Rattle.pat_demands_terms.specs.Listed.{Signature}
 
 abbrev pub listed_have_words : Scope → List (Option MailboxType) → List Sort → Bool
 listed_have_words s ts [] = true

@@ -7,6 +7,7 @@ mod starting;
 mod words;
 
 pub use covering::guard_covers;
+pub use pat_judge_values::{Tests, tests_of};
 pub use shape::has_shape;
 pub use starting::has_values;
 pub use words::has_words;

@@ -13,12 +13,12 @@ ghost use Rattle.pat_validity.specs.Rules.{type_is_formed as type_is_formed_of, 
 ghost use Rattle.pat_core.specs.Views.{kind_view, core_view, clause_view, node_view, function_view, program_view};
 ghost use Rattle.pat_types.specs.Views.{result_view, needs_view};
 ghost use Rattle.pat_derivations.specs.Views.{line_view, derivation_view};
-ghost use Rattle.pat_demands.specs.Views.{signature_view};
+ghost use Rattle.pat_demands_terms.specs.Views.{signature_view};
 ghost use Rattle.pat_demands_terms.specs.Opened.{opened_from};
 
 use crate::starting::both;
 use pat_core::{Clause, Core, Function, Kind, Node, Program};
-use pat_demands::{Signature, kind_of, line_of, signature_of};
+use pat_demands_terms::{Signature, kind_of, line_of, signature_of};
 use pat_derivations::{Derivation, DerivedNode};
 use pat_environments::ascends;
 use pat_judge_types::{same_base, same_kind, same_type};

@@ -10,13 +10,13 @@ ghost use Rattle.pat_patterns.specs.Views.{pattern_view};
 ghost use Rattle.pat_core.specs.Views.{sort_view, node_view, function_view, program_view};
 ghost use Rattle.pat_types.specs.Views.{type_view, result_view, needs_view};
 ghost use Rattle.pat_derivations.specs.Views.{line_view, derivation_view};
-ghost use Rattle.pat_demands.specs.Views.{signature_view};
+ghost use Rattle.pat_demands_terms.specs.Views.{signature_view};
 ghost use Rattle.pat_demands_terms.specs.Opened.{opened_from};
 ghost use Rattle.pat_judge_values.specs.Tested.{IsTested};
 ghost use Rattle.pat_judge_shape.specs.Words.{listed_have_words, signature_words, first_words};
 
 use pat_core::{Function, Node, Program, Sort};
-use pat_demands::{Signature, signature_of};
+use pat_demands_terms::{Signature, signature_of};
 use pat_derivations::{Derivation, DerivedNode};
 use pat_judge_values::{Tests, has_word};
 use pat_patterns::Pattern;

@@ -9,7 +9,7 @@ use Rattle.pat_typing.specs.Typings.{Typing, param_type, payload_type, payload_s
 use Rattle.pat_validity.specs.Derivations.{Derivation, written_typing}
 use Rattle.pat_validity.specs.Same.{all_differ}
 use Rattle.pat_validity.specs.Rules.{args_differ, payloads_differ}
-use Rattle.pat_demands.specs.Listed.{Signature, asked_args}
+use Rattle.pat_demands_terms.specs.Listed.{Signature, asked_args}
 use Rattle.pat_demands_terms.specs.Opened.{opened_from}
 use Rattle.pat_demands_terms.proofs.Listing.{args_named}
 use Rattle.pat_demands_terms.proofs.Demanded.{IsSignatureOf, payload_stand}

@@ -5,7 +5,7 @@ use Rattle.pat_model.specs.Values.{Expr}
 use Rattle.pat_model.specs.Programs.{TagDecl}
 use Rattle.pat_typing.specs.Typings.{payload_sort}
 use Rattle.pat_validity.specs.Same.{all_differ}
-use Rattle.pat_demands.specs.Listed.{Signature, asked_args}
+use Rattle.pat_demands_terms.specs.Listed.{Signature, asked_args}
 
 -- the mailbox variables of a call of a function with this signature are different
 abbrev pub call_differs : Option Signature → List Expr → Bool

@@ -1,1 +1,3 @@
+pub use Rattle.pat_demands_terms.specs.Views
+pub use Rattle.pat_demands_terms.specs.Opened
 pub mod Arguments

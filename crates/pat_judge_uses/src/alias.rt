@@ -9,13 +9,13 @@ ghost use Rattle.pat_validity.specs.Same.{all_differ as all_differ_of};
 ghost use Rattle.pat_validity.specs.Rules.{tag_of_kind as tag_of_kind_of, has_no_alias as has_no_alias_at};
 ghost use Rattle.pat_validity.specs.Truth.{place};
 ghost use Rattle.pat_derivations.specs.Views.{line_view, derivation_view};
-ghost use Rattle.pat_demands.specs.Listed.{asked_args};
-ghost use Rattle.pat_demands.specs.Views.{signature_view};
+ghost use Rattle.pat_demands_terms.specs.Listed.{asked_args};
+ghost use Rattle.pat_demands_terms.specs.Views.{signature_view};
 ghost use Rattle.pat_demands_terms.specs.Opened.{opened_from};
 ghost use Rattle.pat_judge_uses.specs.Arguments.{call_differs, send_differs};
 
 use pat_core::{Core, Expr, Function, Kind, Node, Program, TagDecl};
-use pat_demands::{Signature, kind_of, push_arguments, signature_of, tag_of};
+use pat_demands_terms::{Signature, kind_of, push_arguments, signature_of, tag_of};
 use pat_derivations::{Derivation, DerivedNode};
 use pat_environments::{holds, names_of};
 use pat_sequences::Sequence;

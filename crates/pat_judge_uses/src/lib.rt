@@ -7,5 +7,6 @@ mod payloads;
 mod uses;
 
 pub use alias::has_no_alias;
+pub use pat_demands_terms::{Demand, Signature, demands, signatures};
 pub use payloads::payloads_stand_apart;
 pub use uses::uses_well;

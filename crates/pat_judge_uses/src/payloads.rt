@@ -12,7 +12,7 @@ ghost use Rattle.pat_derivations.specs.Views.{line_view, derivation_view};
 
 use crate::alias::tag_of_kind;
 use pat_core::{Clause, Core, Function, Kind, Node, Program, Sort, TagDecl};
-use pat_demands::{kind_of, line_of};
+use pat_demands_terms::{kind_of, line_of};
 use pat_derivations::{Derivation, DerivedNode};
 use pat_environments::holds;
 use pat_types::{MailboxType, is_mailbox};

@@ -5,9 +5,9 @@ ghost use Rattle.pat_primitives.specs.Views.{polarity_view};
 ghost use Rattle.pat_types.specs.Views.{type_view, result_view};
 ghost use Rattle.pat_validity.specs.Demands.{Pass, Divide, Name, uses_fit, polarities_join, uses_join, as_term, is_used_well};
 ghost use Rattle.pat_validity.specs.Same.{is_same_type};
-ghost use Rattle.pat_demands.specs.Views.{demand_view, demands_view};
+ghost use Rattle.pat_demands_terms.specs.Views.{demand_view, demands_view};
 
-use pat_demands::Demand;
+use pat_demands_terms::Demand;
 use pat_judge_types::{is_second, same_pattern, same_polarity, usage_fits};
 use pat_primitives::Polarity;
 use pat_types::{MailboxType, TypeOf};

@@ -1,1 +1,2 @@
+pub use Rattle.pat_derivations.specs.Views
 pub mod Tested

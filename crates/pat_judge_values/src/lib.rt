@@ -6,5 +6,6 @@ mod values;
 mod words;
 
 pub use looking::{is_formed, tag_count, tags_are_few, var_of};
+pub use pat_derivations::{Derivation, VarValue};
 pub use values::values_fit;
 pub use words::{Tests, has_empty_word, has_word, tests_of};

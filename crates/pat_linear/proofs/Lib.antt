@@ -1,3 +1,6 @@
+pub use Rattle.pat_inclusion_laws.proofs.CoverLaws
+pub use Rattle.pat_inclusion_laws.proofs.Exact
+pub use Rattle.pat_inclusion_laws.proofs.Spans
 pub mod SameWords
 mod Room
 mod Lengths

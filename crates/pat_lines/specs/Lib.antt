@@ -1,1 +1,2 @@
+pub use Rattle.pat_machine.specs.Gives
 pub mod RunText

@@ -5,4 +5,6 @@ mod counting;
 mod run_text;
 mod standing;
 
+pub use pat_history::read;
+pub use pat_machine::Outcome;
 pub use run_text::{replay_text_of, text_of};

@@ -14,7 +14,7 @@ use Rattle.pat_model.specs.Faults.{IsIn}
 use Rattle.pat_model_laws.proofs.Lists.{append_among, any_first, any_filter}
 use Rattle.pat_model_laws.proofs.Ascending.{found_by_number, found_is_in}
 use Rattle.pat_model_laws.proofs.Inversion.{StandsAt, step_of, print_step, new_step, receive_step, local_step_of, send_step, spawn_step, end_step, EndStep, end_value, end_return, free_step}
-use Rattle.pat_preservation_laws.proofs.Refers.{value_refers}
+use Rattle.pat_commit_laws.proofs.Refers.{value_refers}
 use Rattle.pat_commit_laws.proofs.LookUps.{set_twice, lookup_set_other, lookup_remove_other}
 use Rattle.pat_commit_laws.proofs.Locals.{there_after}
 use Rattle.pat_locality_laws.specs.Wakings.{mailbox_in, target, target_at, is_named_by, is_brought_by, brings}

@@ -1,3 +1,8 @@
+pub use Rattle.pat_commit_laws.proofs.Exchanges
+pub use Rattle.pat_commit_laws.proofs.Opens
+pub use Rattle.pat_commit_laws.proofs.Tables
+pub use Rattle.pat_commit_laws.proofs.Locals
+pub use Rattle.pat_commit_laws.proofs.LookUps
 -- for others: who is called, what is found among those that may be ready, who is held back, and what a top lets go
 pub mod Calls
 pub mod Supersets

@@ -9,8 +9,8 @@ use Rattle.pat_model.specs.Configs.{Running, Frame, Thread, Config, thread_at, w
 use Rattle.pat_model.specs.Steps.{bind_name, resume, numbered, local_step}
 use Rattle.pat_model_laws.proofs.Lists.{any_filter}
 use Rattle.pat_model_laws.proofs.Inversion.{LocalStep, by_let, by_value, by_call, by_if, by_return, local_step_of}
-use Rattle.pat_preservation_laws.proofs.Refers.{is_mailbox_same, value_refers}
-use Rattle.pat_preservation_laws.proofs.Args.{eval_name, args_refer, numbered_refers}
+use Rattle.pat_commit_laws.proofs.Refers.{is_mailbox_same, value_refers}
+use Rattle.pat_commit_laws.proofs.Args.{eval_name, args_refer, numbered_refers}
 use Rattle.pat_commits.specs.Commits.{locally}
 
 -- whether a frame refers to the mailbox

@@ -15,8 +15,8 @@ use Rattle.pat_commits.specs.Machines.{MachineInvariant}
 use Rattle.pat_commit_laws.proofs.Idle.{idle_still, step_open}
 use Rattle.pat_commit_laws.proofs.Runs.{commit_stands}
 use Rattle.pat_machine_threads.specs.declared.settling.Settled.{Settled}
-use Rattle.pat_machine_shares.specs.Settling.{IsSettled, half_way, Finishes}
-use Rattle.pat_machine_shares.proofs.Settled.{commit_of}
+use Rattle.pat_machine_following.specs.Settling.{IsSettled, half_way, Finishes}
+use Rattle.pat_machine_following.proofs.Settled.{commit_of}
 use Rattle.pat_machine.specs.Shown.{steps_in, noted_in, place_of}
 
 -- what a machine keeps stands after the end of a commit, whoever takes it

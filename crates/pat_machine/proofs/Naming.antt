@@ -15,15 +15,15 @@ use Rattle.pat_commits.specs.Machines.{MachineInvariant}
 use Rattle.pat_commits.specs.Tops.{below}
 use Rattle.pat_commit_laws.proofs.Locals.{there_after, locals_run}
 use Rattle.pat_commit_laws.proofs.Tables.{allowances_without}
-use Rattle.pat_naming_laws.specs.Naming.{sum_of_threads, parts_of}
-use Rattle.pat_naming_laws.specs.Counting.{count_at, AreCounted, TellOfEach}
-use Rattle.pat_naming_laws.proofs.Freed.{counts_tell}
-use Rattle.pat_naming_laws.proofs.Live.{start_names, next_not_named}
-use Rattle.pat_naming_laws.proofs.Parts.{run_parts, replay_parts, machine_names}
+use Rattle.pat_machine_following.specs.Naming.{sum_of_threads, parts_of}
+use Rattle.pat_machine_following.specs.Counting.{count_at, AreCounted, TellOfEach}
+use Rattle.pat_machine_following.proofs.Freed.{counts_tell}
+use Rattle.pat_machine_following.proofs.Live.{start_names, next_not_named}
+use Rattle.pat_machine_following.proofs.Parts.{run_parts, replay_parts, machine_names}
 use Rattle.pat_machine_threads.specs.declared.settling.Settled.{Settled}
 use Rattle.pat_machine_threads.specs.Settling.{settled_thread}
-use Rattle.pat_machine_shares.specs.Settling.{IsSettled}
-use Rattle.pat_machine_shares.specs.Leaving.{CanBeCounted}
+use Rattle.pat_machine_following.specs.Settling.{IsSettled}
+use Rattle.pat_machine_following.specs.Leaving.{CanBeCounted}
 use Rattle.pat_machine.specs.declared.parts.Parts.{Parts}
 use Rattle.pat_machine.specs.Parted.{IsKept}
 

@@ -13,7 +13,7 @@ use Rattle.pat_commits.specs.Lendings.{NoneOut, SomeOut}
 use Rattle.pat_commits.specs.Turns.{IsReady, IsAtRest, IsTurn}
 use Rattle.pat_machine.specs.declared.job.Job.{Job}
 use Rattle.pat_machine.specs.declared.job.Receipt.{Receipt}
-use Rattle.pat_machine.specs.declared.job.Outcome.{Outcome as CodeOutcome}
+pub use Rattle.pat_machine.specs.declared.job.Outcome.{Outcome as CodeOutcome}
 use Rattle.pat_machine.specs.declared.job.Outcome.TheVariants as ending
 use Rattle.pat_machine.specs.declared.job.StateRefused.{StateRefused}
 use Rattle.pat_machine.specs.declared.job.StateRefused.TheVariants as state
@@ -104,3 +104,7 @@ abbrev pub OutcomeGives : Shown → Option CodeOutcome → Type 0
 OutcomeGives m None = SomeOut m.out ⊎ ((0 < m.left) × ((t : ℕ) × MayTake m t))
 OutcomeGives m (Some o) =
     NoneOut m.out × Rests m × (outcome (program_of m) m.config (step_count (entries_of m)) m.named.budget (Some m.named.limit) ≡ Some (outcome_view o))
+
+-- nobody is out, and nothing can be taken
+abbrev pub IsOver : Shown → Type 0
+IsOver m = NoneOut m.out × Rests m

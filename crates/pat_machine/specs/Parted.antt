@@ -5,7 +5,7 @@ use Rattle.pat_reduce.specs.Views.{entry_view}
 use Rattle.pat_commits.specs.Lendings.{allowances}
 use Rattle.pat_commits.specs.Machines.{MachineInvariant}
 use Rattle.pat_machine_waits.specs.Noted.{AreNoted}
-use Rattle.pat_naming_laws.specs.Counting.{AreCounted}
+use Rattle.pat_machine_following.specs.Counting.{AreCounted}
 use Rattle.pat_machine.specs.declared.parts.Parts.{Parts}
 use Rattle.pat_machine.specs.Shown.{Shown}
 

@@ -3,15 +3,13 @@ ghost use Rattle.std.specs.Prelude.{◌≡◌, option_copied, option_map};
 ghost use Rattle.pat_core.specs.Views.{program_view};
 ghost use Rattle.pat_reduce_threads.specs.ThreadViews.{message_view};
 ghost use Rattle.pat_reduce.specs.Views.{act_view};
-ghost use Rattle.pat_naming_laws.specs.Counting.{TellOfEach};
+ghost use Rattle.pat_machine_following.specs.Counting.{TellOfEach};
 ghost use Rattle.pat_machine_waits.specs.Waits.{HasSpace, CanHold, HasRoom};
 ghost use Rattle.pat_machine_waits.specs.Noted.{AreNoted, WereNoted};
-ghost use Rattle.pat_machine_states.specs.Taking.{taken_act, taken_message};
+ghost use Rattle.pat_machine_following.specs.Taking.{taken_act, taken_message};
 
 use pat_executable::Executable;
-use pat_machine_following::{Stepped, follow};
-use pat_machine_names::Names;
-use pat_machine_states::{State, Taken};
+use pat_machine_following::{Names, State, Stepped, Taken, follow};
 use pat_machine_waits::Waits;
 use pat_reduce::{Act, Message};
 

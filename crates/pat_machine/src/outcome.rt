@@ -4,7 +4,7 @@ ghost use Rattle.pat_machine.specs.Gives.{OutcomeGives};
 
 use crate::job::Outcome;
 use crate::parts::Parts;
-use pat_machine_states::Prospect;
+use pat_machine_following::Prospect;
 use pat_model_laws::outcome_laws;
 
 impl Parts {

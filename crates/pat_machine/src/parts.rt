@@ -9,8 +9,7 @@ ghost use Rattle.pat_machine.specs.Shown.{IsNew};
 
 use pat_core::Program;
 use pat_executable::Executable;
-use pat_machine_names::Names;
-use pat_machine_states::State;
+use pat_machine_following::{Names, State};
 use pat_machine_waits::Waits;
 use pat_reduce::Entry;
 use std::alloc::{AllocError, Global};

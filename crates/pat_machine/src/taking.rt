@@ -4,7 +4,7 @@ ghost use Rattle.pat_model.specs.Configs.{Thread as ThreadOf, thread_at};
 ghost use Rattle.pat_commits.specs.Lendings.{all_in, allowance_of};
 ghost use Rattle.pat_core.specs.Views.{program_view};
 ghost use Rattle.pat_commits.specs.Turns.{is_ready, ready_above, turn};
-ghost use Rattle.pat_locality_laws.specs.Senders.{lesser};
+ghost use Rattle.pat_machine_waits.specs.Senders.{lesser};
 ghost use Rattle.pat_machine.specs.Parted.{shown, IsKept};
 ghost use Rattle.pat_machine.specs.Gives.{IsLent, MayTake, Lends, TakeGives, TakeThreadGives, StateGives, GivesBack, all_back};
 

@@ -5,8 +5,8 @@ use Rattle.pat_model.specs.Configs.{Thread, Config, thread_at, with_thread, thre
 use Rattle.pat_model.specs.Steps.{Act}
 use Rattle.pat_model.specs.Runs.{IsSharedOrNone, run_from, shared_step}
 use Rattle.pat_commits.specs.Tops.{top_of, below, over}
-use Rattle.pat_locality_laws.specs.Wakings.{is_named_by}
-use Rattle.pat_locality_laws.proofs.Tops.{top_lets_go}
+use Rattle.pat_machine_waits.specs.Wakings.{is_named_by}
+use Rattle.pat_machine_waits.proofs.Tops.{top_lets_go}
 use Rattle.pat_naming_laws.specs.Naming.{times_in_thread}
 use Rattle.pat_naming_laws.proofs.Tells.{thread_tells}
 

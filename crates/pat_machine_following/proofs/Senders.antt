@@ -8,8 +8,8 @@ use Rattle.pat_model.specs.Configs.{Frame}
 use Rattle.pat_model.specs.Steps.{Act, Redex, At, Done, Nowhere}
 use Rattle.pat_model.specs.Runs.{is_send}
 use Rattle.pat_reduce.specs.Acts.{act_if, is_mailbox_value, candidate, plain_act}
-use Rattle.pat_locality_laws.specs.Wakings.{mailbox_in, target_at}
-use Rattle.pat_machine_states.specs.Opening.{is_sending}
+use Rattle.pat_machine_waits.specs.Wakings.{mailbox_in, target_at}
+use Rattle.pat_machine_shares.specs.Opening.{is_sending}
 
 -- a test's act is a send only where the test passes and its act is a send
 sends_if : (b : Bool) (a : Act) → is_sending (act_if b a) ≡ true → (b ≡ true) × (is_send a ≡ true)

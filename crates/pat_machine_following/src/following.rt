@@ -11,8 +11,7 @@ ghost use Rattle.pat_machine_waits.specs.Noted.{AreNoted, WereNoted, WereWoken, 
 use crate::sending::is_about_to_send;
 use crate::waking::{wake_freeing, wake_receiver};
 use pat_executable::Executable;
-use pat_machine_names::Names;
-use pat_machine_states::State;
+use pat_machine_shares::{Names, State};
 use pat_machine_waits::Waits;
 use pat_reduce::{Act, ThreadState};
 use pat_reduce_threads::Message;

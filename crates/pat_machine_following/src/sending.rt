@@ -3,8 +3,8 @@ ghost use Rattle.std.specs.Prelude.{◌≡◌, option_map, IsTrue};
 ghost use Rattle.pat_core.specs.Views.{program_view};
 ghost use Rattle.pat_reduce_threads.specs.ThreadViews.{thread_view};
 ghost use Rattle.pat_reduce.specs.Views.{act_view};
-ghost use Rattle.pat_locality_laws.specs.Senders.{is_about_to_send};
-ghost use Rattle.pat_machine_states.specs.Opening.{is_sending};
+ghost use Rattle.pat_machine_waits.specs.Senders.{is_about_to_send};
+ghost use Rattle.pat_machine_shares.specs.Opening.{is_sending};
 
 use pat_executable::Executable;
 use pat_reduce::{Act, ThreadState, plain_act};

@@ -9,8 +9,7 @@ ghost use Rattle.pat_machine_waits.specs.Noted.{FreesListed, IsReady};
 ghost use Rattle.pat_machine_following.specs.Sleepers.{FreesNamed, FreesBrought, FreesValue, FreesAt, ReceivesAt};
 
 use pat_executable::Executable;
-use pat_machine_names::Names;
-use pat_machine_states::State;
+use pat_machine_shares::{Names, State};
 use pat_machine_waits::Waits;
 use pat_reduce_threads::Message;
 use pat_reduce_values::Value;

@@ -1,2 +1,3 @@
+pub use Rattle.pat_naming_laws.specs.Counting
 pub mod Changes
 pub mod Listing

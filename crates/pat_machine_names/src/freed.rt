@@ -7,9 +7,8 @@ ghost use Rattle.pat_naming_laws.specs.Naming.{times_in_control, times_in_env};
 ghost use Rattle.pat_naming_laws.specs.Counting.{count_at, freed, is_named_by_control, is_unnamed};
 
 use crate::Names;
-use pat_executable::Executable;
 use pat_reduce_threads::{Control, GuardRef, ThreadState, guard_of};
-use pat_reduce_values::Value;
+use pat_reduce_values::{Executable, Value};
 
 impl Names {
     /// Whether the thread's control alone names the mailbox that it may free, if it stands at a guard with a clause for that.

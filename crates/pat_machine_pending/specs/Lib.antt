@@ -1,2 +1,3 @@
+pub use Rattle.pat_mailboxes.specs.Mailboxes
 pub mod Boxes
 pub mod Deliveries

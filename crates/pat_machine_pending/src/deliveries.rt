@@ -12,11 +12,11 @@ ghost use Rattle.pat_mailboxes.specs.Mailboxes.{IsLive, pending_at as pending_of
 ghost use Rattle.pat_machine_pending.specs.Boxes.{boxes_view};
 ghost use Rattle.pat_machine_pending.specs.Deliveries.{IsDelivery};
 
-use pat_executable::Executable;
 use pat_mailboxes::Mailboxes;
 use pat_pool::Test;
 use pat_reduce::{Control, Message, StepError};
 use pat_reduce_threads::{GuardRef, go_on_with, guard_of, takes};
+use pat_reduce_values::Executable;
 use std::alloc::Global;
 
 /// The guard that messages are looked for by.

@@ -6,3 +6,4 @@ mod deliveries;
 
 pub use copies::{copy_pending, list_live};
 pub use deliveries::{Numbered, Taken, delivery, first_message};
+pub use pat_mailboxes::Mailboxes;

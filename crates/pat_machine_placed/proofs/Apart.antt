@@ -11,7 +11,7 @@ use Rattle.pat_reduce_threads.specs.declared.state.ThreadState.{ThreadState}
 use Rattle.pat_reduce_threads.specs.ThreadViews.{message_view, thread_view}
 use Rattle.pat_reduce.specs.declared.config.Config.{Config as CodeConfig}
 use Rattle.pat_reduce.specs.Views.{config_view, threads_view}
-use Rattle.pat_commit_laws.proofs.LookUps.{lookup_set}
+use Rattle.pat_machine_threads.proofs.LookUps.{lookup_set}
 use Rattle.pat_alone_laws.specs.Alone.{alone, put_back, AreLeft}
 use Rattle.pat_alone_laws.proofs.Backs.{place_is_taken, same_is_back}
 use Rattle.pat_alone_laws.proofs.Left.{threads_are_left}

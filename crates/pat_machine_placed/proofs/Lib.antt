@@ -1,2 +1,5 @@
+pub use Rattle.pat_alone_laws.proofs.Freeing
+pub use Rattle.pat_alone_laws.proofs.Sending
+pub use Rattle.pat_alone_laws.proofs.Steps
 mod Apart
 mod Copying

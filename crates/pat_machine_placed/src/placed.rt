@@ -4,9 +4,9 @@ ghost use Rattle.pat_model.specs.Configs.{Thread as ThreadOf, start, thread_at, 
 ghost use Rattle.pat_core.specs.Views.{program_view};
 ghost use Rattle.pat_reduce_threads.specs.ThreadViews.{control_view, message_view, thread_view};
 
-use pat_executable::Executable;
 use pat_machine_table::Table;
 use pat_reduce::{Config, Control, Message, ThreadState};
+use pat_reduce_values::Executable;
 use pat_sequences::{Text, let_go};
 use std::alloc::{AllocError, Global};
 use std::marker::Model;

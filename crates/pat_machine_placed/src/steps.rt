@@ -8,8 +8,8 @@ ghost use Rattle.pat_machine_placed.specs.Steps.{StepsApart};
 
 use crate::Placed;
 use crate::moves::{put_back, set_apart};
-use pat_executable::Executable;
 use pat_reduce::{Step, StepError};
+use pat_reduce_values::Executable;
 use std::alloc::Global;
 
 impl Placed {

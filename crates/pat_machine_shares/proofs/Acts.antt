@@ -9,8 +9,8 @@ use Rattle.pat_model.specs.Steps.{Act, ActLocal, ActNew, ActSend, ActSpawn, ActP
 use Rattle.pat_model.specs.Runs.{run_from, shared_step}
 use Rattle.pat_model_laws.proofs.Inversion.{step_of, print_step, new_step, receive_step, local_step_of, send_step, spawn_step, end_step, free_step}
 use Rattle.pat_model_laws.proofs.Threads.{set_all}
-use Rattle.pat_commit_laws.proofs.LookUps.{lookup_set, lookup_longer}
-use Rattle.pat_commit_laws.proofs.Runs.{one_step}
+use Rattle.pat_machine_threads.proofs.LookUps.{lookup_set, lookup_longer}
+use Rattle.pat_machine_threads.proofs.Runs.{one_step}
 use Rattle.pat_naming_laws.specs.Counting.{last_message}
 use Rattle.pat_naming_laws.proofs.Parts.{ended}
 use Rattle.pat_machine_shares.specs.Leaving.{IsFound, made_by}

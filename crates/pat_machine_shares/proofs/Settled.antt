@@ -7,7 +7,7 @@ use Rattle.pat_model.specs.Configs.{Thread, Config, thread_at, with_thread}
 use Rattle.pat_model.specs.Steps.{Act}
 use Rattle.pat_model.specs.Runs.{Entry, IsSharedOrNone, run_from, shared_step}
 use Rattle.pat_commits.specs.Commits.{IsLocalRun, Shares, IsCommit}
-use Rattle.pat_commit_laws.proofs.Runs.{commit_shared}
+use Rattle.pat_machine_threads.proofs.Runs.{commit_shared}
 use Rattle.pat_machine_threads.specs.declared.settling.Settled.{Settled}
 use Rattle.pat_machine_threads.specs.Settling.{IsRunOnTop, settled_thread}
 use Rattle.pat_machine_shares.specs.Settling.{IsSettled, half_way, Finishes}

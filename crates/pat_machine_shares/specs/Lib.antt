@@ -1,2 +1,4 @@
+pub use Rattle.pat_machine_states.specs.Opening
+pub use Rattle.pat_machine_states.specs.Taking
 pub mod Settling
 pub mod Leaving

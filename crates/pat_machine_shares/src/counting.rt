@@ -3,13 +3,12 @@ ghost use Rattle.std.specs.Prelude.{◌≡◌, ℕ, ◌+◌, ◌<◌, ◌≤◌,
 ghost use Rattle.pat_model.specs.Configs.{Thread as ThreadOf, thread_at};
 ghost use Rattle.pat_reduce_threads.specs.ThreadViews.{message_view};
 ghost use Rattle.pat_naming_laws.specs.Counting.{AreCounted, count_at, last_message, times_if_message, times_if_thread, times_if_top};
-ghost use Rattle.pat_machine_names.specs.Changes.{HasPlaces, Counts, Forgets};
+ghost use Rattle.pat_machine_states.specs.Changes.{HasPlaces, Counts, Forgets};
 ghost use Rattle.pat_machine_states.specs.Taking.{taken_act, taken_message};
 ghost use Rattle.pat_machine_shares.specs.Leaving.{CanBeCounted, IsFound, IsLeft, IsSentLast, made_by, times_put, times_received};
 
-use pat_machine_names::Names;
-use pat_machine_states::{State, Taken};
-use pat_reduce::Act;
+use pat_machine_states::{Names, State, Taken};
+use pat_machine_threads::Act;
 use pat_reduce_threads::Message;
 
 /// Counts what the end of a commit made of the names. It takes no memory.

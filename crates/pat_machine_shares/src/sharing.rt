@@ -17,8 +17,7 @@ ghost use Rattle.pat_machine_shares.specs.Leaving.{CanBeCounted};
 
 use crate::counting::{count_end, count_thread};
 use pat_executable::Executable;
-use pat_machine_names::Names;
-use pat_machine_states::{State, Taken};
+use pat_machine_states::{Names, State, Taken};
 use pat_machine_threads::Settled;
 use std::alloc::{AllocError, Global};
 

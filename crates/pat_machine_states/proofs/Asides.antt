@@ -4,7 +4,7 @@ use Rattle.std.proofs.lemmas.List.{length-map}
 use Rattle.pat_model.specs.Configs.{Thread, Config, thread_at, with_thread}
 use Rattle.pat_reduce_threads.specs.declared.state.ThreadState.{ThreadState}
 use Rattle.pat_reduce_threads.specs.ThreadViews.{frame_view, thread_view}
-use Rattle.pat_commit_laws.proofs.Locals.{there_after, with_twice, with_same}
+use Rattle.pat_locality_laws.proofs.Locals.{there_after, with_twice, with_same}
 use Rattle.pat_machine_threads.specs.declared.asides.Aside.{Aside}
 use Rattle.pat_machine_threads.specs.Aside.{aside_view}
 use Rattle.pat_machine_states.specs.Asides.{IsAside}

@@ -13,14 +13,14 @@ use Rattle.pat_model.specs.Runs.{can_step_thread}
 use Rattle.pat_model.specs.Faults.{IsIn}
 use Rattle.pat_model_laws.specs.Laws.{IsEnabled}
 use Rattle.pat_model_laws.proofs.Ascending.{found_by_number}
-use Rattle.pat_commit_laws.proofs.Opens.{some_of}
+use Rattle.pat_locality_laws.proofs.Opens.{some_of}
 use Rattle.pat_reduce_threads.specs.declared.state.Message.{Message as CodeMessage}
 use Rattle.pat_reduce_threads.specs.ThreadViews.{message_view}
 use Rattle.pat_reduce_threads.specs.ThreadActs.{Guarding, guarding, guard_at, message_in, clause_takes, takes, received_by, received_of, redex_received}
 use Rattle.pat_reduce.proofs.Shared.{taken, receive_step}
 use Rattle.pat_pending_laws.specs.Pending.{Ascend, messages_of}
 use Rattle.pat_pending_laws.proofs.LookUps.{own_are_pending}
-use Rattle.pat_mailboxes.specs.Mailboxes.{Mailbox as Box, pending_at as pending_of}
+use Rattle.pat_machine_pending.specs.Mailboxes.{Mailbox as Box, pending_at as pending_of}
 use Rattle.pat_machine_pending.specs.Boxes.{boxes_view}
 use Rattle.pat_machine_pending.proofs.Boxed.{pending_view, map_get}
 use Rattle.pat_machine_states.specs.Boxes.{state_view, IsLatest, IsState}

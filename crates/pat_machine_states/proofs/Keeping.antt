@@ -19,17 +19,17 @@ use Rattle.pat_reduce_threads.specs.ThreadViews.{message_view}
 use Rattle.pat_reduce_threads.specs.ThreadActs.{guarding, guard_at, redex_received}
 use Rattle.pat_reduce.proofs.Shared.{taken, receive_step}
 use Rattle.pat_locality_laws.specs.Wakings.{mailbox_in, guarded_at, guarded}
-use Rattle.pat_alone_laws.specs.Alone.{alone, put_back, back, back_without, is_own_act, is_beside}
-use Rattle.pat_alone_laws.specs.Laws.{Frees, Sends}
-use Rattle.pat_alone_laws.proofs.Steps.{steps_alone, beside_leaves, new_leaves}
-use Rattle.pat_alone_laws.proofs.Sending.{send_leaves}
-use Rattle.pat_alone_laws.proofs.Freeing.{frees_alone, free_leaves}
+use Rattle.pat_machine_placed.specs.Alone.{alone, put_back, back, back_without, is_own_act, is_beside}
+use Rattle.pat_machine_placed.specs.Laws.{Frees, Sends}
+use Rattle.pat_machine_placed.proofs.Steps.{steps_alone, beside_leaves, new_leaves}
+use Rattle.pat_machine_placed.proofs.Sending.{send_leaves}
+use Rattle.pat_machine_placed.proofs.Freeing.{frees_alone, free_leaves}
 use Rattle.pat_pending_laws.specs.Pending.{messages_of, all_of, live_of, box_at, pending_at, AreKept}
 use Rattle.pat_pending_laws.proofs.Insertions.{all_in_order}
 use Rattle.pat_pending_laws.proofs.Boxes.{pending_all}
 use Rattle.pat_pending_laws.proofs.Changes.{makes_last, sends_last, takes_one, frees_one}
 use Rattle.pat_pending_laws.proofs.LookUps.{pending_is_own, live_is_listed, all_are_counted, place_is_found}
-use Rattle.pat_mailboxes.specs.Mailboxes.{Mailbox, IsLive, mailbox_at, all_pending, pending_at as pending_of}
+use Rattle.pat_machine_pending.specs.Mailboxes.{Mailbox, IsLive, mailbox_at, all_pending, pending_at as pending_of}
 use Rattle.pat_machine_pending.specs.Boxes.{boxes_view}
 use Rattle.pat_machine_pending.specs.Deliveries.{IsDelivery}
 use Rattle.pat_machine_pending.proofs.Boxed.{pending_view, live_view, is_live, none_pending, set_view, push_view, map_get, map_remove, all_unmap, count_view}

@@ -11,10 +11,9 @@ use Rattle.pat_model_laws.specs.Laws.{IsEnabled}
 use Rattle.pat_model_laws.proofs.Lists.{clash}
 use Rattle.pat_model_laws.proofs.Enabled.{thread_exact}
 use Rattle.pat_reduce.specs.Acts.{EnabledAct, IsLeast}
-use Rattle.pat_commits.specs.Opens.{has_space, can_go_on}
-use Rattle.pat_commits.specs.Opens.{IsStill}
+use Rattle.pat_commits.specs.Opens.{has_space, can_go_on, IsStill}
 use Rattle.pat_commits.specs.Commits.{ReceivesLeast, Shares}
-use Rattle.pat_commit_laws.proofs.Opens.{some_of, send_alone, open_exact}
+use Rattle.pat_locality_laws.proofs.Opens.{some_of, send_alone, open_exact}
 use Rattle.pat_machine_states.specs.Opening.{OpenAct, is_sending}
 
 -- a thread that isn't there has no step

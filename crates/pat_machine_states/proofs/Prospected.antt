@@ -11,7 +11,7 @@ use Rattle.pat_model_laws.proofs.Lists.{any_some, clash}
 use Rattle.pat_model_laws.proofs.Inversion.{step_of}
 use Rattle.pat_model_laws.proofs.Enabled.{some_key, step_found, found_step}
 use Rattle.pat_commits.specs.Opens.{IsOpen, has_space, can_go_on}
-use Rattle.pat_commit_laws.proofs.Opens.{open_exact}
+use Rattle.pat_locality_laws.proofs.Opens.{open_exact}
 use Rattle.pat_locality_laws.specs.Senders.{AreCandidates}
 use Rattle.pat_locality_laws.proofs.Senders.{open_in_both, enabled_in_both}
 

@@ -10,12 +10,12 @@ use Rattle.pat_model.specs.Configs.{Control, Frame, Thread, Config, thread_at, w
 use Rattle.pat_model.specs.Steps.{Act, ActFree, Redex, At, redex, at_node, step}
 use Rattle.pat_model_laws.specs.Laws.{IsEnabled}
 use Rattle.pat_commits.specs.Tops.{over}
-use Rattle.pat_commit_laws.proofs.Opens.{some_of}
+use Rattle.pat_locality_laws.proofs.Opens.{some_of}
 use Rattle.pat_reduce_threads.specs.ThreadActs.{Guarding, guarding, guard_at}
 use Rattle.pat_reduce.specs.Acts.{may_free, freed_by, act_if, free_act}
 use Rattle.pat_reduce.proofs.Shared.{freed as left_by, free_step}
 use Rattle.pat_locality_laws.specs.Wakings.{mailbox_in}
-use Rattle.pat_naming_laws.specs.Counting.{freed_at, TellsAlone}
+use Rattle.pat_machine_names.specs.Counting.{freed_at, TellsAlone}
 use Rattle.pat_machine_states.specs.Alone.{GuardsAlone, StandsAlone}
 
 -- the mailbox, where there is a clause for freeing it

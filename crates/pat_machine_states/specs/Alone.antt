@@ -3,7 +3,7 @@ use Rattle.std.specs.Prelude.{◌≡◌, ℕ, Bool, true, false, Some}
 use Rattle.pat_model.specs.Programs.{Program, is_among}
 use Rattle.pat_model.specs.Configs.{Thread, Config, thread_at, has_pending, is_reached_by_none_but}
 use Rattle.pat_reduce_threads.specs.ThreadActs.{Guarding}
-use Rattle.pat_naming_laws.specs.Counting.{TellsAlone}
+use Rattle.pat_machine_names.specs.Counting.{TellsAlone}
 
 -- the answer says whether nothing but thread t reaches the mailbox, where that is live and has no message
 abbrev pub IsReachedAlone : Config → (t a : ℕ) → Bool → Type 0

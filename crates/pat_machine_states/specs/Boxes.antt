@@ -3,7 +3,7 @@ use Rattle.std.specs.Prelude.{◌≡◌, ℕ, ◌+◌, List, [], length, Option,
 use Rattle.std.specs.List.{AllByRecursion}
 use Rattle.pat_model.specs.Configs.{Message, Config}
 use Rattle.pat_pending_laws.specs.Pending.{messages_of, live_of, AreKept}
-use Rattle.pat_mailboxes.specs.Mailboxes.{Mailbox}
+use Rattle.pat_machine_pending.specs.Mailboxes.{Mailbox}
 use Rattle.pat_machine_pending.specs.Boxes.{boxes_view}
 
 -- the configuration, with the messages that are kept by mailbox, and the mailboxes that are live

@@ -1,3 +1,4 @@
+pub use Rattle.pat_machine_names.specs.Changes
 pub mod Opening
 pub mod Prospects
 pub mod Asides

@@ -9,7 +9,7 @@ ghost use Rattle.pat_reduce_threads.specs.GuardViews.{guard_view};
 ghost use Rattle.pat_reduce_threads.specs.ThreadActs.{guard_at};
 ghost use Rattle.pat_reduce.specs.Acts.{act_at, free_act, guard_act, may_free, plain_act};
 ghost use Rattle.pat_reduce.specs.Views.{act_view};
-ghost use Rattle.pat_naming_laws.specs.Counting.{TellsAlone};
+ghost use Rattle.pat_machine_names.specs.Counting.{TellsAlone};
 ghost use Rattle.pat_machine_states.specs.Alone.{GuardsAlone, IsReachedAlone};
 
 use crate::State;

@@ -5,7 +5,7 @@ ghost use Rattle.pat_model.specs.Runs.{can_step_thread};
 ghost use Rattle.pat_core.specs.Views.{program_view};
 ghost use Rattle.pat_commits.specs.Opens.{has_space, can_go_on};
 ghost use Rattle.pat_locality_laws.specs.Senders.{AreCandidates};
-ghost use Rattle.pat_naming_laws.specs.Counting.{TellOfEach};
+ghost use Rattle.pat_machine_names.specs.Counting.{TellOfEach};
 ghost use Rattle.pat_machine_states.specs.Prospects.{HasProspect};
 
 use crate::State;

@@ -4,7 +4,7 @@ ghost use Rattle.pat_core.specs.Views.{program_view};
 ghost use Rattle.pat_commits.specs.Opens.{can_go_on};
 ghost use Rattle.pat_commits.specs.Lendings.{is_out};
 ghost use Rattle.pat_commits.specs.Turns.{is_ready};
-ghost use Rattle.pat_naming_laws.specs.Counting.{TellOfEach};
+ghost use Rattle.pat_machine_names.specs.Counting.{TellOfEach};
 ghost use Rattle.pat_machine_states.specs.Alone.{StandsAlone};
 
 use crate::State;

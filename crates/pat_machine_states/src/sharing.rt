@@ -8,7 +8,7 @@ ghost use Rattle.pat_reduce_threads.specs.ThreadViews.{thread_view};
 ghost use Rattle.pat_commits.specs.Commits.{Shares};
 ghost use Rattle.pat_commits.specs.Tops.{below, over};
 ghost use Rattle.pat_commits.specs.Machines.{HasRoom, IsTypedBySome};
-ghost use Rattle.pat_naming_laws.specs.Counting.{TellsAlone};
+ghost use Rattle.pat_machine_names.specs.Counting.{TellsAlone};
 ghost use Rattle.pat_machine_states.specs.Alone.{StandsAlone};
 ghost use Rattle.pat_machine_states.specs.Stepping.{ReferToLive};
 ghost use Rattle.pat_machine_states.specs.Taking.{taken_act, taken_message};

@@ -5,8 +5,8 @@ ghost use Rattle.pat_core.specs.Views.{program_view};
 ghost use Rattle.pat_reduce_threads.specs.ThreadViews.{thread_view};
 
 use pat_executable::Executable;
+use pat_machine_pending::Mailboxes;
 use pat_machine_placed::Placed;
-use pat_mailboxes::Mailboxes;
 use pat_reduce::ThreadState;
 use pat_sequences::Text;
 use std::alloc::{AllocError, Global};

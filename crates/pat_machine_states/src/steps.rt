@@ -9,7 +9,7 @@ ghost use Rattle.pat_reduce_values.specs.Results.{StepGives};
 ghost use Rattle.pat_reduce_threads.specs.ThreadViews.{message_view};
 ghost use Rattle.pat_reduce.specs.Views.{act_view, step_view};
 ghost use Rattle.pat_commits.specs.Machines.{HasRoom};
-ghost use Rattle.pat_alone_laws.specs.Alone.{is_beside};
+ghost use Rattle.pat_machine_placed.specs.Alone.{is_beside};
 ghost use Rattle.pat_machine_states.specs.Stepping.{ReferToLive, guarded_in};
 ghost use Rattle.pat_machine_states.specs.Taking.{outcome};
 

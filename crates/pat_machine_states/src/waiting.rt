@@ -6,7 +6,7 @@ ghost use Rattle.pat_model_laws.specs.Laws.{IsEnabled};
 ghost use Rattle.pat_core.specs.Views.{program_view};
 ghost use Rattle.pat_reduce_threads.specs.ThreadViews.{message_view};
 ghost use Rattle.pat_locality_laws.specs.Wakings.{IsWaiting};
-ghost use Rattle.pat_naming_laws.specs.Counting.{TellOfEach};
+ghost use Rattle.pat_machine_names.specs.Counting.{TellOfEach};
 
 use crate::State;
 use pat_executable::Executable;

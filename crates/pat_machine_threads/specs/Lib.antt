@@ -1,3 +1,4 @@
+pub use Rattle.pat_reduce.specs.Views
 pub mod Aside
 pub mod Bindings
 pub mod Handed

@@ -1,14 +1,14 @@
 // Local steps of a thread outside a configuration.
 ghost use Rattle.std.specs.Prelude.{◌≡◌, IfOk, IfErr};
-ghost use Rattle.pat_core.specs.Views.{program_view};
+ghost use Rattle.pat_reduce_threads.specs.Views.{program_view};
 ghost use Rattle.pat_reduce_threads.specs.ThreadViews.{thread_view};
 ghost use Rattle.pat_commits.specs.Commits.{IsLocalRun};
 ghost use Rattle.pat_machine_threads.specs.Handed.{hands_back};
 
 use crate::copies::copy_state;
 use crate::error::LocalError;
-use pat_executable::Executable;
 use pat_reduce::{StepError, ThreadState};
+use pat_reduce_values::Executable;
 use std::alloc::{AllocError, Global};
 
 /// The state that local steps began with, what they made of it, and how many they were.

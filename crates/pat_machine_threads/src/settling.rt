@@ -1,6 +1,6 @@
 // Local steps of a kept thread, on a copy of its top.
 ghost use Rattle.std.specs.Prelude.{◌≡◌, IfOk};
-ghost use Rattle.pat_core.specs.Views.{program_view};
+ghost use Rattle.pat_reduce_threads.specs.Views.{program_view};
 ghost use Rattle.pat_reduce_threads.specs.ThreadViews.{thread_view};
 ghost use Rattle.pat_commits.specs.Commits.{IsLocalRun};
 ghost use Rattle.pat_commits.specs.Tops.{top_of};
@@ -8,8 +8,8 @@ ghost use Rattle.pat_machine_threads.specs.Settling.{IsRunOnTop};
 
 use crate::copies::copy_top;
 use crate::run::run_locally;
-use pat_executable::Executable;
 use pat_reduce::ThreadState;
+use pat_reduce_values::Executable;
 use pat_sequences::let_go;
 use std::alloc::{AllocError, Global};
 

@@ -2,7 +2,7 @@
 use Rattle.std.proofs.Common.{◌≡◌, ℕ, zero, suc, ◌+◌, ◌<◌, ◌≤◌, nat_eq, List, [], ◌∷◌, ◌++◌, length, Option, Some, None, refl, sym, ap, ◌∙◌, slice_get, slice_set, ◌⊎◌, inl, inr, ⊎_elim, arith}
 use Rattle.std.proofs.lemmas.Bool.{cases_Bool, eqb-true, eqb-false}
 use Rattle.pat_commits.specs.Lendings.{flat}
-use Rattle.pat_commit_laws.proofs.Tables.{set_here, set_elsewhere}
+use Rattle.pat_locality_laws.proofs.Tables.{set_here, set_elsewhere}
 use Rattle.pat_machine_waits.specs.Waits.{sleeper_at, count_asleep}
 
 -- where a thread sleeps, none sleeps but that

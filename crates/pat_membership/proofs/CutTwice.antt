@@ -2,7 +2,7 @@
 use Rattle.std.proofs.Common.{◌≡◌, ℕ, ◌<◌, ◌+◌, min, arith, sym, subst}
 use Rattle.pat_words.specs.Words.{Word}
 use Rattle.pat_words.specs.Cuts.{cut_at}
-use Rattle.pat_words.proofs.WordLaws.{word_ext}
+use Rattle.pat_words_laws.proofs.WordLaws.{word_ext}
 use Rattle.pat_membership.specs.Shortened.{IsCutAbove}
 
 pub cut_above : (most : ℕ) (w short : Word) → short ≡ cut_at (most + 1) w → IsCutAbove most w short

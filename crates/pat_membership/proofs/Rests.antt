@@ -4,7 +4,7 @@ use Rattle.std.proofs.Math.Seq.{drop-cons}
 use Rattle.std.proofs.Math.ListN.{drop_of_length-le}
 use Rattle.pat_words.specs.Words.{Word, plus, LiesIn}
 use Rattle.pat_words.specs.Patterns.{Language}
-use Rattle.pat_words.proofs.WordLaws.{word_ext, count_eq, none_plus}
+use Rattle.pat_words_laws.proofs.WordLaws.{word_ext, count_eq, none_plus}
 use Rattle.pat_bags.specs.declared.Bag.{Bag}
 use Rattle.pat_bags.specs.Views.{word_of}
 use Rattle.pat_membership.specs.Listings.{HasWord, Only, Within, multiple, Reached}

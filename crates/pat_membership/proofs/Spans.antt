@@ -3,8 +3,8 @@ use Rattle.std.proofs.Common.{◌≡◌, ℕ, zero, suc, ◌≤◌, List, [], �
 use Rattle.std.proofs.Math.ListN.{drop_of_length-le}
 use Rattle.pat_words.specs.Words.{Word, no_word, plus, LiesIn}
 use Rattle.pat_words.specs.Patterns.{Language, Times, Pat, Star, In}
-use Rattle.pat_words.proofs.WordLaws.{count_eq, plus_assoc, none_plus, plus_swap}
-use Rattle.pat_words.proofs.FormLaws.{times_mono}
+use Rattle.pat_words_laws.proofs.WordLaws.{count_eq, plus_assoc, none_plus, plus_swap}
+use Rattle.pat_words_laws.proofs.FormLaws.{times_mono}
 use Rattle.pat_bags.specs.declared.Bag.{Bag}
 use Rattle.pat_bags.specs.Views.{word_of}
 use Rattle.pat_membership.specs.Listings.{HasWord, Only, Within, multiple, Reached, ListsWords, PutsWords, JoinsOne}

@@ -4,7 +4,7 @@ use Rattle.std.proofs.lemmas.List.{get_or_past}
 use Rattle.pat_bags.specs.Views.{counted}
 use Rattle.std.proofs.lemmas.Bool.{cases_lt}
 use Rattle.pat_words.specs.Words.{Word, no_word, plus, LiesIn}
-use Rattle.pat_words.proofs.WordLaws.{word_ext}
+use Rattle.pat_words_laws.proofs.WordLaws.{word_ext}
 
 -- the messages with the first n tags
 abbrev pub total : ℕ → Word → ℕ

@@ -9,7 +9,7 @@ use Rattle.pat_model.specs.Programs.{Program, Function, Clause, Core, Val, Let, 
 use Rattle.pat_model.specs.WellFormed.{WellFormed, CoreKinds, ClauseKinds, VarsHaveKinds, count_if, count_among, uses_as_body, uses_as_part, bindings_in, bindings_of}
 use Rattle.pat_model_laws.proofs.FreeVars.{free_unfolds}
 use Rattle.pat_model_laws.proofs.Lists.{clash, append_among, among_first, among_second, among_two, count_here, among_counted, count_append, counted_distinct}
-use Rattle.pat_words.specs.Patterns.{Pat}
+use Rattle.pat_model.specs.Patterns.{Pat}
 
 -- ---- where a node is used
 

@@ -3,7 +3,7 @@
 -- come in the order in which they are listed here. What is found behind a first finding may follow from it.
 use Rattle.std.specs.Prelude.{ℕ, zero, suc, ◌+◌, Bool, true, false, not, List, [], ◌∷◌, ◌++◌, length, map, Option, Some, None, is_some, nat_eq, codes}
 use Rattle.std.specs.List.{flat_map}
-use Rattle.pat_words.specs.Patterns.{Pat, is_inhabited}
+use Rattle.pat_model.specs.Patterns.{Pat, is_inhabited}
 use Rattle.pat_model.specs.Values.{BaseUnit, BaseBool, BaseInt, Kind, Plain, MailboxOf, Op, Equal}
 use Rattle.pat_model.specs.Programs.{Polarity, Sending, Receiving, TagDecl, Interface, kind_of}
 use Rattle.pat_grammar.specs.Trees as tree

@@ -1,6 +1,6 @@
 -- The heads of declarations: interfaces with their tags, and the types of functions, all by number.
 use Rattle.std.specs.Prelude.{ℕ, ◌+◌, List, [], ◌∷◌, length, Option, Some, None, option_map, map, slice_get}
-use Rattle.pat_words.specs.Patterns.{Pat, Zero, One, Tag, Sum, Prod, Star}
+use Rattle.pat_model.specs.Patterns.{Pat, Zero, One, Tag, Sum, Prod, Star}
 use Rattle.pat_model.specs.Values.{Kind, Plain, MailboxOf}
 use Rattle.pat_model.specs.Programs.{Polarity, Sort, BaseSort, MailboxSort, TagDecl, Interface, kind_of}
 use Rattle.pat_grammar.specs.Trees as tree

@@ -1,3 +1,4 @@
+pub use Rattle.pat_grammar.specs.Trees
 pub mod Scopes
 pub mod Heads
 pub mod Findings

@@ -1,7 +1,7 @@
 -- The program of a tree: names become numbers. Functions are numbered in the order of the text, and so are nodes, each before
 -- its parts. A function's variables are its parameters and then the names that its body binds, in the order of the text.
 use Rattle.std.specs.Prelude.{ℕ, zero, suc, ◌+◌, List, [], ◌∷◌, ◌++◌, length, map, Option, Some, None}
-use Rattle.pat_words.specs.Patterns.{One}
+use Rattle.pat_model.specs.Patterns.{One}
 use Rattle.pat_model.specs.Values.{Kind, MailboxOf, UnitConst, BoolConst, IntConst, TextConst, Expr, VarExpr, Literal, OpExpr}
 use Rattle.pat_model.specs.Programs.{Function, Clause, Core, Val, Let, Call, If, Print, New, Send, Spawn, Guard, Node, Program, kind_of}
 use Rattle.pat_grammar.specs.Trees as tree

@@ -8,7 +8,7 @@ use Rattle.std.proofs.lemmas.Option.{slice_get_within}
 use Rattle.std.proofs.lemmas.Map.Keys.{IsDistinct-cons}
 use Rattle.pat_words.specs.Words.{Word}
 use Rattle.pat_words.specs.Patterns.{Pat, In, is_inhabited}
-use Rattle.pat_words.proofs.PatternLaws.{inhabited_to}
+use Rattle.pat_words_laws.proofs.PatternLaws.{inhabited_to}
 use Rattle.pat_model.specs.Programs.{Polarity, Sending, Receiving, Sort, BaseSort, MailboxSort, Interface, Program, kind_of}
 use Rattle.pat_model.specs.WellFormed.{IsPatternOf, IsPayload, IsSignature, InterfaceFits}
 use Rattle.pat_grammar.specs.Trees as tree

@@ -13,7 +13,7 @@ use Rattle.pat_model_laws.proofs.Lists.{nil_parts}
 use Rattle.pat_model_laws.proofs.Replays.{first_of}
 use Rattle.pat_model_laws.proofs.Threads.{set_all}
 use Rattle.pat_commits.specs.Tops.{top_of, below, over}
-use Rattle.pat_commit_laws.proofs.Locals.{there_after}
+use Rattle.pat_locality_laws.proofs.Locals.{there_after}
 use Rattle.pat_naming_laws.specs.Naming.{times_in_frames, times_in_thread, times_in_messages, times_in}
 use Rattle.pat_naming_laws.specs.Counting.{AreCountedBut, times_if_message, times_if_thread, times_if_top, times_gone, times_come}
 use Rattle.pat_naming_laws.specs.Laws.{CommitNames}

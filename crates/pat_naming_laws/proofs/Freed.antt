@@ -15,7 +15,7 @@ use Rattle.pat_preservation_laws.proofs.Preserved.{step_keeps}
 use Rattle.pat_typing.specs.Interfaces.{interfaces_after}
 use Rattle.pat_commits.specs.Tops.{top_of, below, over}
 use Rattle.pat_commits.specs.Machines.{IsTypedBySome}
-use Rattle.pat_commit_laws.proofs.Locals.{there_after}
+use Rattle.pat_locality_laws.proofs.Locals.{there_after}
 use Rattle.pat_locality_laws.specs.Wakings.{mailbox_in}
 use Rattle.pat_naming_laws.specs.Naming.{times_in_control, times_in_frames, times_in_thread, times_in}
 use Rattle.pat_naming_laws.specs.Counting.{count_at, AreCounted, AreCountedBut, freed_at, freed, TellsAlone, TellOfEach, is_named_just, is_unnamed}

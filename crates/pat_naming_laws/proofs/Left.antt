@@ -14,7 +14,7 @@ use Rattle.pat_model.specs.Runs.{IsSharedOrNone}
 use Rattle.pat_model_laws.proofs.Ascending.{ascends_distinct, found_is_in}
 use Rattle.pat_model_laws.proofs.Inversion.{print_step, new_step, receive_step, local_step_of, send_step, spawn_step, end_step, free_step}
 use Rattle.pat_model_laws.proofs.Threads.{set_all}
-use Rattle.pat_commit_laws.proofs.LookUps.{lookup_set, lookup_longer}
+use Rattle.pat_locality_laws.proofs.LookUps.{lookup_set, lookup_longer}
 use Rattle.pat_naming_laws.specs.Naming.{times_in_thread, times_in}
 use Rattle.pat_naming_laws.specs.Counting.{times_if_message, times_if_thread, last_message, times_gone, times_come}
 use Rattle.pat_naming_laws.proofs.Changed.{exchanged_thread, taken_thread, others_count}

@@ -1,6 +1,6 @@
 -- Tests whether polarities and usages are the same.
 use Rattle.std.specs.Prelude.{Bool, true, false, not, ◌||◌}
-use Rattle.pat_model.specs.Programs.{Polarity, Sending, Receiving}
+use Rattle.pat_typing.specs.Programs.{Polarity, Sending, Receiving}
 use Rattle.pat_typing.specs.Types.{Usage, Second, Returnable}
 
 -- whether the polarity is that of receiving

@@ -1,8 +1,8 @@
 -- The type of a node and of its variables, in whose patterns variables may stand.
 use Rattle.std.specs.Prelude.{ℕ, List, Option, Some, None, option_map, nat_eq}
 use Rattle.std.specs.Map.{lookup}
-use Rattle.pat_words.specs.Patterns.{Pat}
-use Rattle.pat_model.specs.Values.{BaseUnit}
+use Rattle.pat_inclusions.specs.Patterns.{Pat}
+use Rattle.pat_typing.specs.Values.{BaseUnit}
 use Rattle.pat_typing.specs.Types.{MailboxType, TypeOf, BaseTerm, MailboxTerm, mailbox_type, TypeEnv}
 use Rattle.pat_inclusions.specs.Values.{replaced}
 

@@ -1,8 +1,8 @@
 -- The types of signatures, where a variable stands for each pattern that isn't written. Variables are numbered from 1:
 -- the parameters of the first function, its result, those of the next function, and so on.
 use Rattle.std.specs.Prelude.{ℕ, zero, suc, ◌+◌, List, [], ◌∷◌, ◌++◌, length, None, option_and_then, slice_get}
-use Rattle.pat_words.specs.Patterns.{Var}
-use Rattle.pat_model.specs.Programs.{Polarity, Sort, MailboxSort, Function, Program}
+use Rattle.pat_inclusions.specs.Patterns.{Var}
+use Rattle.pat_typing.specs.Programs.{Polarity, Sort, MailboxSort, Function, Program}
 use Rattle.pat_typing.specs.Types.{TypeOf, TypeEnv}
 use Rattle.pat_typing.specs.Typings.{sort_type, result_of}
 

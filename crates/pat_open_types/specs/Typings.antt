@@ -1,7 +1,7 @@
 -- Typings in whose patterns variables may stand, and those with the variables replaced.
 use Rattle.std.specs.Prelude.{ℕ, Option, Some, None}
-use Rattle.pat_words.specs.Patterns.{Pat, Zero, Var}
-use Rattle.pat_model.specs.Programs.{Function, Program, function_at}
+use Rattle.pat_inclusions.specs.Patterns.{Pat, Zero, Var}
+use Rattle.pat_typing.specs.Programs.{Function, Program, function_at}
 use Rattle.pat_typing.specs.Typings.{Typing}
 use Rattle.pat_inclusions.specs.Values.{replaced}
 use Rattle.pat_open_types.specs.NodeTypes.{NodeType, result_open, env_open, need_under, result_under}

@@ -14,14 +14,13 @@ ghost use Rattle.pat_parser.specs.Answers.{GivesAt, Explains, error_at};
 
 use crate::fault::ParseError;
 use pat_parser_declarations::{decl, first_param, got_name, message, params, want_name};
-use pat_parser_ends::{behind_simple, clause};
 use pat_parser_states::{
     ClauseControl, Control, DeclControl, ExprControl, Fault, Frames, NameControl, PatternControl,
     Place, State, TermControl, TypeControl, at,
 };
 use pat_parser_terms::{
-    binders, first_arg, first_binder, free, free_clause, have, named, new, opened, otherwise,
-    print, spawn, start, want, yes,
+    behind_simple, binders, clause, first_arg, first_binder, free, free_clause, have, named, new,
+    opened, otherwise, print, spawn, start, want, yes,
 };
 use pat_parser_types::{
     first_payload, have_base, have_pattern, polarity, type_named, want_pattern, want_type,

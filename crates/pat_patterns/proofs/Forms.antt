@@ -2,8 +2,8 @@
 use Rattle.std.proofs.Common.{◌≡◌, Bool, true, false, if◌then◌else◌, refl, sym}
 use Rattle.std.proofs.lemmas.Bool.{cond_both}
 use Rattle.pat_words.specs.Patterns.{Pat, Sum, sum_of, is_zero, pat_eq}
-use Rattle.pat_words.proofs.PatternLaws.{pat_eq_same}
-use Rattle.pat_words.proofs.FormLaws.{same_pat_eq}
+use Rattle.pat_words_laws.proofs.PatternLaws.{pat_eq_same}
+use Rattle.pat_words_laws.proofs.FormLaws.{same_pat_eq}
 
 -- the right side is 0
 pub sum_left : (e f : Pat) → is_zero e ≡ false → is_zero f ≡ true → e ≡ sum_of e f

@@ -3,7 +3,7 @@ use Rattle.std.proofs.Common.{◌≡◌, ℕ, ◌↔◌, sym, subst}
 use Rattle.pat_words.specs.Words.{Word}
 use Rattle.pat_words.specs.Patterns.{Pat, In, subst_of, no_values}
 use Rattle.pat_words.specs.Substitutions.{InWith}
-use Rattle.pat_words.proofs.FormLaws.{subst_to, subst_from}
+use Rattle.pat_words_laws.proofs.FormLaws.{subst_to, subst_from}
 
 -- a pattern that the substitution gives has the words under the values
 pub subst_words : (r e : Pat) (values : ℕ → Pat) → r ≡ subst_of values e → (w : Word) → In r w ↔ InWith values e w

@@ -1,6 +1,6 @@
 -- Heads in postfix form make the pattern that they are of.
 use Rattle.std.proofs.Common.{◌≡◌, List, [], ◌∷◌, refl, ◌∙◌}
-use Rattle.pat_words.specs.Patterns.{Pat, Zero, One, Tag, Sum, Prod, Star, Var}
+use Rattle.pat_patterns.specs.Patterns.{Pat, Zero, One, Tag, Sum, Prod, Star, Var}
 use Rattle.pat_postfix.specs.declared.Head.{Head}
 use Rattle.pat_postfix.specs.declared.Head.TheVariants.{Sum as SumHead, Prod as ProdHead, Star as StarHead}
 use Rattle.pat_postfix.specs.Postfix.{postfix_onto, made_by}

@@ -1,7 +1,7 @@
 -- Patterns in postfix form: the head of each part, parts before the whole.
 use Rattle.std.specs.Prelude.{ℕ, ◌+◌, List, [], ◌∷◌}
-use Rattle.pat_words.specs.Patterns.{Pat, Zero, One, Tag, Sum, Prod, Star, Var}
-use Rattle.pat_words.specs.Sizes.{size_of}
+use Rattle.pat_patterns.specs.Patterns.{Pat, Zero, One, Tag, Sum, Prod, Star, Var}
+use Rattle.pat_patterns.specs.Sizes.{size_of}
 use Rattle.pat_postfix.specs.declared.Head.{Head}
 use Rattle.pat_postfix.specs.declared.Head.TheVariants.{Zero as ZeroHead, One as OneHead, Tag as TagHead, Var as VarHead, Sum as SumHead, Prod as ProdHead, Star as StarHead}
 

@@ -1,7 +1,7 @@
 -- Patterns behind references.
 use Rattle.std.specs.Prelude.{List, map}
 use Rattle.std.specs.Borrow.{Bor}
-use Rattle.pat_words.specs.Patterns.{Pat}
+use Rattle.pat_patterns.specs.Patterns.{Pat}
 use Rattle.pat_patterns.specs.declared.pattern.Pattern.{Pattern}
 use Rattle.pat_patterns.specs.Views.{pattern_view}
 

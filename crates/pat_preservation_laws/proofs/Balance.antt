@@ -2,7 +2,7 @@
 use Rattle.std.proofs.Common.{◌≡◌, ℕ, List, [], ◌∷◌, ◌++◌, Some, None, refl, sym, ap, ◌∙◌, subst, append_assoc}
 use Rattle.pat_words.specs.Words.{Word, no_word, plus}
 use Rattle.pat_words.specs.Patterns.{Pat, In}
-use Rattle.pat_words.proofs.WordLaws.{plus_assoc, plus_none, none_plus, plus_swap}
+use Rattle.pat_words_laws.proofs.WordLaws.{plus_assoc, plus_none, none_plus, plus_swap}
 use Rattle.pat_model.specs.Programs.{Polarity, Sending, Receiving}
 use Rattle.pat_typing.specs.Types.{Usage, mailbox_type, PatternFits, DropsAs, PassesTo}
 use Rattle.pat_typing.specs.Holdings.{Holding, receives_by, receives, receivers, SendsBy, Sends, Choice, Balanced}

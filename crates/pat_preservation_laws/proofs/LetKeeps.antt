@@ -5,7 +5,7 @@ use Rattle.std.specs.List.{list_any}
 use Rattle.std.proofs.lemmas.Bool.{or_cases, or_left, or_right, eq-eqb, eqb-true, ne_eqb, cases_Bool, cond-true, cond-false, false_from_ne_true, and_cases, and_from}
 use Rattle.pat_words.specs.Words.{no_word}
 use Rattle.pat_words.specs.Patterns.{Pat, Prod, In, Included}
-use Rattle.pat_words.proofs.WordLaws.{none_plus, plus_none}
+use Rattle.pat_words_laws.proofs.WordLaws.{none_plus, plus_none}
 use Rattle.pat_model.specs.Values.{Mailbox, Env, value_at}
 use Rattle.pat_model.specs.Programs.{Program, Polarity, Sending, Receiving, Core, Let, core_at, is_free, keep, is_among, option_list, parts}
 use Rattle.pat_model.specs.WellFormed.{WellFormed}

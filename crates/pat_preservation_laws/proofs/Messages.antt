@@ -4,7 +4,7 @@ use Rattle.std.specs.Prelude.{filter, find}
 use Rattle.std.specs.List.{AllByRecursion, IsDistinct, list_any}
 use Rattle.std.proofs.lemmas.Bool.{eqb-true, eqb-false, eq-eqb, ne_eqb, cond-true, cond-false, or_left, or_right, or_parts}
 use Rattle.pat_words.specs.Words.{Word, one, plus, no_word}
-use Rattle.pat_words.proofs.WordLaws.{plus_swap}
+use Rattle.pat_words_laws.proofs.WordLaws.{plus_swap}
 use Rattle.pat_model.specs.Configs.{Message, pending_in, has_pending}
 use Rattle.pat_typing.specs.Holdings.{Holding, Balanced, receives, receivers}
 use Rattle.pat_preservation_laws.proofs.Balance.{balance_front, balance_back}

@@ -4,7 +4,7 @@ use Rattle.std.proofs.lemmas.Bool.{or_cases, or_left, or_right, or_parts, eqb-tr
 use Rattle.std.specs.List.{list_any}
 use Rattle.pat_words.specs.Words.{Word, no_word, plus}
 use Rattle.pat_words.specs.Patterns.{Pat, In}
-use Rattle.pat_words.proofs.WordLaws.{none_plus}
+use Rattle.pat_words_laws.proofs.WordLaws.{none_plus}
 use Rattle.pat_model.specs.Values.{Mailbox, Kind, MailboxOf, Env, ValueFits}
 use Rattle.pat_model.specs.Programs.{Program, Sending, Receiving, New, is_among}
 use Rattle.pat_model.specs.WellFormed.{WellFormed}

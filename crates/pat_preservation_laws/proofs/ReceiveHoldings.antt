@@ -5,8 +5,8 @@ use Rattle.std.specs.List.{IsDistinct, list_any}
 use Rattle.std.proofs.lemmas.Bool.{eqb-true, eqb-false, eq-eqb, ne_eqb, cond-true, cond-false, cases_Bool, or_left, false_from_ne_true}
 use Rattle.pat_words.specs.Words.{Word, no_word, one, plus}
 use Rattle.pat_words.specs.Patterns.{Pat, In, Included, residual}
-use Rattle.pat_words.proofs.WordLaws.{word_ext}
-use Rattle.pat_words.proofs.PatternLaws.{residual_from}
+use Rattle.pat_words_laws.proofs.WordLaws.{word_ext}
+use Rattle.pat_words_laws.proofs.PatternLaws.{residual_from}
 use Rattle.pat_model.specs.Values.{Value, Mailbox, Env, value_at, bind_all}
 use Rattle.pat_model.specs.Programs.{Program, Polarity, Sending, Receiving, Clause, is_among, clause_binders, is_free, keep}
 use Rattle.pat_model.specs.Configs.{Message, is_mailbox}

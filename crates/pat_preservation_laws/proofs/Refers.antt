@@ -4,7 +4,7 @@ use Rattle.std.proofs.lemmas.Bool.{or_left, or_right, or_parts, eqb-true, eq-eqb
 use Rattle.std.specs.List.{AllByRecursion, list_any}
 use Rattle.std.specs.Map.{lookup}
 use Rattle.pat_words.specs.Words.{Word, no_word, plus}
-use Rattle.pat_words.proofs.WordLaws.{plus_none}
+use Rattle.pat_words_laws.proofs.WordLaws.{plus_none}
 use Rattle.pat_model.specs.Values.{Value, Const, Mailbox, Env, value_at}
 use Rattle.pat_model.specs.Programs.{Program, tag_at}
 use Rattle.pat_model.specs.Configs.{Control, Running, Returned, Frame, Thread, Message, is_mailbox, env_refers, control_refers, thread_refers, message_refers}

@@ -5,7 +5,7 @@ use Rattle.std.specs.List.{AllByRecursion, IsDistinct, list_any}
 use Rattle.std.proofs.lemmas.Bool.{eq-eqb, eqb-true, eqb-false, ne_eqb, or_left, or_right, or_cases, cases_Bool, cond-true, cond-false}
 use Rattle.pat_words.specs.Words.{Word, no_word, one, plus}
 use Rattle.pat_words.specs.Patterns.{Pat, Tag, Included}
-use Rattle.pat_words.proofs.WordLaws.{word_ext}
+use Rattle.pat_words_laws.proofs.WordLaws.{word_ext}
 use Rattle.pat_model.specs.Values.{Value, Mailbox, Kind, MailboxOf, value_at, ValueFits}
 use Rattle.pat_model.specs.Programs.{Program, Polarity, Sending, Receiving, TagDecl, Core, Send, tag_at, kind_of, is_among}
 use Rattle.pat_model.specs.WellFormed.{WellFormed, IsPayload, HaveKinds}

@@ -2,7 +2,7 @@
 use Rattle.std.proofs.Common.{◌≡◌, ℕ, [], ◌∷◌, Some, None, refl, sym, ap, ◌∙◌, subst, arith}
 use Rattle.pat_words.specs.Words.{Word, no_word, plus}
 use Rattle.pat_words.specs.Patterns.{Pat}
-use Rattle.pat_words.proofs.WordLaws.{word_ext, plus_none, none_plus}
+use Rattle.pat_words_laws.proofs.WordLaws.{word_ext, plus_none, none_plus}
 use Rattle.pat_model.specs.Programs.{Polarity, Sending, Receiving}
 use Rattle.pat_typing.specs.Types.{Usage, mailbox_type, PatternJoins, SplitsTo}
 use Rattle.pat_typing.specs.Holdings.{Holding, Sends, Choice}

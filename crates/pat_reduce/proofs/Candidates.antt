@@ -3,7 +3,7 @@ use Rattle.std.proofs.Common.{◌≡◌, ℕ, Bool, true, false, ◌||◌, ◌&&
 use Rattle.std.specs.Prelude.{option_map, option_and_then, is_some, if◌then◌else◌}
 use Rattle.std.specs.List.{list_any}
 use Rattle.std.proofs.lemmas.Bool.{or_left, or_right}
-use Rattle.pat_words.specs.Patterns.{Pat}
+use Rattle.pat_model.specs.Patterns.{Pat}
 use Rattle.pat_model.specs.Values.{Value, Const, Mailbox, UnitConst, BoolConst, IntConst, TextConst, Env, value_at, eval, eval_all, line_of}
 use Rattle.pat_model.specs.Programs.{Program, Function, Clause, Val, Let, Call, If, Print, New, Send, Spawn, Guard, function_at}
 use Rattle.pat_model.specs.Configs.{Frame, Thread, Message, Config, thread_at, with_thread}

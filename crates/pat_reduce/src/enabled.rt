@@ -4,7 +4,7 @@ ghost use Rattle.pat_model.specs.Values.{line_of};
 ghost use Rattle.pat_model.specs.Steps.{redex};
 ghost use Rattle.pat_model.specs.Orders.{IsOrdered};
 ghost use Rattle.pat_model.specs.Runs.{can_step, can_step_thread};
-ghost use Rattle.pat_core.specs.Views.{core_view, program_view};
+ghost use Rattle.pat_reduce_threads.specs.Views.{core_view, program_view};
 ghost use Rattle.pat_reduce.specs.Views.{act_view, config_view};
 ghost use Rattle.pat_reduce_threads.specs.ThreadViews.{control_view, frame_view};
 ghost use Rattle.pat_reduce_values.specs.ValueViews.{env_view, reference_view};
@@ -15,12 +15,10 @@ ghost use Rattle.pat_reduce.specs.Places.{IsPlace};
 
 use crate::steps::{place_of, state_at};
 use crate::{Act, Config};
-use pat_core::Core;
-use pat_executable::Executable;
 use pat_reduce_threads::{
-    Control, GuardRef, ThreadState, core_of, first_message, function_of, guard_of,
+    Control, Core, GuardRef, ThreadState, core_of, first_message, function_of, guard_of,
 };
-use pat_reduce_values::{Value, ValueRef, evaluate, have_values, value_of};
+use pat_reduce_values::{Executable, Value, ValueRef, evaluate, have_values, value_of};
 
 impl Config {
     /// The act of the thread that is enabled, if one is. A guard receives the first message that it takes, which has the

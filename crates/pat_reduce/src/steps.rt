@@ -3,7 +3,7 @@ ghost use Rattle.std.specs.Prelude.{◌≡◌, ◌<◌, ℕ, Some, None, [], ◌
 ghost use Rattle.std.specs.Map.{lookup};
 ghost use Rattle.pat_model.specs.Configs.{start};
 ghost use Rattle.pat_model.specs.Steps.{redex, ActLocal, ActNew, ActSend, ActSpawn, ActPrint, ActEnd, ActFree, ActReceive, step as after_step};
-ghost use Rattle.pat_core.specs.Views.{program_view};
+ghost use Rattle.pat_reduce_threads.specs.Views.{program_view};
 ghost use Rattle.pat_reduce.specs.declared.history.Act.TheVariants.{New, Send, Spawn};
 ghost use Rattle.pat_reduce.specs.Views.{config_view, freed_view, step_view, threads_view};
 ghost use Rattle.pat_reduce_threads.specs.ThreadViews.{control_view, message_view};
@@ -13,12 +13,11 @@ ghost use Rattle.pat_reduce_values.specs.Results.{Gives, StepGives};
 ghost use Rattle.pat_reduce.specs.Places.{IsPlace};
 
 use crate::{Act, Config, Step};
-use pat_executable::Executable;
 use pat_reduce_threads::{
     Control, Message, ThreadState, after_receive, guard_of, is_over, makes_mailbox, next_line,
     next_message, next_thread, node_with,
 };
-use pat_reduce_values::{StepError, Value};
+use pat_reduce_values::{Executable, StepError, Value};
 use pat_sequences::{Sequence, Stack};
 use std::alloc::{AllocError, Global};
 

@@ -12,8 +12,7 @@ ghost use Rattle.pat_reduce_values.specs.Results.{Gives};
 use crate::nodes::{core_of, node_with};
 use crate::{Control, Message};
 use pat_core::{Clause, Core};
-use pat_executable::Executable;
-use pat_reduce_values::{StepError, Value, ValueRef, bind, bind_all, copied, value_of};
+use pat_reduce_values::{Executable, StepError, Value, ValueRef, bind, bind_all, copied, value_of};
 use pat_sequences::Sequence;
 use std::alloc::{AllocError, Global};
 

@@ -8,8 +8,7 @@ ghost use Rattle.pat_reduce_threads.specs.ThreadViews.{control_view};
 
 use crate::Control;
 use pat_core::{Core, Function};
-use pat_executable::Executable;
-use pat_reduce_values::{Value, kept};
+use pat_reduce_values::{Executable, Value, kept};
 use std::alloc::{AllocError, Global};
 
 /// The term of a node.

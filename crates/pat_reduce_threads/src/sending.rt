@@ -11,8 +11,7 @@ ghost use Rattle.pat_reduce_values.specs.Results.{Gives};
 use crate::nodes::{core_of, node_with};
 use crate::{Control, Message};
 use pat_core::{Core, Expr};
-use pat_executable::Executable;
-use pat_reduce_values::{StepError, Value, ValueRef, value_of, values_of};
+use pat_reduce_values::{Executable, StepError, Value, ValueRef, value_of, values_of};
 use std::alloc::Global;
 
 /// Whether a thread makes a mailbox next.

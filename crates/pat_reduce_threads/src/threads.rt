@@ -12,9 +12,8 @@ ghost use Rattle.pat_reduce_values.specs.Results.{Gives, StepGives};
 use crate::nodes::{core_of, function_of, node_with};
 use crate::{Control, Frame, ThreadState};
 use pat_core::{Core, Expr, Function};
-use pat_executable::Executable;
 use pat_reduce_values::{
-    StepError, Value, ValueRef, bound, evaluate, kept_but, parameters, value_for,
+    Executable, StepError, Value, ValueRef, bound, evaluate, kept_but, parameters, value_for,
 };
 use pat_sequences::Text;
 use std::alloc::{AllocError, Global};

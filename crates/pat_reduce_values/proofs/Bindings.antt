@@ -4,7 +4,7 @@ use Rattle.std.specs.List.{insert}
 use Rattle.std.proofs.lemmas.Bool.{cond-true, cond-false, eqb-true, eqb-false, lt-ltb, le-ltb}
 use Rattle.std.proofs.lemmas.List.{set_split, map-append, drop_more, drop_all}
 use Rattle.std.proofs.lemmas.Option.{slice_get_within, slice_get_cases, get_or_from_slice_get}
-use Rattle.pat_model.specs.Values.{Value, Env, bind}
+use Rattle.pat_primitives.specs.Values.{Value, Env, bind}
 use Rattle.pat_reduce_values.specs.declared.values.Value.{Value as CodeValue}
 use Rattle.pat_reduce_values.specs.ValueViews.{value_view, env_view}
 use Rattle.pat_reduce_values.specs.Environments.{IsPlaceFor, stands_at}

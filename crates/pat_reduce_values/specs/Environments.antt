@@ -1,7 +1,7 @@
 -- The environments of a frame and of a call, and where a variable stands in an environment.
 use Rattle.std.specs.Prelude.{◌≡◌, ℕ, suc, ◌≤◌, Bool, false, not, nat_eq, nat_lt, if◌then◌else◌, List, [], ◌∷◌, ◌++◌, length, take, drop, Option, Some, None, slice_get, filter}
-use Rattle.pat_model.specs.Values.{Value, Env, bind}
-use Rattle.pat_model.specs.Programs.{Program, is_among, option_list, keep}
+use Rattle.pat_primitives.specs.Values.{Value, Env, bind}
+use Rattle.pat_primitives.specs.Programs.{Program, is_among, option_list, keep}
 use Rattle.pat_reduce_values.specs.declared.values.Value.{Value as CodeValue}
 use Rattle.pat_reduce_values.specs.ValueViews.{env_view}
 

@@ -1,6 +1,6 @@
 -- What the code's values and environments are in the definitions.
 use Rattle.std.specs.Prelude.{ℕ, List, map}
-use Rattle.pat_model.specs.Values.{UnitConst, BoolConst, IntConst, TextConst, Value, Const, Mailbox, Env}
+use Rattle.pat_primitives.specs.Values.{UnitConst, BoolConst, IntConst, TextConst, Value, Const, Mailbox, Env}
 use Rattle.pat_reduce_values.specs.declared.values.Value.{Value as CodeValue}
 use Rattle.pat_reduce_values.specs.declared.values.Value.TheVariants as value
 use Rattle.pat_reduce_values.specs.declared.values.ValueRef.{ValueRef}

@@ -1,8 +1,8 @@
 // Environments: values of variables, in ascending order of variable.
 ghost use Rattle.std.specs.Prelude.{◌≡◌, length, map, slice_get, IfOk, OnOk};
-ghost use Rattle.pat_model.specs.Values.{bind, bind_all};
-ghost use Rattle.pat_model.specs.Programs.{keep};
-ghost use Rattle.pat_model.specs.Steps.{bind_name};
+ghost use Rattle.pat_primitives.specs.Values.{bind, bind_all};
+ghost use Rattle.pat_primitives.specs.Programs.{keep};
+ghost use Rattle.pat_primitives.specs.Steps.{bind_name};
 ghost use Rattle.pat_core.specs.Views.{program_view};
 ghost use Rattle.pat_reduce_values.specs.ValueViews.{value_view, env_view};
 ghost use Rattle.pat_reduce_values.specs.Environments.{keep_but, IsPlaceFor, stands_at};

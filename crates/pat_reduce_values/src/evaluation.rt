@@ -1,6 +1,6 @@
 // The values of expressions.
 ghost use Rattle.std.specs.Prelude.{◌≡◌, ◌++◌, Some, map, option_map, is_some, OnOk};
-ghost use Rattle.pat_model.specs.Values.{Const, eval, eval_all, value_at, apply, apply_values, IntConst, TextConst};
+ghost use Rattle.pat_primitives.specs.Values.{Const, eval, eval_all, value_at, apply, apply_values, IntConst, TextConst};
 ghost use Rattle.pat_primitives.specs.Views.{op_view};
 ghost use Rattle.pat_core.specs.Views.{expr_view};
 ghost use Rattle.pat_reduce_values.specs.ValueViews.{value_view, reference_view, env_view};

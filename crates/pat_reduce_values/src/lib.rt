@@ -9,4 +9,5 @@ mod values;
 pub use environments::{bind, bind_all, bound, copied, kept, kept_but};
 pub use error::StepError;
 pub use evaluation::{evaluate, have_values, parameters, value_for, value_of, values_of};
+pub use pat_executable::Executable;
 pub use values::{Value, ValueRef};

@@ -1,6 +1,6 @@
 // Values.
 ghost use Rattle.std.specs.Prelude.{◌≡◌, IfOk};
-ghost use Rattle.pat_model.specs.Configs.{is_mailbox};
+ghost use Rattle.pat_primitives.specs.Configs.{is_mailbox};
 ghost use Rattle.pat_reduce_values.specs.ValueViews.{value_view, reference_view};
 
 use pat_sequences::Text;

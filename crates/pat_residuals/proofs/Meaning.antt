@@ -5,8 +5,8 @@ use Rattle.std.proofs.Math.Pow.{pow_mono}
 use Rattle.std.proofs.lemmas.Bool.{le-ltb}
 use Rattle.pat_words.specs.Words.{Word, no_word, one, plus}
 use Rattle.pat_words.specs.Patterns.{Pat, In, Covers, is_nullable, is_inhabited, covers, residual}
-use Rattle.pat_words.proofs.PatternLaws.{nullable_to, nullable_from, inhabited_to, inhabited_from, residual_to, residual_from}
-use Rattle.pat_words.proofs.CoverLaws.{covers_to, covers_from}
+use Rattle.pat_words_laws.proofs.PatternLaws.{nullable_to, nullable_from, inhabited_to, inhabited_from, residual_to, residual_from}
+use Rattle.pat_words_laws.proofs.CoverLaws.{covers_to, covers_from}
 use Rattle.pat_residuals.specs.Received.{is_received}
 
 -- a test that is that of the empty word says whether it is a word

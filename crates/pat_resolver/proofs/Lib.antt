@@ -1,3 +1,4 @@
+pub use Rattle.pat_names_laws.proofs.Resolved
 mod Entries
 mod Rows
 mod Room

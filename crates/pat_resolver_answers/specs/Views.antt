@@ -1,6 +1,6 @@
 -- What the definitions see of a refusal, and of the places in a program.
 use Rattle.std.specs.Prelude.{map, Option, Some, None}
-use Rattle.pat_grammar.specs.Trees as tree
+use Rattle.pat_names.specs.Trees as tree
 use Rattle.pat_names.specs.Findings.{Rule, Finding}
 use Rattle.pat_names.specs.Findings as rule
 use Rattle.pat_names.specs.Places.{FunctionPlaces, Places}

@@ -19,10 +19,10 @@ use Rattle.pat_machine.specs.declared.job.Job.{Job}
 use Rattle.pat_machine.specs.declared.job.Receipt.{Receipt}
 use Rattle.pat_machine.specs.declared.job.Outcome.{Outcome as CodeOutcome}
 use Rattle.pat_machine.specs.Shown.{Shown, IsNew, program_of, entries_of, steps_in}
-use Rattle.pat_machine.specs.Gives.{Lends, MayTake, Rests, HasTurn, TakeGives, Committed, OutcomeGives, outcome_view, all_back}
+use Rattle.pat_machine.specs.Gives.{IsOver, Lends, MayTake, Rests, HasTurn, TakeGives, Committed, OutcomeGives, outcome_view, all_back}
 use Rattle.pat_machine.specs.Driving.{IsRound, Rounds, AreInOrder, IsDriven}
 use Rattle.pat_run.specs.declared.running.Finished.{Finished}
-use Rattle.pat_run.specs.Runs.{Served, IsRun, IsOver, RunGives}
+use Rattle.pat_run.specs.Runs.{Served, IsRun, RunGives}
 
 -- ---- nobody is out
 

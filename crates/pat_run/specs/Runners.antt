@@ -9,11 +9,11 @@ use Rattle.pat_typing.specs.Typings.{IsTypable}
 use Rattle.pat_core.specs.declared.program.Program.{Program as CodeProgram}
 use Rattle.pat_core.specs.Views.{program_view}
 use Rattle.pat_machine.specs.Shown.{entries_of}
-use Rattle.pat_machine.specs.Gives.{outcome_view}
+use Rattle.pat_machine.specs.Gives.{IsOver, outcome_view}
 use Rattle.pat_options.specs.Options.{IsWithin}
 use Rattle.pat_options.specs.declared.options.RunOptions.{RunOptions}
 use Rattle.pat_run.specs.declared.running.Finished.{Finished}
-use Rattle.pat_run.specs.Runs.{IsRun, IsOver}
+use Rattle.pat_run.specs.Runs.{IsRun}
 
 -- each entry of the history names one of the workers, and the configuration ends the run so, which is where nothing can be taken any
 -- more; the history of one worker is that of its jobs, one after another, each of the thread whose turn it is

@@ -8,9 +8,8 @@ use Rattle.pat_core.specs.declared.program.Program.{Program as CodeProgram}
 use Rattle.pat_core.specs.Views.{program_view}
 use Rattle.pat_commits.specs.Commits.{IsCommit}
 use Rattle.pat_commits.specs.Turns.{IsTurn}
-use Rattle.pat_commits.specs.Lendings.{NoneOut}
 use Rattle.pat_machine.specs.Shown.{Shown, entries_of}
-use Rattle.pat_machine.specs.Gives.{Rests, outcome_view}
+use Rattle.pat_machine.specs.Gives.{IsOver, outcome_view}
 use Rattle.pat_run.specs.declared.running.Finished.{Finished}
 
 -- nobody else is out: the entries are jobs one after another, from c to d, with so many steps left before them; each is taken while
@@ -27,10 +26,6 @@ pub record IsRun (p : Program) (budget limit : ℕ) (es : List Entry) (c : Confi
   pub workers : AllByRecursion (λ e. e.worker ≡ 0) es
   pub served : Served p limit budget None (start p) es c
   pub ends : outcome p c (step_count es) budget (Some limit) ≡ Some o
-
--- nobody is out, and nothing can be taken
-abbrev pub IsOver : Shown → Type 0
-IsOver m = NoneOut m.out × Rests m
 
 -- the machine is one of the program, and was driven to this outcome, so nothing is left to do
 pub record RunGives (program : CodeProgram) (steps messages : ℕ) (f : Finished) : Type 0 where

@@ -3,4 +3,5 @@
 
 mod running;
 
+pub use pat_machine::Outcome;
 pub use running::{Finished, run};

@@ -1,7 +1,7 @@
 // A machine that is driven from the start of its program.
 ghost use Rattle.std.specs.Prelude.{◌<◌, ◌≤◌, IfOk, Some};
-ghost use Rattle.pat_machine.specs.Gives.{OutcomeGives};
-ghost use Rattle.pat_run.specs.Runs.{IsOver, RunGives};
+ghost use Rattle.pat_machine.specs.Gives.{IsOver, OutcomeGives};
+ghost use Rattle.pat_run.specs.Runs.{RunGives};
 
 use pat_accepted::Accepted;
 use pat_machine::{Machine, Outcome};

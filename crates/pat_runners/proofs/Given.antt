@@ -5,7 +5,7 @@ use Rattle.std.proofs.lemmas.List.Elements.{All-map, All-from_recursion}
 use Rattle.pat_model.specs.Runs.{Entry}
 use Rattle.pat_core.specs.declared.program.Program.{Program as CodeProgram}
 use Rattle.pat_reduce.specs.Views.{entry_view}
-use Rattle.pat_machine.specs.Shown.{entries_of}
+use Rattle.pat_run.specs.Shown.{entries_of}
 use Rattle.pat_options.specs.declared.options.RunOptions.{RunOptions}
 use Rattle.pat_run.specs.declared.running.Finished.{Finished}
 use Rattle.pat_run.specs.Runs as one

@@ -6,7 +6,7 @@ use Rattle.std.specs.Map.{lookup, keys_of}
 use Rattle.std.proofs.lemmas.Bool.{or_left, or_parts, eq-eqb, eqb-true, eqb-false, ne_eqb, and_cases, cond-true, false_from_ne_true}
 use Rattle.pat_words.specs.Words.{Word, no_word, one, plus}
 use Rattle.pat_words.specs.Patterns.{Pat}
-use Rattle.pat_words.proofs.WordLaws.{plus_none}
+use Rattle.pat_words_laws.proofs.WordLaws.{plus_none}
 use Rattle.pat_model.specs.Values.{Value, Env}
 use Rattle.pat_model.specs.Programs.{Program, Polarity, Sending, Receiving, Sort, BaseSort, MailboxSort, TagDecl, Clause, Let, is_among, option_list}
 use Rattle.pat_model.specs.WellFormed.{WellFormed, IsPayload}

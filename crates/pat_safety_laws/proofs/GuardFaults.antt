@@ -5,7 +5,7 @@ use Rattle.std.specs.List.{list_any}
 use Rattle.std.proofs.lemmas.Bool.{or_left, eq-eqb, eqb-true, and_from, and_parts, cond-true}
 use Rattle.pat_words.specs.Words.{Word, no_word, plus, LiesIn}
 use Rattle.pat_words.specs.Patterns.{Pat, In}
-use Rattle.pat_words.proofs.WordLaws.{plus_none}
+use Rattle.pat_words_laws.proofs.WordLaws.{plus_none}
 use Rattle.pat_model.specs.Values.{Value, Const, Mailbox, Kind, MailboxOf, value_at, ValueFits, ValuesFit}
 use Rattle.pat_model.specs.Programs.{Program, Polarity, Sending, Receiving, TagDecl, Clause, Core, Guard, core_at, tag_at, kind_of, is_among, is_free, option_list, clause_uses, KindAt}
 use Rattle.pat_model.specs.WellFormed.{WellFormed, VarsHaveKinds, ClauseKinds}

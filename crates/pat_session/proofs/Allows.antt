@@ -16,16 +16,13 @@ use Rattle.pat_answers.specs.Answers.{IsStatusWithin}
 use Rattle.pat_command_print.specs.Allowed.{AllowedPrint}
 use Rattle.pat_command_print.proofs.Statuses.{print_status}
 use Rattle.pat_options.specs.declared.options.RunOptions.{RunOptions}
-use Rattle.pat_checked.specs.Inputs.{IsAcceptedText}
+use Rattle.pat_command_check.specs.Inputs.{IsAcceptedText}
 use Rattle.pat_command_check.specs.Allowed.{AllowedCheck}
 use Rattle.pat_command_check.proofs.Statuses.{check_status}
 use Rattle.pat_command_derive.specs.Allowed.{AllowedDerive}
 use Rattle.pat_command_derive.proofs.Statuses.{derive_status}
-use Rattle.pat_command_run.specs.declared.command.Detail.TheVariants.{Whole, Summary}
-use Rattle.pat_command_run.specs.Allowed.{RunShows, ShowsOne, AllowedRun}
-use Rattle.pat_command_load.specs.Allowed.{AllowedLoad}
-use Rattle.pat_command_load.proofs.Statuses.{load_status}
-use Rattle.pat_command_run.proofs.Statuses.{run_status}
+use Rattle.pat_command_load.specs.Allowed.{Whole, Summary, RunShows, ShowsOne, AllowedRun, AllowedLoad}
+use Rattle.pat_command_load.proofs.Statuses.{load_status, run_status}
 use Rattle.pat_command_replay.specs.Allowed.{AllowedReplay}
 use Rattle.pat_command_replay.proofs.Statuses.{replay_status}
 use Rattle.pat_command_verify.specs.Allowed.{AllowedVerify}

@@ -13,9 +13,7 @@ use Rattle.pat_command_derive.specs.Allowed.{AllowedDerive}
 use Rattle.pat_command_print.specs.Allowed.{AllowedPrint}
 use Rattle.pat_options.specs.declared.options.RunOptions.{RunOptions}
 use Rattle.pat_options.specs.Options.{IsWithin}
-use Rattle.pat_command_load.specs.Allowed.{AllowedLoad}
-use Rattle.pat_command_run.specs.declared.command.Detail.TheVariants.{Whole}
-use Rattle.pat_command_run.specs.Allowed.{AllowedRun}
+use Rattle.pat_command_load.specs.Allowed.{AllowedLoad, Whole, AllowedRun}
 use Rattle.pat_command_replay.specs.Allowed.{AllowedReplay}
 use Rattle.pat_command_verify.specs.Allowed.{AllowedVerify}
 use Rattle.pat_session.specs.declared.commands.Asked.{Asked}

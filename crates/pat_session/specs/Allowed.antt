@@ -5,9 +5,7 @@ use Rattle.pat_answers.specs.declared.status.Status.TheVariants.{Ok, Usage}
 use Rattle.pat_command_check.specs.Allowed.{AllowedCheck}
 use Rattle.pat_command_derive.specs.Allowed.{AllowedDerive}
 use Rattle.pat_command_print.specs.Allowed.{AllowedPrint}
-use Rattle.pat_command_load.specs.Allowed.{AllowedLoad}
-use Rattle.pat_command_run.specs.declared.command.Detail.TheVariants.{Whole}
-use Rattle.pat_command_run.specs.Allowed.{AllowedRun}
+use Rattle.pat_command_load.specs.Allowed.{AllowedLoad, Whole, AllowedRun}
 use Rattle.pat_command_replay.specs.Allowed.{AllowedReplay}
 use Rattle.pat_command_verify.specs.Allowed.{AllowedVerify}
 use Rattle.pat_options.specs.declared.options.RunOptions.{RunOptions}

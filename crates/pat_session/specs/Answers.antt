@@ -13,13 +13,12 @@ use Rattle.pat_front.specs.declared.verdict.Verdict.{Verdict}
 use Rattle.pat_answers.specs.declared.status.Status.{Status}
 use Rattle.pat_answers.specs.declared.status.Status.TheVariants.{Ok, Refused, Usage, ReadFault, WriteFault, NoMemory, Budget, Waiting, Full}
 use Rattle.pat_options.specs.declared.options.RunOptions.{RunOptions}
-use Rattle.pat_command_run.specs.declared.command.Detail.TheVariants.{Whole, Summary}
-use Rattle.pat_command_run.specs.Allowed.{RunShows}
+use Rattle.pat_command_load.specs.Allowed.{Whole, Summary, RunShows}
 use Rattle.pat_load.specs.LoadText.{load_text}
 use Rattle.pat_command_replay.specs.Allowed.{IsReplayed}
 use Rattle.pat_command_verify.specs.Allowed.{IsVerified}
 use Rattle.pat_derivation_text.specs.DerivationText.{derivation_text}
-use Rattle.pat_checked.specs.Inputs.{IsAcceptedText}
+use Rattle.pat_command_check.specs.Inputs.{IsAcceptedText}
 use Rattle.pat_answers.specs.Answers.{accepted_line}
 use Rattle.pat_session.specs.declared.words.Command.{Command}
 use Rattle.pat_session.specs.Ports.{IsCutShort}

@@ -5,7 +5,7 @@ ghost use Rattle.pat_core.specs.Views.{program_view};
 ghost use Rattle.pat_infer_problems.specs.Problems.{IsProblemOf, IsEnough};
 ghost use Rattle.pat_solving.specs.Answers.{AllUsable};
 ghost use Rattle.pat_solve_answers.specs.Views.{IsAnswer, IsRefusal, IsUntypable, IsComplete};
-ghost use Rattle.pat_solve_lowers.specs.Indexes.{IsIndexOf};
+ghost use Rattle.pat_solve_usable.specs.Indexes.{IsIndexOf};
 ghost use Rattle.pat_solve.specs.States.{Stands};
 
 use crate::states::{State, begun, finished, took};
@@ -13,8 +13,7 @@ use pat_core::Program;
 use pat_infer_problems::Problem;
 use pat_solve_answers::{Solution, SolveError};
 use pat_solve_forms::interface_form;
-use pat_solve_lowers::{Index, index_law};
-use pat_solve_usable::first_unusable;
+use pat_solve_usable::{Index, first_unusable, index_law};
 use pat_solving_laws::{answer_laws, refusal_laws};
 use std::alloc::{AllocError, Global};
 

@@ -6,3 +6,4 @@ mod first;
 mod second;
 
 pub use assigning::assigned;
+pub use pat_solve_replacing::{Replacement, replaced};

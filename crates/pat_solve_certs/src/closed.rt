@@ -9,7 +9,7 @@ ghost use Rattle.pat_solve_certs.specs.ClosedValues.{IsClosedAt, AreClosed};
 
 use pat_core::Program;
 use pat_derivations::{Derivation, VarValue};
-use pat_judge_forms::form_of;
+use pat_judge_certs::form_of;
 use pat_judge_values::var_of;
 use pat_linear::LinearSet;
 use pat_patterns::Pattern;

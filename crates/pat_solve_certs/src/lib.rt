@@ -10,3 +10,4 @@ mod sides;
 pub use adding::certificates;
 pub use closed::closed_values;
 pub use context::Solved;
+pub use pat_judge_certs::plain_values;

@@ -10,7 +10,7 @@ ghost use Rattle.pat_solve_certs.specs.ClosedValues.{closed_view};
 ghost use Rattle.pat_solve_certs.specs.Making.{scope_in, IsSolved};
 
 use crate::context::Solved;
-use pat_judge_forms::form_of;
+use pat_judge_certs::form_of;
 use pat_linear::LinearSet;
 use pat_patterns::Pattern;
 use pat_sequences::Sequence;

@@ -1,1 +1,2 @@
+pub use Rattle.pat_solve_assigned.specs.Results
 pub mod Fits

@@ -7,6 +7,7 @@ mod covering;
 mod sides;
 
 pub use covering::is_covered;
+pub use pat_solve_assigned::assigned;
 pub use sides::side_form;
 
 /// When a closed-form assignment isn't too large: by both rounds, and by closed forms of replaced sides.

@@ -6,12 +6,12 @@ ghost use Rattle.pat_patterns.specs.Views.{pattern_view};
 ghost use Rattle.pat_inclusions.specs.Counts.{most_tags};
 ghost use Rattle.pat_inclusions.specs.ClosedForms.{closed_form as closed_form_of};
 ghost use Rattle.pat_linear.specs.Views.{sets_view};
-ghost use Rattle.pat_solve_replacing.specs.Replacing.{replaced_by, IsReplacement};
+ghost use Rattle.pat_solve_assigned.specs.Replacing.{replaced_by, IsReplacement};
 
 use pat_linear::{FormError, LinearSet, closed_form};
 use pat_patterns::Pattern;
 use pat_sequences::Sequence;
-use pat_solve_replacing::{Replacement, replaced};
+use pat_solve_assigned::{Replacement, replaced};
 use std::alloc::{AllocError, Global};
 
 /// The closed form of a side with its variables replaced; `None` exactly where that is too large.

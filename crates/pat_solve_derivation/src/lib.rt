@@ -7,3 +7,4 @@ mod making;
 mod nodes;
 
 pub use making::derivation_of;
+pub use pat_solving_laws::{one_answer_laws, refusal_laws};

@@ -7,19 +7,17 @@ ghost use Rattle.pat_validity.specs.Derivations.{line_at, scope_of};
 ghost use Rattle.pat_solving.specs.Derived.{AreCertsFor, needed_at};
 ghost use Rattle.pat_core.specs.Views.{node_view, function_view, program_view};
 ghost use Rattle.pat_derivations.specs.Views.{certs_view, line_view, derivation_view};
-ghost use Rattle.pat_demands.specs.Views.{signature_view};
+ghost use Rattle.pat_demands_terms.specs.Views.{signature_view};
 ghost use Rattle.pat_demands_terms.specs.Opened.{opened_from};
 ghost use Rattle.pat_solve_answers.specs.Views.{forms_of};
 ghost use Rattle.pat_solve_certs.specs.Making.{scope_in, forms_in, IsSolved};
 ghost use Rattle.pat_solve_derivation.specs.Made.{IsBare, HasCerts, AreMade};
 
 use pat_core::{Function, Node, Program};
-use pat_demands::Signature;
-use pat_demands_terms::{demands, signatures};
+use pat_demands_terms::{Signature, demands, signatures};
 use pat_derivations::{Cert, Derivation, DerivedNode};
-use pat_judge_certs::plain_values;
 use pat_sequences::Sequence;
-use pat_solve_certs::{Solved, certificates, closed_values};
+use pat_solve_certs::{Solved, certificates, closed_values, plain_values};
 use pat_solving_laws::derived_laws;
 use std::alloc::{AllocError, Global};
 

@@ -9,7 +9,7 @@ use Rattle.pat_derivations.specs.Views.{counts_of}
 use Rattle.pat_open_types.specs.Signatures.{Variable}
 use Rattle.pat_solving.specs.Assignments.{Values, value_or_zero, value_in, vars_in}
 use Rattle.pat_solve_replacing.specs.Ascending.{paired}
-use Rattle.pat_solve_renaming.specs.Renaming.{place_in}
+use Rattle.pat_solve_grids.specs.Renaming.{place_in}
 use Rattle.pat_solve_grids.specs.Points.{counts_in, points_by}
 
 module _ {A : Type 0} (f g : ℕ → A) (i : ℕ) where

@@ -6,7 +6,7 @@ ghost use Rattle.pat_model.specs.WellFormed.{WellFormed};
 ghost use Rattle.pat_inclusions.specs.Values.{PatternForm, GridForm};
 ghost use Rattle.pat_derivations.specs.Views.{counts_of, value_view};
 ghost use Rattle.pat_solve_sizes.specs.Views.{measured_list};
-ghost use Rattle.pat_solve_lowers.specs.Indexes.{IsIndexOf};
+ghost use Rattle.pat_solve_interfaces.specs.Indexes.{IsIndexOf};
 ghost use Rattle.pat_solve_forms.specs.Found.{FormGives, IsUncovered, ArePatterns, IsWithout, IsByGrids};
 
 use pat_bags::Bag;
@@ -16,8 +16,7 @@ use pat_derivations::VarValue;
 use pat_infer_problems::Problem;
 use pat_sequences::Sequence;
 use pat_solve_grids::{InterfaceGrids, grid_bound, interface_grids};
-use pat_solve_interfaces::{ClosedValues, interface_values};
-use pat_solve_lowers::Index;
+use pat_solve_interfaces::{ClosedValues, Index, interface_values};
 use pat_solve_sizes::Measured;
 use std::alloc::{AllocError, Global};
 

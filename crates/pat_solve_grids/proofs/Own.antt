@@ -18,7 +18,7 @@ use Rattle.pat_infer_problems.specs.declared.problem.VarDecl.{VarDecl}
 use Rattle.pat_solving.specs.LowerBounds.{right_side, sides_of, constraints_in}
 use Rattle.pat_solving.specs.Assignments.{vars_in, closed_rights, greatest_degree}
 use Rattle.pat_solving.specs.Answers.{tags_of}
-use Rattle.pat_solving_laws.proofs.Closed.{Among, within_tags, fits_within}
+use Rattle.pat_solve_renaming.proofs.Closed.{Among, within_tags, fits_within}
 use Rattle.pat_solve_replacing.specs.Ascending.{IsAscending}
 use Rattle.pat_solve_lowers.specs.Rows.{numbers}
 use Rattle.pat_solve_lowers.proofs.Numbering.{numbers_ascend}

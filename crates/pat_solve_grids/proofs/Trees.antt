@@ -14,7 +14,7 @@ use Rattle.pat_inference.specs.Walk.{inferred, all_vars}
 use Rattle.pat_solving.specs.LowerBounds.{right_side, sides_of, constraints_in, lowers_of}
 use Rattle.pat_solving.specs.Assignments.{vars_in}
 use Rattle.pat_solving.specs.Answers.{most_nodes, tags_of}
-use Rattle.pat_solving_laws.proofs.Apart.{apart_to, apart_from}
+use Rattle.pat_solve_renaming.proofs.Apart.{apart_to, apart_from}
 use Rattle.pat_solve_renaming.specs.Renaming.{place_in, renamed}
 use Rattle.pat_solve_renaming.proofs.Systematic.{SideWithin, summed, system_is, tree_from, tree_to}
 use Rattle.pat_solve_grids.specs.Findings.{FoundIn, LargeIn, InsideIn}

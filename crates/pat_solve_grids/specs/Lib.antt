@@ -1,3 +1,4 @@
+pub use Rattle.pat_solve_renaming.specs.Renaming
 pub mod Rights
 pub mod Findings
 pub mod Views

@@ -27,7 +27,7 @@ use Rattle.pat_solving.specs.Answers.{tags_of, constraints_of, values_of, IsSmal
 use Rattle.pat_solve_sizes.specs.declared.measured.Measured.{Measured}
 use Rattle.pat_solve_sizes.specs.Views.{measured_list}
 use Rattle.pat_solve_replacing.specs.Ascending.{IsAscending, paired}
-use Rattle.pat_solve_assigned.specs.Results.{rounds_fit}
+use Rattle.pat_solve_covers.specs.Results.{rounds_fit}
 use Rattle.pat_solve_covers.specs.Fits.{FitsLaw}
 use Rattle.pat_solve_lowers.specs.declared.indexing.Index.{Index}
 use Rattle.pat_solve_lowers.specs.Rows.{numbers}

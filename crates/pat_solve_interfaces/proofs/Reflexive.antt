@@ -4,7 +4,7 @@ use Rattle.std.specs.Prelude.{slice_get, is_some}
 use Rattle.std.specs.List.{AllByRecursion}
 use Rattle.pat_words.specs.Patterns.{Pat}
 use Rattle.pat_words.specs.Words.{Word, plus}
-use Rattle.pat_words.proofs.WordLaws.{word_ext}
+use Rattle.pat_words_laws.proofs.WordLaws.{word_ext}
 use Rattle.pat_inclusions.specs.Counts.{most_tags}
 use Rattle.pat_inclusions.specs.LinearSets.{LinearSet, combined}
 use Rattle.pat_inclusions.specs.ClosedForms.{closed_form}

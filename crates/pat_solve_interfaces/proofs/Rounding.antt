@@ -19,7 +19,7 @@ use Rattle.pat_solving_laws.proofs.Apart.{lower_same}
 use Rattle.pat_solve_sizes.specs.declared.measured.Measured.{Measured}
 use Rattle.pat_solve_sizes.specs.Limits.{within}
 use Rattle.pat_solve_sizes.specs.Views.{measured_view, measured_list}
-use Rattle.pat_solve_assigned.specs.Results.{rounds_fit}
+use Rattle.pat_solve_covers.specs.Results.{rounds_fit}
 
 -- ---- one that is too large
 

@@ -1,3 +1,4 @@
+pub use Rattle.pat_solve_lowers.specs.Indexes
 pub mod Sides
 pub mod Rounds
 pub mod Forms

@@ -8,7 +8,7 @@ use Rattle.pat_solving.specs.Assignments.{assigned}
 use Rattle.pat_solve_sizes.specs.declared.measured.Measured.{Measured}
 use Rattle.pat_solve_sizes.specs.Views.{measured_list}
 use Rattle.pat_solve_replacing.specs.Ascending.{paired}
-use Rattle.pat_solve_assigned.specs.Results.{rounds_fit}
+use Rattle.pat_solve_covers.specs.Results.{rounds_fit}
 
 -- the lower bounds, or one of them is too large
 abbrev pub LowersAre : List Pat → Option (List Measured) → Type 0

@@ -8,4 +8,5 @@ mod lowers;
 mod same;
 mod values;
 
+pub use pat_solve_lowers::Index;
 pub use values::{ClosedValues, interface_values};

@@ -11,7 +11,7 @@ ghost use Rattle.pat_solve_interfaces.specs.Rounds.{LowersAre, RoundsGive};
 
 use pat_infer_problems::Problem;
 use pat_sequences::Sequence;
-use pat_solve_assigned::assigned;
+use pat_solve_covers::assigned;
 use pat_solve_lowers::{Index, lower_bound};
 use pat_solve_rounds::RoundError;
 use pat_solve_sizes::Measured;

@@ -4,7 +4,7 @@ use Rattle.std.proofs.Common.{◌≡◌, Bool, true, false, if◌then◌else◌,
 use Rattle.std.proofs.lemmas.Bool.{cond_both, and_parts, and_from, leb-true, le-leb, cases_Bool}
 use Rattle.pat_words.specs.Patterns.{Pat, Sum, Prod, Star, is_zero, is_one, pat_eq, sum_of, prod_of, star_of}
 use Rattle.pat_words.specs.Sizes.{size_of, levels_of}
-use Rattle.pat_words.proofs.PatternLaws.{is_zero_same, is_one_same, pat_eq_same}
+use Rattle.pat_words_laws.proofs.PatternLaws.{is_zero_same, is_one_same, pat_eq_same}
 use Rattle.pat_inclusions.specs.ClosedForms.{is_small}
 use Rattle.pat_solve_sizes.specs.Limits.{within, sum_within, prod_within, star_within, zero_if}
 

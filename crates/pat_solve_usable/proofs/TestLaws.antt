@@ -4,7 +4,7 @@ use Rattle.std.specs.Prelude.{nat_eq, slice_get}
 use Rattle.std.proofs.lemmas.Bool.{cond_both, cond-true, and_parts, and_from, or_cases, or_left, or_right, eqb-true, eq-eqb}
 use Rattle.pat_words.specs.Words.{Word}
 use Rattle.pat_words.specs.Patterns.{Pat, Zero, One, Tag, Sum, Prod, Star, Var, Language, InUnder, sum_of}
-use Rattle.pat_words.proofs.PatternLaws.{sum_of_to, sum_of_from}
+use Rattle.pat_words_laws.proofs.PatternLaws.{sum_of_to, sum_of_from}
 use Rattle.pat_inclusions.specs.Under.{inhabited_under}
 use Rattle.pat_bounds.specs.Trees.{Derivable, derivable}
 use Rattle.pat_bounds.specs.Assignments.{Right, PatternRight, VarRight, Constraint, with_left, with_lefts, lower_of, Meets}

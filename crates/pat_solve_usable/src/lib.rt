@@ -8,3 +8,4 @@ mod testing;
 mod users;
 
 pub use entry::first_unusable;
+pub use pat_solve_lowers::{Index, index_law};

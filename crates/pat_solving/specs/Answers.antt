@@ -7,7 +7,7 @@ use Rattle.pat_inclusions.specs.Values.{VarValue, PatternForm, GridForm, VarLine
 use Rattle.pat_bounds.specs.Trees.{Bound, derivable}
 use Rattle.pat_bounds.specs.Searches.{IsInside, IsFound, IsLarge}
 use Rattle.pat_bounds.specs.LeastGrids.{AreLeastPoints}
-use Rattle.pat_open_types.specs.Signatures.{Variable, signature_vars}
+use Rattle.pat_inference.specs.Signatures.{Variable, signature_vars}
 use Rattle.pat_validity.specs.Derivations.{tag_count}
 use Rattle.pat_inference.specs.Constraints.{Constraint}
 use Rattle.pat_inference.specs.Shapes.{IsNumber}

@@ -7,7 +7,7 @@ use Rattle.pat_words.specs.Patterns.{Pat, Zero, One, Sum, Prod, Star, Var, is_cl
 use Rattle.pat_words.specs.Flats.{is_flat, degree_of}
 use Rattle.pat_inclusions.specs.ClosedForms.{closed_form, is_small}
 use Rattle.pat_inclusions.specs.Points.{grid_fits}
-use Rattle.pat_open_types.specs.Signatures.{Variable}
+use Rattle.pat_inference.specs.Signatures.{Variable}
 use Rattle.pat_inference.specs.Constraints.{Constraint}
 use Rattle.pat_solving.specs.LowerBounds.{lowers}
 

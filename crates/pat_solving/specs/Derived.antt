@@ -5,7 +5,7 @@ use Rattle.std.specs.List.{AllByRecursion}
 use Rattle.pat_words.specs.Patterns.{Pat, subst_of}
 use Rattle.pat_model.specs.Values.{BaseUnit}
 use Rattle.pat_model.specs.Programs.{Function, Node, Program, node_at, function_at}
-use Rattle.pat_typing.specs.Types.{BaseTerm}
+use Rattle.pat_validity.specs.Types.{BaseTerm}
 use Rattle.pat_inclusions.specs.LinearSets.{LinearSet}
 use Rattle.pat_inclusions.specs.ClosedForms.{closed_form}
 use Rattle.pat_inclusions.specs.Covers.{IsDirectlyCovered}
@@ -14,8 +14,8 @@ use Rattle.pat_inclusions.specs.Certificates.{Cert, CoverCert, GridCert, Inclusi
 use Rattle.pat_validity.specs.Derivations.{Line, Derivation, scope_of}
 use Rattle.pat_validity.specs.Conditions.{Place}
 use Rattle.pat_validity.specs.Rules.{needed}
-use Rattle.pat_open_types.specs.NodeTypes.{NodeType}
-use Rattle.pat_open_types.specs.Signatures.{signature_vars}
+use Rattle.pat_inference.specs.NodeTypes.{NodeType}
+use Rattle.pat_inference.specs.Signatures.{signature_vars}
 use Rattle.pat_inference.specs.Constraints.{Constraint}
 use Rattle.pat_inference.specs.Walk.{inferred, all_vars}
 use Rattle.pat_inference.specs.Solutions.{SendersHaveWords}

@@ -5,11 +5,11 @@ use Rattle.pat_words.specs.Words.{Word}
 use Rattle.pat_words.specs.Patterns.{Pat}
 use Rattle.pat_model.specs.Programs.{Program, Function, Node, node_at, function_at}
 use Rattle.pat_model.specs.WellFormed.{WellFormed}
-use Rattle.pat_typing.specs.Typings.{IsTypable}
+use Rattle.pat_validity.specs.Typings.{IsTypable}
 use Rattle.pat_inclusions.specs.Values.{VarLine, Scope, var_at, plain_or_var, is_formed}
 use Rattle.pat_inclusions.specs.Certificates.{Cert, Inclusion, is_trivial}
 use Rattle.pat_bounds.specs.Trees.{Bound, Shows}
-use Rattle.pat_open_types.specs.Signatures.{Variable}
+use Rattle.pat_inference.specs.Signatures.{Variable}
 use Rattle.pat_validity.specs.Validity.{IsValid}
 use Rattle.pat_inference.specs.Constraints.{Constraint}
 use Rattle.pat_inference.specs.Walk.{inferred, all_vars}

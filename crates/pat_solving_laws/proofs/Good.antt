@@ -4,8 +4,8 @@ use Rattle.std.specs.List.{AllByRecursion, list_all, flat_map}
 use Rattle.std.proofs.lemmas.Bool.{and_from, eq-eqb, cond-true}
 use Rattle.pat_words.specs.Words.{no_word}
 use Rattle.pat_words.specs.Patterns.{Pat, Prod, prod_of, pat_eq, is_nullable, subst_of}
-use Rattle.pat_words.proofs.PatternLaws.{nullable_from}
-use Rattle.pat_words.proofs.FormLaws.{same_pat_eq}
+use Rattle.pat_words_laws.proofs.PatternLaws.{nullable_from}
+use Rattle.pat_words_laws.proofs.FormLaws.{same_pat_eq}
 use Rattle.pat_model.specs.Values.{Base, BaseUnit, BaseBool, BaseInt, BaseText, Kind, Plain, MailboxOf}
 use Rattle.pat_model.specs.Programs.{Polarity, Sending, Receiving}
 use Rattle.pat_typing.specs.Types.{Usage, Second, Returnable, MailboxType, TypeOf, BaseTerm, MailboxTerm, UsageFits, DropsAs, PassesTo, PatternJoins, SplitsTo, TypeEnv}

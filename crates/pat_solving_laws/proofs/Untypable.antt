@@ -5,7 +5,7 @@ use Rattle.std.specs.List.{AllByRecursion}
 use Rattle.std.proofs.lemmas.Bool.{cond_both, eqb-true}
 use Rattle.pat_words.specs.Words.{Word}
 use Rattle.pat_words.specs.Patterns.{Pat, Zero, One, Tag, Sum, Prod, Star, Var, Language, In, InUnder, is_closed, no_values, sum_of}
-use Rattle.pat_words.proofs.PatternLaws.{sum_of_to}
+use Rattle.pat_words_laws.proofs.PatternLaws.{sum_of_to}
 use Rattle.pat_model.specs.Programs.{Program}
 use Rattle.pat_model.specs.Faults.{IsIn}
 use Rattle.pat_model.specs.WellFormed.{WellFormed}

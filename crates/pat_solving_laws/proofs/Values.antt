@@ -6,7 +6,7 @@ use Rattle.std.proofs.lemmas.Bool.{and_parts, leb-true, eqb-true}
 use Rattle.pat_words.specs.Words.{Word}
 use Rattle.pat_words.specs.Patterns.{Pat, Zero, One, Tag, Sum, Prod, Star, Var, In, Included, no_values, is_closed, sum_of, prod_of, star_of, subst_of}
 use Rattle.pat_words.specs.Tags.{tags_below}
-use Rattle.pat_words.proofs.FormLaws.{subst_to, subst_from}
+use Rattle.pat_words_laws.proofs.FormLaws.{subst_to, subst_from}
 use Rattle.pat_model.specs.Programs.{Program}
 use Rattle.pat_model.specs.WellFormed.{WellFormed}
 use Rattle.pat_inclusions.specs.CutWords.{cuts_lie}

@@ -1,6 +1,6 @@
 -- What the definitions see of types.
 use Rattle.std.specs.Prelude.{ℕ, List, map}
-use Rattle.pat_words.specs.Patterns.{Pat, Var}
+use Rattle.pat_patterns.specs.Patterns.{Pat, Var}
 use Rattle.pat_typing.specs.Types as types
 use Rattle.pat_open_types.specs.NodeTypes as open_types
 use Rattle.pat_primitives.specs.Views.{base_view, polarity_view}

@@ -6,7 +6,7 @@ use Rattle.std.proofs.lemmas.Bool.{eq-eqb, cond-false, or_parts, or_left, or_rig
 use Rattle.std.proofs.lemmas.Option.{slice_get_past}
 use Rattle.pat_words.specs.Words.{no_word}
 use Rattle.pat_words.specs.Patterns.{Pat, Tag, residual}
-use Rattle.pat_words.proofs.WordLaws.{plus_none}
+use Rattle.pat_words_laws.proofs.WordLaws.{plus_none}
 use Rattle.pat_model.specs.Values.{Expr, VarExpr, Literal, OpExpr, occurs}
 use Rattle.pat_model.specs.Programs.{Program, Polarity, Sending, Receiving, TagDecl, Clause, Core, Val, Let, Call, If, Print, New, Send, Spawn, Guard, Node, node_at, core_at, parts, binders, option_list, clause_bodies, clause_binders, is_among, is_free, clause_uses, core_uses}
 use Rattle.pat_model.specs.WellFormed.{WellFormed}

@@ -3,8 +3,8 @@ use Rattle.std.specs.Prelude.{ℕ, Bool, not, nat_eq, nat_lt, if◌then◌else�
 use Rattle.std.specs.List.{range_with_len}
 use Rattle.std.specs.Map.{keys_of}
 use Rattle.pat_words.specs.Patterns.{Pat, One, Tag}
-use Rattle.pat_model.specs.Values.{Kind, MailboxOf, Expr, VarExpr}
-use Rattle.pat_model.specs.Programs.{Sending, Receiving, TagDecl, Function, Clause, Core, Val, Let, Call, If, Print, New, Send, Spawn, Guard, Node, Program, function_at, tag_at, is_among}
+use Rattle.pat_typing.specs.Values.{Kind, MailboxOf, Expr, VarExpr}
+use Rattle.pat_typing.specs.Programs.{Sending, Receiving, TagDecl, Function, Clause, Core, Val, Let, Call, If, Print, New, Send, Spawn, Guard, Node, Program, function_at, tag_at, is_among}
 use Rattle.pat_typing.specs.Types.{Second, Returnable, MailboxType, TypeOf, MailboxTerm, mailbox_type, TypeEnv, no_types, with_type, without, returnable}
 use Rattle.pat_typing.specs.Typings.{Typing, param_type, result_type, payload_type, args_need, mailbox_args, clause_env, without_name}
 use Rattle.pat_open_types.specs.NodeTypes.{Needs, need_of}

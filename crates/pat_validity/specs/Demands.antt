@@ -2,10 +2,10 @@
 -- is used as it may be, that what is not passed on may be dropped, and that the inclusions are shown.
 use Rattle.std.specs.Prelude.{ℕ, Bool, true, false, ◌&&◌, nat_eq, if◌then◌else◌, List, [], ◌∷◌, Option, Some, None}
 use Rattle.pat_words.specs.Patterns.{Pat, is_nullable, prod_of, subst_of}
-use Rattle.pat_model.specs.Programs.{Polarity, Sending, Receiving}
+use Rattle.pat_typing.specs.Programs.{Polarity, Sending, Receiving}
 use Rattle.pat_typing.specs.Types.{MailboxType, TypeOf, BaseTerm, MailboxTerm}
-use Rattle.pat_inclusions.specs.Values.{Scope, pattern_of, is_formed}
-use Rattle.pat_inclusions.specs.Certificates.{Inclusion}
+use Rattle.pat_open_types.specs.Values.{Scope, pattern_of, is_formed}
+use Rattle.pat_open_types.specs.Certificates.{Inclusion}
 use Rattle.pat_open_types.specs.Compared.{polarity_eq, is_second, usage_fits}
 use Rattle.pat_validity.specs.Same.{is_same_type}
 

@@ -1,9 +1,9 @@
 -- Derivations: values for pattern variables, and for each node a type, the types of its variables, and certificates.
 use Rattle.std.specs.Prelude.{ℕ, suc, nat_le, Bool, true, ◌&&◌, List, [], ◌∷◌, length, Option, Some, None, option_map, slice_get}
-use Rattle.pat_model.specs.Programs.{Interface, Program}
+use Rattle.pat_typing.specs.Programs.{Interface, Program}
 use Rattle.pat_typing.specs.Typings.{Typing}
-use Rattle.pat_inclusions.specs.Values.{VarLine, Scope, pattern_of}
-use Rattle.pat_inclusions.specs.Certificates.{Cert}
+use Rattle.pat_open_types.specs.Values.{VarLine, Scope, pattern_of}
+use Rattle.pat_open_types.specs.Certificates.{Cert}
 use Rattle.pat_open_types.specs.NodeTypes.{Needs, NodeType}
 use Rattle.pat_open_types.specs.Typings.{typing_with, typing_under}
 

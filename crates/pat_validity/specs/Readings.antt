@@ -3,11 +3,11 @@ use Rattle.std.specs.Prelude.{◌≡◌, ℕ, nat_eq, List, [], ◌∷◌, Some,
 use Rattle.std.specs.List.{AllByRecursion, IsDistinct}
 use Rattle.std.specs.Map.{keys_of}
 use Rattle.pat_words.specs.Patterns.{Covers}
-use Rattle.pat_model.specs.Programs.{TagDecl, Function, Clause, Core, Call, Send, Guard, Program, function_at, is_among, clause_binders}
+use Rattle.pat_typing.specs.Programs.{TagDecl, Function, Clause, Core, Call, Send, Guard, Program, function_at, is_among, clause_binders}
 use Rattle.pat_typing.specs.Types.{MailboxType}
 use Rattle.pat_typing.specs.Typings.{param_type, result_type, payload_type, mailbox_args, HasMailboxPayload, is_received, HasWord, TypeHasWord}
-use Rattle.pat_inclusions.specs.Values.{Scope, pattern_of, filled}
-use Rattle.pat_inclusions.specs.Certificates.{Cert, Inclusion, is_trivial, is_shown}
+use Rattle.pat_open_types.specs.Values.{Scope, pattern_of, filled}
+use Rattle.pat_open_types.specs.Certificates.{Cert, Inclusion, is_trivial, is_shown}
 use Rattle.pat_open_types.specs.NodeTypes.{result_under}
 use Rattle.pat_validity.specs.Derivations.{Line, Derivation, line_at, scope_of, written_typing}
 use Rattle.pat_validity.specs.Conditions.{Place, is_first}

@@ -3,12 +3,12 @@ use Rattle.std.specs.Prelude.{ℕ, suc, Bool, true, false, not, ◌&&◌, ◌||�
 use Rattle.std.specs.List.{list_all, list_any, flat_map}
 use Rattle.std.specs.Map.{keys_of}
 use Rattle.pat_words.specs.Patterns.{Pat, covers, is_inhabited, subst_of}
-use Rattle.pat_model.specs.Values.{BaseUnit, Kind, MailboxOf, Expr}
-use Rattle.pat_model.specs.Programs.{Polarity, Sending, Receiving, TagDecl, Sort, Function, Clause, Core, Let, Call, If, Send, Spawn, Guard, Program, function_at, tag_at, is_among, clause_binders}
+use Rattle.pat_typing.specs.Values.{BaseUnit, Kind, MailboxOf, Expr}
+use Rattle.pat_typing.specs.Programs.{Polarity, Sending, Receiving, TagDecl, Sort, Function, Clause, Core, Let, Call, If, Send, Spawn, Guard, Program, function_at, tag_at, is_among, clause_binders}
 use Rattle.pat_typing.specs.Types.{MailboxType, TypeOf, BaseTerm, MailboxTerm, kind_of_type}
 use Rattle.pat_typing.specs.Typings.{Typing, param_type, result_type, payload_sort, payload_type, mailbox_args, is_received}
-use Rattle.pat_inclusions.specs.Values.{Scope, pattern_of, is_formed, values_fit}
-use Rattle.pat_inclusions.specs.Certificates.{Inclusion, are_shown}
+use Rattle.pat_open_types.specs.Values.{Scope, pattern_of, is_formed, values_fit}
+use Rattle.pat_open_types.specs.Certificates.{Inclusion, are_shown}
 use Rattle.pat_validity.specs.Same.{is_same_kind, is_mailbox_of, is_same_type, all_differ}
 use Rattle.pat_open_types.specs.Signatures.{signature_vars}
 use Rattle.pat_validity.specs.Derivations.{Line, Derivation, line_at, ascends_from, scope_of, written_typing}

@@ -1,8 +1,8 @@
 -- Tests whether kinds and types are the same, and whether numbers differ.
 use Rattle.std.specs.Prelude.{ℕ, Bool, true, false, not, ◌&&◌, nat_eq, List, [], ◌∷◌, Option, Some, None}
 use Rattle.pat_words.specs.Patterns.{pat_eq}
-use Rattle.pat_model.specs.Values.{Base, BaseUnit, BaseBool, BaseInt, BaseText, Kind, Plain, MailboxOf}
-use Rattle.pat_model.specs.Programs.{is_among}
+use Rattle.pat_typing.specs.Values.{Base, BaseUnit, BaseBool, BaseInt, BaseText, Kind, Plain, MailboxOf}
+use Rattle.pat_typing.specs.Programs.{is_among}
 use Rattle.pat_typing.specs.Types.{TypeOf, BaseTerm, MailboxTerm}
 use Rattle.pat_open_types.specs.Compared.{polarity_eq}
 

@@ -4,12 +4,12 @@ use Rattle.std.specs.Prelude.{ℕ, Bool, true, ◌&&◌, nat_lt, nat_le, List, l
 use Rattle.std.specs.List.{list_all}
 use Rattle.pat_words.specs.Patterns.{Pat, Sum, Prod, Star, Var}
 use Rattle.pat_words.specs.Sizes.{levels_of}
-use Rattle.pat_model.specs.Programs.{Program}
+use Rattle.pat_typing.specs.Programs.{Program}
 use Rattle.pat_words.specs.Tags.{tags_below}
 use Rattle.pat_typing.specs.Types.{MailboxType, TypeOf, BaseTerm, MailboxTerm}
-use Rattle.pat_inclusions.specs.Covers.{CoverEntry}
-use Rattle.pat_inclusions.specs.Values.{VarValue, PatternForm, GridForm, VarLine, value_fits}
-use Rattle.pat_inclusions.specs.Certificates.{Cert, CoverCert, GridCert}
+use Rattle.pat_open_types.specs.Covers.{CoverEntry}
+use Rattle.pat_open_types.specs.Values.{VarValue, PatternForm, GridForm, VarLine, value_fits}
+use Rattle.pat_open_types.specs.Certificates.{Cert, CoverCert, GridCert}
 use Rattle.pat_validity.specs.Derivations.{Line, Derivation, ascends_from, scope_of}
 
 -- the number is one that a text may have

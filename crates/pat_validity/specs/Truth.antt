@@ -2,9 +2,9 @@
 use Rattle.std.specs.Prelude.{◌≡◌, ℕ, Some, IsTrue}
 use Rattle.std.specs.List.{AllByRecursion}
 use Rattle.pat_words.specs.Patterns.{Included, subst_of}
-use Rattle.pat_model.specs.Programs.{Program, Function, Node, node_at, function_at}
-use Rattle.pat_inclusions.specs.Values.{Scope, pattern_of}
-use Rattle.pat_inclusions.specs.Certificates.{Inclusion}
+use Rattle.pat_typing.specs.Programs.{Program, Function, Node, node_at, function_at}
+use Rattle.pat_open_types.specs.Values.{Scope, pattern_of}
+use Rattle.pat_open_types.specs.Certificates.{Inclusion}
 use Rattle.pat_validity.specs.Derivations.{Line, Derivation, line_at, scope_of}
 use Rattle.pat_validity.specs.Conditions.{Place}
 use Rattle.pat_validity.specs.Rules.{has_shape, has_words, has_no_alias, uses_well, drops_well, payloads_stand_apart, guard_covers, needed}

@@ -3,7 +3,7 @@ use Rattle.std.proofs.Common.{◌≡◌, ℕ, true, ◌&&◌, nat_eq, List, [], 
 use Rattle.std.specs.List.{AllByRecursion, list_all, flat_map}
 use Rattle.std.proofs.lemmas.Bool.{and_parts, or_cases, eqb-true, cases_Bool, cond-false}
 use Rattle.pat_words.specs.Patterns.{Pat, Included, pat_eq, is_nullable, subst_of}
-use Rattle.pat_words.proofs.PatternLaws.{pat_eq_same}
+use Rattle.pat_words_laws.proofs.PatternLaws.{pat_eq_same}
 use Rattle.pat_model.specs.Values.{Base, BaseUnit, BaseBool, BaseInt, BaseText, Kind, Plain, MailboxOf}
 use Rattle.pat_model.specs.Programs.{Polarity, Sending, Receiving}
 use Rattle.pat_typing.specs.Types.{Usage, Second, Returnable, MailboxType, TypeOf, BaseTerm, MailboxTerm, UsageFits, PatternFits, Fits, DropsAs, PassesTo, PatternJoins, Joins, SplitsTo}

@@ -3,8 +3,8 @@ use Rattle.std.proofs.Common.{◌≡◌, ℕ, true, ◌||◌, nat_eq, if◌then�
 use Rattle.std.proofs.lemmas.Bool.{and_parts, and_from, cond_both}
 use Rattle.pat_words.specs.Words.{Word, no_word}
 use Rattle.pat_words.specs.Patterns.{Pat, Zero, One, Tag, Sum, Prod, Star, Var, Language, InUnder, In, no_values, is_zero, is_one, pat_eq, sum_of, prod_of, is_closed, residual, is_nullable, is_inhabited, subst_of}
-use Rattle.pat_words.proofs.PatternLaws.{nullable_to, inhabited_to, prod_of_from}
-use Rattle.pat_words.proofs.FormLaws.{times_mono, subst_to, subst_from}
+use Rattle.pat_words_laws.proofs.PatternLaws.{nullable_to, inhabited_to, prod_of_from}
+use Rattle.pat_words_laws.proofs.FormLaws.{times_mono, subst_to, subst_from}
 use Rattle.pat_inclusions.specs.Values.{Scope, pattern_of, filled}
 
 -- the words of each variable's value

@@ -4,7 +4,7 @@ use Rattle.std.specs.Prelude.{slice_get, is_some}
 use Rattle.std.specs.List.{AllByRecursion, list_all}
 use Rattle.std.proofs.lemmas.Bool.{and_parts, or_cases, or_right}
 use Rattle.pat_words.specs.Patterns.{Pat, residual, is_closed, Covers}
-use Rattle.pat_words.proofs.CoverLaws.{covers_to}
+use Rattle.pat_words_laws.proofs.CoverLaws.{covers_to}
 use Rattle.pat_model.specs.Values.{Kind, MailboxOf}
 use Rattle.pat_model.specs.Programs.{Program, Receiving, TagDecl, Clause, Core, Val, Let, Call, If, Print, New, Send, Spawn, Guard, Node, node_at, tag_at, is_among, clause_binders, clause_bodies, option_list}
 use Rattle.pat_model.specs.WellFormed.{WellFormed, ClauseKinds}

@@ -5,8 +5,8 @@ use Rattle.std.specs.List.{AllByRecursion, IsDistinct, list_all, list_any}
 use Rattle.std.proofs.lemmas.Bool.{and_parts, and_from, or_cases, cases_Bool, cases_lt}
 use Rattle.std.proofs.lemmas.Option.{slice_get_past}
 use Rattle.pat_words.specs.Patterns.{Pat, subst_of}
-use Rattle.pat_words.proofs.PatternLaws.{inhabited_from}
-use Rattle.pat_words.proofs.CoverLaws.{covers_to, covers_from}
+use Rattle.pat_words_laws.proofs.PatternLaws.{inhabited_from}
+use Rattle.pat_words_laws.proofs.CoverLaws.{covers_to, covers_from}
 use Rattle.pat_model.specs.Programs.{Program, Polarity, Sending, Receiving, Sort, TagDecl, Function, Clause, Core, Call, Send, Guard, Node, function_at, is_among, clause_binders}
 use Rattle.pat_typing.specs.Types.{MailboxType, TypeOf, BaseTerm, MailboxTerm, TypeEnv}
 use Rattle.pat_typing.specs.Typings.{sort_type, param_type, result_type, payload_sort, payload_type, mailbox_args, HasMailboxPayload, is_received, HasWord, TypeHasWord}

@@ -12,8 +12,7 @@ use Rattle.pat_machine.specs.declared.job.Named.{Named}
 use Rattle.pat_machine.specs.declared.job.Receipt.{Receipt}
 use Rattle.pat_machine.specs.Shown.{Shown, entries_of}
 use Rattle.pat_commits.specs.Lendings.{SomeOut}
-use Rattle.pat_machine.specs.Gives.{MayTake, OutcomeGives, outcome_view}
-use Rattle.pat_run.specs.Runs.{IsOver}
+use Rattle.pat_machine.specs.Gives.{IsOver, MayTake, OutcomeGives, outcome_view}
 use Rattle.pat_machine.specs.Driving.{IsDriven, AreInOrder}
 use Rattle.pat_turn.specs.Shown.{ShownPass, ShownTurn, newcomer, IsOfAll, AreAll}
 use Rattle.pat_turn_machine.specs.Holds.{worker_of}

@@ -8,9 +8,8 @@ use Rattle.pat_core.specs.Views.{program_view}
 use Rattle.pat_reduce.specs.declared.history.Entry.{Entry}
 use Rattle.pat_machine.specs.declared.job.Receipt.{Receipt}
 use Rattle.pat_machine.specs.Shown.{Shown, entries_of}
-use Rattle.pat_machine.specs.Gives.{OutcomeGives, outcome_view}
+use Rattle.pat_machine.specs.Gives.{IsOver, OutcomeGives, outcome_view}
 use Rattle.pat_machine.specs.Driving.{IsDriven}
-use Rattle.pat_run.specs.Runs.{IsOver}
 use Rattle.pat_workers.specs.declared.finishing.Finished.{Finished}
 use Rattle.pat_workers.specs.Receipts.{AreReceiptsOf, StandIn, receipts_at}
 

@@ -1,7 +1,6 @@
 // The end of a run, once the workers have ended.
 ghost use Rattle.std.specs.Prelude.{◌≡◌, ◌<◌, length, map, IfOk, OnOk, Some};
-ghost use Rattle.pat_machine.specs.Gives.{OutcomeGives};
-ghost use Rattle.pat_run.specs.Runs.{IsOver};
+ghost use Rattle.pat_machine.specs.Gives.{IsOver, OutcomeGives};
 ghost use Rattle.pat_workers.specs.Runs.{GrewFirst, IsFinished};
 
 use crate::serving::Worker;

@@ -1,5 +1,5 @@
 use crate::holding::{two_workers, two_workers_of_a_load};
-use crate::rows;
+use crate::{hostile, rows};
 use std::test::Fail;
 
 #[test]
@@ -16,4 +16,15 @@ fn calls(rt: HostRuntime) -> Result<(), Fail> {
     rows::each_read_and_each_write_fails_in_turn(&rt, alloc)?;
     two_workers(&rt, alloc)?;
     two_workers_of_a_load(&rt, alloc)
+}
+
+#[test]
+fn hostile_calls(rt: HostRuntime) -> Result<(), Fail> {
+    let alloc = rt.alloc();
+    hostile::a_program_cut_at_each_byte(&rt, alloc)?;
+    hostile::programs_that_are_refused(&rt, alloc)?;
+    hostile::ports_that_fail_at_each_call(&rt, alloc)?;
+    hostile::programs_at_a_limit_and_a_step_beyond(&rt, alloc)?;
+    hostile::derivations(&rt, alloc)?;
+    hostile::runs(&rt, alloc)
 }

@@ -1,6 +1,6 @@
 use Rattle.std.proofs.Common.{sym, ◌∙◌}
 use Rattle.pat_inclusions.specs.Counts.{most_tags}
-use Rattle.pat_inclusion_laws.proofs.CoverLaws.{cover_direct, direct_into}
+use Rattle.pat_linear.proofs.CoverLaws.{cover_direct, direct_into}
 use Rattle.pat_linear.specs.Views.{sets_view}
 use Rattle.pat_certs_covers.specs.Views.{entries_view}
 use Rattle.pat_certs_covers.proofs.cover.check_cover.Goals as goal

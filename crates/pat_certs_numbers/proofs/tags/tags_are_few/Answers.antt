@@ -1,7 +1,7 @@
 use Rattle.std.proofs.Common.{sym, subst}
 use Rattle.pat_words.specs.Tags.{HasTagsBelow}
 use Rattle.pat_bags.specs.Views.{word_of}
-use Rattle.pat_inclusion_laws.proofs.Exact.{tags_are}
+use Rattle.pat_linear.proofs.Exact.{tags_are}
 use Rattle.pat_certs_numbers.proofs.tags.tags_are_few.Goals as goal
 
 pub returns : goal.returns

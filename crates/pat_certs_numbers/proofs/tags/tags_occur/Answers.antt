@@ -1,7 +1,7 @@
 use Rattle.std.proofs.Common.{arith, ◌≡◌, ◌<◌, true, sym, subst, ◌∙◌}
 use Rattle.pat_bags.specs.Views.{word_of}
 use Rattle.pat_inclusions.specs.Counts.{most_tags}
-use Rattle.pat_inclusion_laws.proofs.Exact.{tags_are}
+use Rattle.pat_linear.proofs.Exact.{tags_are}
 use Rattle.pat_linear.specs.Views.{words_of}
 use Rattle.pat_certs_numbers.specs.Numbers.{tags_occur}
 use Rattle.pat_certs_numbers.proofs.Making.{tag_lacks}

@@ -1,6 +1,6 @@
 use Rattle.std.proofs.Common.{arith, subst, sym}
 use Rattle.pat_words.specs.Words.{Word, LiesIn}
-use Rattle.pat_words.proofs.WordLaws.{one_lies}
+use Rattle.pat_words_laws.proofs.WordLaws.{one_lies}
 use Rattle.pat_bags.specs.Views.{word_of}
 use Rattle.pat_certs_refutations.proofs.walk.take_message.Goals as goal
 

@@ -2,7 +2,7 @@ use Rattle.std.proofs.Common.{rules}
 use Rattle.pat_derivations.specs.Views.{counts_of}
 use Rattle.pat_derivation_text.specs.LineReading.{read_point}
 use Rattle.pat_derivation_text.specs.Joined.{pieces, read_each}
-use Rattle.pat_derivation_text_laws.proofs.Cutting.{turn_seen}
+use Rattle.pat_deriv_lines.proofs.Cutting.{turn_seen}
 use Rattle.pat_deriv_lines.specs.Views.{pieces_left}
 use Rattle.pat_deriv_nodes.proofs.grids.read_points.Goals as goal
 

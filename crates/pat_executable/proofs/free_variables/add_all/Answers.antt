@@ -1,6 +1,6 @@
 use Rattle.std.proofs.Common.{refl, length, not, ap, sym, ◌++◌, ◌∙◌, slice_get}
 use Rattle.std.proofs.lemmas.Option.{slice_get_read}
-use Rattle.pat_model.specs.Programs.{is_among, option_list}
+use Rattle.pat_model_laws.specs.Programs.{is_among, option_list}
 use Rattle.pat_executable.specs.FreeVariables.{is_in}
 use Rattle.pat_executable.proofs.FreeLists.{all_added}
 use Rattle.pat_executable.proofs.free_variables.add_all.Goals as goal

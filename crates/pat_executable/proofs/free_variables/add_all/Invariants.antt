@@ -1,5 +1,5 @@
 use Rattle.std.proofs.Common.{◌≡◌, ℕ, ◌||◌, ◌&&◌, not, drop, ◌++◌}
-use Rattle.pat_model.specs.Programs.{is_among, option_list}
+use Rattle.pat_model_laws.specs.Programs.{is_among, option_list}
 use Rattle.pat_executable.proofs.free_variables.add_all.Given as goal
 
 -- what is in the list, and what is still to be added, is all of it

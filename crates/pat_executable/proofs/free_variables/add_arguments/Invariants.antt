@@ -1,7 +1,7 @@
 use Rattle.std.proofs.Common.{◌≡◌, ℕ, ◌||◌, drop, map}
 use Rattle.std.specs.List.{list_any}
-use Rattle.pat_model.specs.Values.{occurs}
-use Rattle.pat_model.specs.Programs.{is_among}
+use Rattle.pat_model_laws.specs.Values.{occurs}
+use Rattle.pat_model_laws.specs.Programs.{is_among}
 use Rattle.pat_core.specs.Views.{expr_view}
 use Rattle.pat_executable.proofs.free_variables.add_arguments.Given as goal
 

@@ -1,6 +1,6 @@
 use Rattle.std.proofs.Common.{◌≡◌, ℕ, ◌||◌, drop, map}
 use Rattle.std.specs.List.{list_any}
-use Rattle.pat_model.specs.Programs.{is_among, clause_uses}
+use Rattle.pat_model_laws.specs.Programs.{is_among, clause_uses}
 use Rattle.pat_core.specs.Views.{clause_view}
 use Rattle.pat_executable.specs.FreeVariables.{is_listed}
 use Rattle.pat_executable.proofs.free_variables.add_clauses.Given as goal

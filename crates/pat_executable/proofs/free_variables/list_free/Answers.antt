@@ -1,6 +1,6 @@
 use Rattle.std.proofs.Common.{◌≡◌, ◌-◌, length, ap, sym, ◌∙◌, arith}
 use Rattle.std.proofs.lemmas.List.{length-set}
-use Rattle.pat_model.specs.Programs.{core_uses}
+use Rattle.pat_model_laws.specs.Programs.{core_uses}
 use Rattle.pat_core.specs.declared.program.Node.{Node}
 use Rattle.pat_core.specs.Views.{core_view, program_view}
 use Rattle.pat_executable.specs.FreeVariables.{is_listed}

@@ -1,5 +1,5 @@
 use Rattle.std.proofs.Common.{◌≡◌, ℕ, ◌≤◌, length}
-use Rattle.pat_model.specs.Programs.{is_free}
+use Rattle.pat_model_laws.specs.Programs.{is_free}
 use Rattle.pat_core.specs.Views.{program_view}
 use Rattle.pat_executable.specs.FreeVariables.{is_listed}
 use Rattle.pat_executable.proofs.free_variables.list_free.Given as goal

@@ -3,8 +3,8 @@ use Rattle.pat_inference.specs.Constraints.{AtNode, BranchRule, each_unless}
 use Rattle.pat_inference.specs.Branches.{branches_agree}
 use Rattle.pat_types.specs.Views.{needs_view}
 use Rattle.pat_infer_problems.specs.Results.{first_of}
-use Rattle.pat_infer_needs.specs.Gathering.{column_at}
-use Rattle.pat_infer_needs.specs.Looking.{AreAt}
+use Rattle.pat_infer_terms.specs.Gathering.{column_at}
+use Rattle.pat_infer_terms.specs.Looking.{AreAt}
 use Rattle.pat_infer_branches.proofs.arms.agree_on.Given as goal
 
 -- the first broken rule is that of the names that are left

@@ -1,5 +1,5 @@
 use Rattle.std.proofs.Common.{◌+◌, length, map, ap, ◌∙◌, subst}
-use Rattle.pat_infer_needs.specs.Gathering.{Gathers}
+use Rattle.pat_infer_terms.specs.Gathering.{Gathers}
 use Rattle.pat_types.specs.Views.{needs_view}
 use Rattle.pat_infer_branches.specs.Arms.{arm_view}
 use Rattle.pat_infer_branches.proofs.Outer.{same_gathered}

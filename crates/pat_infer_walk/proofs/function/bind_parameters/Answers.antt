@@ -1,7 +1,7 @@
 use Rattle.std.proofs.Common.{◌<◌, length, map, option_map, ◌∙◌, arith}
 use Rattle.pat_types.specs.Views.{type_view, needs_view}
-use Rattle.pat_infer_needs.specs.Types.{types_at}
-use Rattle.pat_infer_terms.specs.Views.{binder_view}
+use Rattle.pat_infer_lets.specs.Types.{types_at}
+use Rattle.pat_infer_branches.specs.Views.{binder_view}
 use Rattle.pat_infer_walk.proofs.Functions.{bound_more}
 use Rattle.pat_infer_walk.proofs.function.bind_parameters.Goals as goal
 

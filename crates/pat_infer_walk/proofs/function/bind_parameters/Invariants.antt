@@ -2,8 +2,8 @@ use Rattle.std.proofs.Common.{◌≡◌, ◌++◌, map, option_map, drop}
 use Rattle.pat_inference.specs.Binders.{names_bound, param_names}
 use Rattle.pat_core.specs.Views.{sort_view}
 use Rattle.pat_types.specs.Views.{type_view, needs_view}
-use Rattle.pat_infer_needs.specs.Types.{types_at}
-use Rattle.pat_infer_terms.specs.Views.{binder_view}
+use Rattle.pat_infer_lets.specs.Types.{types_at}
+use Rattle.pat_infer_branches.specs.Views.{binder_view}
 use Rattle.pat_infer_walk.proofs.function.bind_parameters.Given as goal
 
 -- the names that are bound, and those of the parameters that are left

@@ -12,7 +12,7 @@ use Rattle.pat_types.specs.Views.{needs_view}
 use Rattle.pat_infer_problems.specs.Results.{Refuses}
 use Rattle.pat_infer_signatures.specs.Opened.{Signature, signatures_from}
 use Rattle.pat_infer_signatures.specs.Views.{signature_view}
-use Rattle.pat_infer_terms.specs.Views.{binder_view}
+use Rattle.pat_infer_branches.specs.Views.{binder_view}
 use Rattle.pat_infer_problems.specs.Walked.{IsWalked}
 use Rattle.pat_infer_problems.proofs.Joining.{refuses_front}
 use Rattle.pat_infer_walk.proofs.Functions.{result_same, binders_same, function_walked, function_refused, finds_exits}

@@ -9,7 +9,7 @@ use Rattle.pat_core.specs.declared.expression.Expr.{Expr as CodeExpr}
 use Rattle.pat_patterns.specs.Views.{pattern_view}
 use Rattle.pat_infer_signatures.specs.Opened.{Signature, signatures_from}
 use Rattle.pat_infer_signatures.specs.Views.{signature_view}
-use Rattle.pat_infer_terms.specs.Calls.{signed_call}
+use Rattle.pat_infer_branches.specs.Calls.{signed_call}
 use Rattle.pat_infer_branches.specs.declared.arms.WalkedArm.{WalkedArm}
 use Rattle.pat_infer_walk.specs.declared.walk.Branch.{Branch}
 use Rattle.pat_infer_walk.proofs.SignedNumbers.{none_there, call_same, call_walked}

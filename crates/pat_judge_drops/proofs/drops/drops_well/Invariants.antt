@@ -3,7 +3,7 @@ use Rattle.std.specs.List.{list_all}
 use Rattle.pat_core.specs.Views.{program_view}
 use Rattle.pat_validity.specs.Derivations.{scope_of}
 use Rattle.pat_validity.specs.Demands.{is_dropped_well}
-use Rattle.pat_derivations.specs.Views.{derivation_view}
+use Rattle.pat_judge_values.specs.Views.{derivation_view}
 use Rattle.pat_demands.specs.Views.{demands_view}
 use Rattle.pat_judge_drops.proofs.drops.drops_well.Given as goal
 

@@ -5,7 +5,7 @@ use Rattle.pat_validity.specs.Derivations.{scope_of}
 use Rattle.pat_linear.specs.Views.{sets_view}
 use Rattle.pat_patterns.specs.Views.{pattern_view}
 use Rattle.pat_core.specs.Views.{program_view}
-use Rattle.pat_derivations.specs.Views.{derivation_view}
+use Rattle.pat_judge_values.specs.Views.{derivation_view}
 use Rattle.pat_judge_forms.specs.Limits.{Limits}
 use Rattle.pat_judge_forms.proofs.FormTags.{few_in, form_in}
 use Rattle.pat_judge_forms.proofs.forms.form_of.Goals as goal

@@ -1,6 +1,6 @@
 use Rattle.std.proofs.Common.{◌≡◌, map, drop}
 use Rattle.pat_inclusions.specs.Points.{with_points, points_pattern}
-use Rattle.pat_derivations.specs.Views.{counts_of}
+use Rattle.pat_judge_values.specs.Views.{counts_of}
 use Rattle.pat_patterns.specs.Views.{pattern_view}
 use Rattle.pat_judge_forms.specs.Limits.{IsCounted}
 use Rattle.pat_judge_forms.proofs.point_patterns.points.Given as goal

@@ -2,7 +2,7 @@ use Rattle.std.proofs.Common.{rules, ◌≡◌, true, map, ◌∙◌}
 use Rattle.std.specs.Prelude.{nat_eq}
 use Rattle.pat_core.specs.Views.{node_view, function_view, program_view}
 use Rattle.pat_types.specs.Views.{result_view}
-use Rattle.pat_demands.specs.Views.{signature_view}
+use Rattle.pat_demands_terms.specs.Views.{signature_view}
 use Rattle.pat_derivations.specs.Views.{line_view, derivation_view}
 use Rattle.pat_validity.specs.Truth.{place}
 use Rattle.pat_judge_shape.proofs.Shaped.{agrees, at_first}

@@ -3,7 +3,7 @@ use Rattle.std.specs.Prelude.{nat_eq}
 use Rattle.pat_validity.specs.Derivations.{scope_of}
 use Rattle.pat_validity.specs.Truth.{place}
 use Rattle.pat_core.specs.Views.{node_view, function_view, program_view}
-use Rattle.pat_demands.specs.Views.{signature_view}
+use Rattle.pat_demands_terms.specs.Views.{signature_view}
 use Rattle.pat_derivations.specs.Views.{line_view, derivation_view}
 use Rattle.pat_judge_shape.proofs.Shaped.{words_are, words_at_first}
 use Rattle.pat_judge_shape.proofs.words.first_has_words.Goals as goal

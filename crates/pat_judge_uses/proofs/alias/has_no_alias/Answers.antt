@@ -5,7 +5,7 @@ use Rattle.pat_core.specs.Views.{expr_view, kind_view, core_view, function_view,
 use Rattle.pat_validity.specs.Rules.{tag_of_kind, has_no_alias}
 use Rattle.pat_validity.specs.Truth.{place}
 use Rattle.pat_derivations.specs.Views.{line_view, derivation_view}
-use Rattle.pat_demands.specs.Views.{signature_view}
+use Rattle.pat_demands_terms.specs.Views.{signature_view}
 use Rattle.pat_judge_uses.specs.Arguments.{call_differs, send_differs}
 use Rattle.pat_judge_uses.proofs.Differing.{called_is, send_is}
 use Rattle.pat_judge_uses.proofs.alias.has_no_alias.Goals as goal

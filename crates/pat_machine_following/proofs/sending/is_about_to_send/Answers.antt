@@ -2,7 +2,7 @@ use Rattle.std.proofs.Common.{map, sym, ap, ◌∙◌}
 use Rattle.pat_model.specs.Steps.{redex}
 use Rattle.pat_core.specs.Views.{program_view}
 use Rattle.pat_reduce_threads.specs.ThreadViews.{control_view, frame_view}
-use Rattle.pat_machine_states.specs.Opening.{is_sending}
+use Rattle.pat_machine_shares.specs.Opening.{is_sending}
 use Rattle.pat_machine_following.proofs.Senders.{sends_at}
 use Rattle.pat_machine_following.proofs.sending.is_about_to_send.Goals as goal
 

@@ -5,7 +5,7 @@ use Rattle.pat_model.specs.Configs.{is_mailbox}
 use Rattle.pat_core.specs.Views.{program_view}
 use Rattle.pat_reduce_values.specs.ValueViews.{value_view}
 use Rattle.pat_reduce_threads.specs.ThreadViews.{message_view}
-use Rattle.pat_locality_laws.specs.Wakings.{is_brought_by}
+use Rattle.pat_machine_waits.specs.Wakings.{is_brought_by}
 use Rattle.pat_machine_waits.specs.Noted.{FreesListed}
 use Rattle.pat_machine_waits.proofs.Waking.{both_woken}
 use Rattle.pat_machine_following.specs.Sleepers.{FreesNamed, FreesBrought}

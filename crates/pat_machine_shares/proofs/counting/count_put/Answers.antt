@@ -1,6 +1,6 @@
 use Rattle.std.proofs.Common.{Some, subst}
-use Rattle.pat_reduce.specs.Views.{act_view}
-use Rattle.pat_machine_names.specs.Changes.{HasPlaces}
+use Rattle.pat_machine_threads.specs.Views.{act_view}
+use Rattle.pat_machine_states.specs.Changes.{HasPlaces}
 use Rattle.pat_machine_states.specs.Taking.{taken_act}
 use Rattle.pat_machine_shares.specs.Leaving.{times_put}
 use Rattle.pat_machine_shares.proofs.counting.count_put.Goals as goal

@@ -2,7 +2,7 @@ use Rattle.std.proofs.Common.{◌≡◌, Some, sym, ap, ◌∙◌, subst}
 use Rattle.std.specs.Prelude.{option_map, option_copied}
 use Rattle.pat_reduce_threads.specs.ThreadViews.{message_view}
 use Rattle.pat_naming_laws.specs.Counting.{last_message, times_if_message}
-use Rattle.pat_machine_names.specs.Changes.{HasPlaces, Counts}
+use Rattle.pat_machine_states.specs.Changes.{HasPlaces, Counts}
 use Rattle.pat_machine_shares.proofs.Acts.{last_of}
 use Rattle.pat_machine_shares.proofs.counting.count_sent.Goals as goal
 

@@ -3,7 +3,7 @@ use Rattle.std.specs.Prelude.{option_map, option_copied}
 use Rattle.pat_reduce_threads.specs.ThreadViews.{thread_view}
 use Rattle.pat_naming_laws.specs.Naming.{times_in_thread}
 use Rattle.pat_naming_laws.specs.Counting.{times_if_thread}
-use Rattle.pat_machine_names.specs.Changes.{HasPlaces}
+use Rattle.pat_machine_states.specs.Changes.{HasPlaces}
 use Rattle.pat_machine_shares.proofs.Left.{bare_top}
 use Rattle.pat_machine_shares.proofs.counting.count_spawned.Goals as goal
 

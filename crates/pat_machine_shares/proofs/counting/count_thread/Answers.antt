@@ -2,7 +2,7 @@ use Rattle.std.proofs.Common.{sym, ap, ◌∙◌, subst}
 use Rattle.std.specs.Prelude.{option_map, option_copied}
 use Rattle.pat_reduce_threads.specs.ThreadViews.{thread_view}
 use Rattle.pat_naming_laws.specs.Counting.{times_if_top}
-use Rattle.pat_machine_names.specs.Changes.{HasPlaces}
+use Rattle.pat_machine_states.specs.Changes.{HasPlaces}
 use Rattle.pat_machine_shares.proofs.counting.count_thread.Goals as goal
 
 pub count_top-requires : goal.count_top-requires

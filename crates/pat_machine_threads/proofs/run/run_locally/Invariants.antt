@@ -1,5 +1,5 @@
 use Rattle.std.proofs.Common.{◌≡◌, Some}
-use Rattle.pat_core.specs.Views.{program_view}
+use Rattle.pat_reduce_threads.specs.Views.{program_view}
 use Rattle.pat_reduce_threads.specs.ThreadViews.{thread_view}
 use Rattle.pat_commits.specs.Commits.{locally}
 use Rattle.pat_machine_threads.proofs.run.run_locally.Given as goal

@@ -1,7 +1,7 @@
 use Rattle.std.proofs.Common.{length, inl, inr, arith, sym, ◌∙◌}
 use Rattle.std.proofs.lemmas.Bool.{eqb-false}
 use Rattle.std.proofs.lemmas.List.{drop_all, length-map}
-use Rattle.pat_core.specs.Views.{program_view}
+use Rattle.pat_reduce_threads.specs.Views.{program_view}
 use Rattle.pat_reduce_threads.specs.ThreadViews.{frame_view, thread_view}
 use Rattle.pat_machine_threads.proofs.Settlings.{run_on_some, enough_if_ok}
 use Rattle.pat_machine_threads.proofs.settling.settle_top.Goals as goal

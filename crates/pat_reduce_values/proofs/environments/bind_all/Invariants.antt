@@ -1,5 +1,5 @@
 use Rattle.std.proofs.Common.{◌≡◌, drop, map}
-use Rattle.pat_model.specs.Values.{bind_all}
+use Rattle.pat_primitives.specs.Values.{bind_all}
 use Rattle.pat_reduce_values.specs.ValueViews.{env_view, value_view}
 use Rattle.pat_reduce_values.proofs.environments.bind_all.Given as goal
 

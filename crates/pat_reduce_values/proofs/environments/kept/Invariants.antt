@@ -1,5 +1,5 @@
 use Rattle.std.proofs.Common.{◌≡◌, ◌++◌, drop}
-use Rattle.pat_model.specs.Programs.{keep}
+use Rattle.pat_primitives.specs.Programs.{keep}
 use Rattle.pat_core.specs.Views.{program_view}
 use Rattle.pat_reduce_values.specs.ValueViews.{env_view}
 use Rattle.pat_reduce_values.proofs.environments.kept.Given as goal

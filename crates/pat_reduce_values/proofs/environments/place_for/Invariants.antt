@@ -1,5 +1,5 @@
 use Rattle.std.proofs.Common.{◌≡◌, ◌++◌, take, drop}
-use Rattle.pat_model.specs.Values.{Value, bind}
+use Rattle.pat_primitives.specs.Values.{Value, bind}
 use Rattle.pat_reduce_values.specs.ValueViews.{env_view}
 use Rattle.pat_reduce_values.proofs.environments.place_for.Given as goal
 

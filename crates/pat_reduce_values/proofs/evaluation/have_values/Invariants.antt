@@ -1,6 +1,6 @@
 use Rattle.std.proofs.Common.{◌≡◌, drop, map}
 use Rattle.std.specs.Prelude.{is_some}
-use Rattle.pat_model.specs.Values.{eval_all}
+use Rattle.pat_primitives.specs.Values.{eval_all}
 use Rattle.pat_core.specs.Views.{expr_view}
 use Rattle.pat_reduce_values.specs.ValueViews.{env_view}
 use Rattle.pat_reduce_values.proofs.evaluation.have_values.Given as goal

@@ -1,5 +1,5 @@
 use Rattle.std.proofs.Common.{◌≡◌, drop}
-use Rattle.pat_model.specs.Values.{value_at}
+use Rattle.pat_primitives.specs.Values.{value_at}
 use Rattle.pat_reduce_values.specs.ValueViews.{env_view}
 use Rattle.pat_reduce_values.proofs.evaluation.value_of.Given as goal
 

@@ -1,6 +1,6 @@
 use Rattle.std.proofs.Common.{ap, arith}
 use Rattle.pat_words.specs.Flats.{degree_of}
-use Rattle.pat_words.proofs.SizeLaws.{degree_size}
+use Rattle.pat_words_laws.proofs.SizeLaws.{degree_size}
 use Rattle.pat_patterns.specs.declared.pattern.Pattern.{Pattern}
 use Rattle.pat_patterns.specs.Views.{pattern_view}
 use Rattle.pat_residuals.proofs.reading.+degree.Goals as goal

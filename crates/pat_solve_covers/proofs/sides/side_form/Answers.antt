@@ -8,7 +8,7 @@ use Rattle.pat_inclusions.specs.ClosedForms.{closed_form}
 use Rattle.pat_linear.specs.Views.{sets_view}
 use Rattle.pat_solve_sizes.specs.Limits.{within}
 use Rattle.pat_solve_sizes.specs.Views.{measured_view, part_view, limited_view}
-use Rattle.pat_solve_replacing.specs.Replacing.{replaced_by}
+use Rattle.pat_solve_assigned.specs.Replacing.{replaced_by}
 use Rattle.pat_solve_covers.proofs.Forms.{none_of, part_is}
 use Rattle.pat_solve_covers.proofs.sides.side_form.Goals as goal
 

@@ -1,7 +1,7 @@
 use Rattle.std.proofs.Common.{◌≡◌, ℕ, ◌≤◌, ◌<◌, ◌∙◌, sym, subst, ⊎_elim, arith}
 use Rattle.std.specs.Prelude.{IsTrue}
-use Rattle.pat_model.specs.Programs.{is_among}
-use Rattle.pat_model.specs.WellFormed.{count_among}
+use Rattle.pat_model_laws.specs.Programs.{is_among}
+use Rattle.pat_model_laws.specs.WellFormed.{count_among}
 use Rattle.pat_executable.proofs.VariableSets.{once_more, small_more, added}
 use Rattle.pat_executable.proofs.variables.Variables.add.Goals as goal
 

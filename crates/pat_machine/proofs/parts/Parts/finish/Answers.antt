@@ -12,13 +12,13 @@ use Rattle.pat_commits.specs.Machines.{MachineInvariant}
 use Rattle.pat_commit_laws.proofs.Runs.{commit_within}
 use Rattle.pat_commit_laws.proofs.Rooms.{room_of, half_typed}
 use Rattle.pat_commit_laws.proofs.Tables.{allowance_within, allowances_committed}
-use Rattle.pat_naming_laws.specs.Counting.{AreCounted}
-use Rattle.pat_naming_laws.proofs.Freed.{counts_tell}
+use Rattle.pat_machine_following.specs.Counting.{AreCounted}
+use Rattle.pat_machine_following.proofs.Freed.{counts_tell}
 use Rattle.pat_machine_threads.specs.Settling.{settled_thread}
 use Rattle.pat_machine_waits.specs.Noted.{AreNoted}
-use Rattle.pat_machine_states.specs.Taking.{taken_act}
-use Rattle.pat_machine_shares.specs.Settling.{half_way, Finishes}
-use Rattle.pat_machine_shares.proofs.Settled.{run_of, kept_is, settled_run, commit_of, shared_or_none}
+use Rattle.pat_machine_following.specs.Taking.{taken_act}
+use Rattle.pat_machine_following.specs.Settling.{half_way, Finishes}
+use Rattle.pat_machine_following.proofs.Settled.{run_of, kept_is, settled_run, commit_of, shared_or_none}
 use Rattle.pat_machine.specs.Shown.{Shown, steps_in, noted_in, place_of}
 use Rattle.pat_machine.proofs.Lending.{part_lent}
 use Rattle.pat_machine.proofs.Finishing.{stands_after, noted_view, idle_so}

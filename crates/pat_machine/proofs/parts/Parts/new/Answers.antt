@@ -8,7 +8,7 @@ use Rattle.pat_commits.specs.Machines.{MachineInvariant}
 use Rattle.pat_commit_laws.proofs.Takings.{start_stands, nothing_lent}
 use Rattle.pat_machine_waits.specs.Noted.{AreNoted}
 use Rattle.pat_machine_waits.proofs.Noting.{start_noted}
-use Rattle.pat_naming_laws.specs.Counting.{AreCounted}
+use Rattle.pat_machine_following.specs.Counting.{AreCounted}
 use Rattle.pat_machine.proofs.Naming.{none_counted}
 use Rattle.pat_machine.proofs.parts.Parts.new.Goals as goal
 

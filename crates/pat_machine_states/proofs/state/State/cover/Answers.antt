@@ -3,7 +3,7 @@ use Rattle.std.proofs.lemmas.List.{length-map}
 use Rattle.pat_model.specs.Configs.{thread_at, with_thread}
 use Rattle.pat_reduce_threads.specs.ThreadViews.{frame_view, thread_view}
 use Rattle.pat_commits.specs.Tops.{below, set_over}
-use Rattle.pat_commit_laws.proofs.Locals.{there_after, with_twice}
+use Rattle.pat_locality_laws.proofs.Locals.{there_after, with_twice}
 use Rattle.pat_machine_threads.specs.Aside.{aside_view}
 use Rattle.pat_machine_states.proofs.state.State.cover.Goals as goal
 

@@ -2,7 +2,7 @@ use Rattle.std.proofs.Common.{Err, ◌≡◌, [], ◌∷◌, ◌++◌, Some, ref
 use Rattle.pat_model.specs.Steps.{ActNew, Step, step}
 use Rattle.pat_core.specs.Views.{program_view}
 use Rattle.pat_reduce_values.specs.Results.{StepGives}
-use Rattle.pat_mailboxes.specs.Mailboxes.{Contents}
+use Rattle.pat_machine_pending.specs.Mailboxes.{Contents}
 use Rattle.pat_machine_states.specs.Boxes.{state_view}
 use Rattle.pat_machine_states.proofs.Keeping.{refused, new_done}
 use Rattle.pat_machine_states.proofs.state.State.make_mailbox.Goals as goal

@@ -8,7 +8,7 @@ use Rattle.pat_reduce_threads.specs.ThreadViews.{thread_view}
 use Rattle.pat_reduce_threads.specs.GuardViews.{guard_view}
 use Rattle.pat_reduce_threads.specs.ThreadActs.{guard_at}
 use Rattle.pat_reduce.specs.Views.{act_view}
-use Rattle.pat_naming_laws.specs.Counting.{TellsAlone}
+use Rattle.pat_machine_names.specs.Counting.{TellsAlone}
 use Rattle.pat_machine_states.proofs.Reaching.{tells_guard, frees_exactly}
 use Rattle.pat_machine_states.proofs.state.State.may_free_now.Goals as goal
 

@@ -3,7 +3,7 @@ use Rattle.pat_model.specs.Configs.{thread_at}
 use Rattle.pat_model.specs.Steps.{ActReceive, message_at, step}
 use Rattle.pat_core.specs.Views.{program_view}
 use Rattle.pat_reduce_threads.specs.ThreadViews.{control_view, message_view, thread_view}
-use Rattle.pat_mailboxes.specs.Mailboxes.{Contents}
+use Rattle.pat_machine_pending.specs.Mailboxes.{Contents}
 use Rattle.pat_machine_states.specs.Boxes.{state_view}
 use Rattle.pat_machine_pending.proofs.Delivering.{live_by, within_by}
 use Rattle.pat_machine_states.proofs.Keeping.{receive_done, received_is}

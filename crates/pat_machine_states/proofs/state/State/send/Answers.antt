@@ -5,7 +5,7 @@ use Rattle.pat_model.specs.Steps.{ActSend, Step, step}
 use Rattle.pat_core.specs.Views.{program_view}
 use Rattle.pat_reduce_threads.specs.declared.state.Message.{Message}
 use Rattle.pat_reduce_values.specs.Results.{StepGives}
-use Rattle.pat_mailboxes.specs.Mailboxes.{Contents, IsLive, pending_at as pending_of}
+use Rattle.pat_machine_pending.specs.Mailboxes.{Contents, IsLive, pending_at as pending_of}
 use Rattle.pat_machine_states.specs.Boxes.{state_view}
 use Rattle.pat_machine_states.specs.Stepping.{ReferToLive}
 use Rattle.pat_machine_states.proofs.Keeping.{refused, mailbox_live, last_there, send_done}

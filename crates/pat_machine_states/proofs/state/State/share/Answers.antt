@@ -5,7 +5,7 @@ use Rattle.pat_model.specs.Steps.{message_at}
 use Rattle.pat_core.specs.Views.{program_view}
 use Rattle.pat_reduce_threads.specs.ThreadViews.{thread_view}
 use Rattle.pat_commits.specs.Tops.{below}
-use Rattle.pat_commit_laws.proofs.Exchanges.{frames_after, ordered_on_top, share_over}
+use Rattle.pat_locality_laws.proofs.Exchanges.{frames_after, ordered_on_top, share_over}
 use Rattle.pat_machine_threads.specs.Aside.{aside_view}
 use Rattle.pat_machine_states.specs.Stepping.{ReferToLive}
 use Rattle.pat_machine_states.specs.Taking.{taken_act}

@@ -1,6 +1,6 @@
 use Rattle.std.proofs.Common.{◌≡◌, Some, sym, ap, subst, arith}
 use Rattle.pat_machine_waits.specs.Waits.{sleeper_at, count_asleep}
-use Rattle.pat_commit_laws.proofs.Tables.{set_here}
+use Rattle.pat_locality_laws.proofs.Tables.{set_here}
 use Rattle.pat_machine_waits.proofs.Slept.{filled, unfilled, filled_count, within}
 use Rattle.pat_machine_waits.proofs.waits.Waits.put_to_sleep.Goals as goal
 

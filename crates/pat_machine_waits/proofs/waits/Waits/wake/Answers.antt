@@ -1,5 +1,5 @@
 use Rattle.std.proofs.Common.{◌≡◌, ℕ, Some, None, refl, sym, ap, ◌∙◌, subst, inl, inr, ⊎_elim, arith}
-use Rattle.pat_commit_laws.proofs.Tables.{set_here}
+use Rattle.pat_locality_laws.proofs.Tables.{set_here}
 use Rattle.pat_machine_waits.specs.Waits.{sleeper_at}
 use Rattle.pat_machine_waits.specs.Ascending.{Has}
 use Rattle.pat_machine_waits.proofs.Slept.{cleared, cleared_count, slept_there, uncleared, within}

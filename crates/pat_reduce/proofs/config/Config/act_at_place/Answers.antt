@@ -1,5 +1,5 @@
 use Rattle.std.proofs.Common.{ap, sym, ◌∙◌, subst}
-use Rattle.pat_core.specs.Views.{program_view}
+use Rattle.pat_reduce_threads.specs.Views.{program_view}
 use Rattle.pat_reduce.specs.Views.{act_view, config_view}
 use Rattle.pat_reduce_threads.specs.ThreadViews.{thread_view}
 use Rattle.pat_reduce.specs.Acts.{EnabledAct, IsFirst, IsLeast}

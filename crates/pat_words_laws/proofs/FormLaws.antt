@@ -3,8 +3,8 @@ use Rattle.std.proofs.Common.{◌≡◌, ℕ, zero, suc, true, ◌||◌, inl, in
 use Rattle.std.proofs.lemmas.Bool.{cond_both, or_cases, eq-eqb, and_from}
 use Rattle.pat_words.specs.Words.{Word, no_word, plus}
 use Rattle.pat_words.specs.Patterns.{Pat, Zero, One, Tag, Sum, Prod, Star, Var, Language, Times, InUnder, pat_eq, is_zero, is_one, star_of, subst_of}
-use Rattle.pat_words.proofs.WordLaws.{plus_none}
-use Rattle.pat_words.proofs.PatternLaws.{is_zero_same, is_one_same, sum_of_to, sum_of_from, prod_of_to, prod_of_from}
+use Rattle.pat_words_laws.proofs.WordLaws.{plus_none}
+use Rattle.pat_words_laws.proofs.PatternLaws.{is_zero_same, is_one_same, sum_of_to, sum_of_from, prod_of_to, prod_of_from}
 
 pub pat_eq_refl : (e : Pat) → pat_eq e e ≡ true
 pat_eq_refl Zero = refl

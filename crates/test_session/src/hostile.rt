@@ -1,5 +1,5 @@
 // Texts that are cut, wrong, deep, long or forged, ports that fail, and runs that are read again.
-use crate::calls::{answer, expect};
+use crate::pieces::{answer, expect};
 use std::alloc::Global;
 use std::process::Abort;
 use std::sync::Wait;

@@ -1,7 +1,7 @@
 use Rattle.pat_words.specs.Patterns.{In, no_values}
-use Rattle.pat_words.proofs.PatternLaws.{pat_eq_same, sum_of_to, sum_of_from, prod_of_to, prod_of_from}
-use Rattle.pat_words.proofs.FormLaws.{same_pat_eq, star_of_to, star_of_from, subst_to, subst_from}
-use Rattle.pat_words.proofs.form_laws.Goals as goal
+use Rattle.pat_words_laws.proofs.PatternLaws.{pat_eq_same, sum_of_to, sum_of_from, prod_of_to, prod_of_from}
+use Rattle.pat_words_laws.proofs.FormLaws.{same_pat_eq, star_of_to, star_of_from, subst_to, subst_from}
+use Rattle.pat_words_laws.proofs.form_laws.Goals as goal
 
 pub returns : goal.returns
 returns c = record {

@@ -1,4 +1,4 @@
-// Calls over memory.
+// Calls over memory on a line of words, in pieces of several sizes.
 ghost use Rattle.std.specs.Prelude.{◌<◌};
 
 use pat_ports::{MemSink, MemSource, OpenGate};

@@ -1,8 +1,0 @@
-use Rattle.pat_words.proofs.SizeLaws.{levels_some, levels_size, degree_size}
-use Rattle.pat_words.proofs.size_laws.Goals as goal
-
-pub returns : goal.returns
-returns c = record {
-  levels = λ e. (levels_some e, levels_size e);
-  degree = degree_size;
-}
