@@ -44,11 +44,9 @@ pub fn names_of(
 fn listed(alloc: Global, names: Stack<u32>) -> Result<Sequence<u32>, AllocError>
     ensures { IfOk result (λ list. list ≡ names) }
 {
-    let mut left = names;
     let mut list = Sequence::new(alloc);
-    while let Some(name) = left.pop() {
-        list.push(name)?;
-    }
+    list.items.extend_from_slice(names.as_slice())?;
+    list.items.reverse();
     Ok(list)
 }
 
@@ -68,11 +66,14 @@ fn add_names(
     Ok(())
 }
 
-/// The names, with one more.
+/// The names, with one more. Names mostly come in descending order, and then none has to be lifted.
 #[tactic(auto, using(crate::proofs::Naming::name_added))]
 fn add_name(alloc: Global, names: &mut Stack<u32>, variable: u32) -> Result<(), AllocError>
     ensures { OnOk result (names.new ≡ add variable names.old) }
 {
+    if !is_lesser_on_top(names, variable) {
+        return put_on_top(names, variable);
+    }
     let lesser = lift_lesser(alloc, names, variable)?;
     put_on_top(names, variable)?;
     put_back(lesser, names)
