@@ -1,5 +1,5 @@
 -- Demands as the definitions see them.
-use Rattle.std.specs.Prelude.{List, map, option_map}
+use Rattle.std.specs.Prelude.{List, map, option_map, option_copied}
 use Rattle.pat_types.specs.Views.{type_view, result_view}
 use Rattle.pat_validity.specs.Demands as demands
 use Rattle.pat_demands.specs.Listed as listed
@@ -9,9 +9,9 @@ use Rattle.pat_demands.specs.declared.demand.Demand.TheVariants as demand
 
 abbrev pub demand_view : Demand → demands.Demand
 demand_view (demand.Pass a b) = demands.Pass (option_map type_view a) (option_map type_view b)
-demand_view (demand.Divide a b c) = demands.Divide (option_map type_view a) (option_map type_view b) (option_map type_view c)
-demand_view (demand.There a b) = demands.There (option_map type_view a) (option_map type_view b)
-demand_view (demand.Name t o) = demands.Name (result_view t) (option_map type_view o)
+demand_view (demand.Divide a b c) = demands.Divide (option_map type_view (option_copied a)) (option_map type_view (option_copied b)) (option_map type_view (option_copied c))
+demand_view (demand.There a b) = demands.There (option_map type_view (option_copied a)) (option_map type_view (option_copied b))
+demand_view (demand.Name t o) = demands.Name (result_view t.now) (option_map type_view (option_copied o))
 
 abbrev pub demands_view : List Demand → List demands.Demand
 demands_view ds = map demand_view ds

@@ -2,9 +2,9 @@
 use pat_sequences::Sequence;
 use pat_types::{MailboxType, TypeOf};
 
-/// What a node asks of the types that it has.
+/// What a node asks of the types that it has. Those of lets are lent by the lines in which they stand.
 #[derive(Drop)]
-pub enum Demand {
+pub enum Demand<'a> {
     /// What is there, if anything, passes to what is asked, if anything.
     Pass {
         given: Option<MailboxType>,
@@ -12,19 +12,19 @@ pub enum Demand {
     },
     /// What is there is divided among the bound part and the body of a let.
     Divide {
-        given: Option<MailboxType>,
-        bound: Option<MailboxType>,
-        body: Option<MailboxType>,
+        given: Option<&'a MailboxType>,
+        bound: Option<&'a MailboxType>,
+        body: Option<&'a MailboxType>,
     },
     /// Something is there where something is asked, whatever their types are.
     There {
-        given: Option<MailboxType>,
-        asked: Option<MailboxType>,
+        given: Option<&'a MailboxType>,
+        asked: Option<&'a MailboxType>,
     },
     /// The name of a let has the bound part's type in the body, or the body does without it.
     Name {
-        bound: TypeOf,
-        body: Option<MailboxType>,
+        bound: &'a TypeOf,
+        body: Option<&'a MailboxType>,
     },
 }
 

@@ -14,5 +14,6 @@ pub use passing::{
     pass_result, pass_to_part,
 };
 pub use pat_environments::{
-    but_not, copy_of, holds, made_returnable, names_of, then_others, without,
+    copy_of, find, holds, made_returnable, names_besides, names_of, then_others, with_names_of,
+    without,
 };

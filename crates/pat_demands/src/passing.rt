@@ -1,5 +1,5 @@
 // Demands along lists of names.
-ghost use Rattle.std.specs.Prelude.{◌≡◌, ◌++◌, option_map, IfOk, OnOk};
+ghost use Rattle.std.specs.Prelude.{◌≡◌, ◌++◌, option_map, option_copied, IfOk, OnOk};
 ghost use Rattle.std.specs.Map.{keys_of};
 ghost use Rattle.pat_typing.specs.Typings.{without_name};
 ghost use Rattle.pat_open_types.specs.NodeTypes.{need_of};
@@ -14,7 +14,7 @@ ghost use Rattle.pat_demands.specs.Listed.{passes_in, divides_in, theres_in, pas
 use crate::demand::Demand;
 use crate::looking::line_of;
 use pat_derivations::Derivation;
-use pat_environments::{LookUps, but_not, names_of, then_others};
+use pat_environments::{LookUps, names_besides, names_of, others_of};
 use pat_sequences::Sequence;
 use pat_types::{MailboxType, TypeOf, Usage};
 use std::alloc::{AllocError, Global};
@@ -28,6 +28,9 @@ pub fn pass_names(
 ) -> Result<(), AllocError>
     ensures { OnOk result (demands_view out.new ≡ demands_view out.old ++ passes_in names.now (needs_view given.now) (needs_view asked.now)) }
 {
+    if names.is_empty() {
+        return Ok(());
+    }
     let from = LookUps::new(given);
     let to = LookUps::new(asked);
     let mut near = (0, 0);
@@ -41,32 +44,32 @@ pub fn pass_names(
 }
 
 /// The type of the variable, unless it is that one.
-fn copy_but(
+fn find_but<'a>(
     but: Option<u32>,
-    env: &LookUps,
+    env: &LookUps<'a>,
     near: &mut usize,
     variable: u32,
-) -> Result<Option<MailboxType>, AllocError>
-    ensures { IfOk result (λ o. option_map type_view o ≡ without_name but (need_of (needs_view env.now.env.now)) variable) }
+) -> Option<&'a MailboxType>
+    ensures { option_map type_view (option_copied result) ≡ without_name but (need_of (needs_view env.now.env.now)) variable }
 {
     match but {
-        None => env.copy_of(near, variable),
+        None => env.find(near, variable),
         Some(name) => if name == variable {
-            Ok(None)
+            None
         } else {
-            env.copy_of(near, variable)
+            env.find(near, variable)
         },
     }
 }
 
 /// Each of the names is divided among the parts of a let of this name.
-pub fn divide_names(
+pub fn divide_names<'a>(
     names: &[u32],
     but: Option<u32>,
-    given: &[(u32, MailboxType)],
-    bound: &[(u32, MailboxType)],
-    body: &[(u32, MailboxType)],
-    out: &mut Sequence<Demand>,
+    given: &'a [(u32, MailboxType)],
+    bound: &'a [(u32, MailboxType)],
+    body: &'a [(u32, MailboxType)],
+    out: &mut Sequence<Demand<'a>>,
 ) -> Result<(), AllocError>
     ensures { OnOk result (demands_view out.new ≡ demands_view out.old ++ divides_in names.now but (needs_view given.now) (needs_view bound.now) (needs_view body.now)) }
 {
@@ -76,9 +79,9 @@ pub fn divide_names(
     let mut near = (0, 0, 0);
     out.items.reserve(names.len())?;
     for name in names {
-        let given = whole.copy_of(&mut near.0, *name)?;
-        let bound = copy_but(but, &first, &mut near.1, *name)?;
-        let body = copy_but(but, &second, &mut near.2, *name)?;
+        let given = whole.find(&mut near.0, *name);
+        let bound = find_but(but, &first, &mut near.1, *name);
+        let body = find_but(but, &second, &mut near.2, *name);
         out.push(Demand::Divide { given, bound, body })?;
     }
     Ok(())
@@ -92,18 +95,17 @@ pub fn names_but(
 ) -> Result<Sequence<u32>, AllocError>
     ensures { IfOk result (λ names. names ≡ but_not_name but (keys_of (needs_view env.now))) }
 {
-    let names = names_of(alloc, env)?;
     match but {
-        None => Ok(names),
-        Some(name) => but_not(alloc, name, names.as_slice()),
+        None => names_of(alloc, env),
+        Some(name) => names_besides(alloc, name, env),
     }
 }
 
-fn there_names(
+fn there_names<'a>(
     names: &[u32],
-    given: &[(u32, MailboxType)],
-    part: &[(u32, MailboxType)],
-    out: &mut Sequence<Demand>,
+    given: &'a [(u32, MailboxType)],
+    part: &'a [(u32, MailboxType)],
+    out: &mut Sequence<Demand<'a>>,
 ) -> Result<(), AllocError>
     ensures { OnOk result (demands_view out.new ≡ demands_view out.old ++ theres_in names.now (needs_view given.now) (needs_view part.now)) }
 {
@@ -112,20 +114,20 @@ fn there_names(
     let mut near = (0, 0);
     out.items.reserve(names.len())?;
     for name in names {
-        let given = whole.copy_of(&mut near.0, *name)?;
-        let asked = own.copy_of(&mut near.1, *name)?;
+        let given = whole.find(&mut near.0, *name);
+        let asked = own.find(&mut near.1, *name);
         out.push(Demand::There { given, asked })?;
     }
     Ok(())
 }
 
 /// The names of one part of a let are there, but that of the let.
-pub fn part_there(
+pub fn part_there<'a>(
     alloc: Global,
     but: Option<u32>,
-    given: &[(u32, MailboxType)],
-    part: &[(u32, MailboxType)],
-    out: &mut Sequence<Demand>,
+    given: &'a [(u32, MailboxType)],
+    part: &'a [(u32, MailboxType)],
+    out: &mut Sequence<Demand<'a>>,
 ) -> Result<(), AllocError>
     ensures { OnOk result (demands_view out.new ≡ demands_view out.old ++ listed_part (needs_view given.now) but (needs_view part.now)) }
 {
@@ -142,9 +144,9 @@ fn pass_to_env(
 ) -> Result<(), AllocError>
     ensures { OnOk result (demands_view out.new ≡ demands_view out.old ++ passes_in (with_others names.now (keys_of (needs_view env.now))) (needs_view given.now) (needs_view env.now)) }
 {
-    let own = names_of(alloc, env)?;
-    let all = then_others(alloc, names, own.as_slice())?;
-    pass_names(all.as_slice(), given, env, out)
+    pass_names(names, given, env, out)?;
+    let others = others_of(alloc, names, env)?;
+    pass_names(others.as_slice(), given, env, out)
 }
 
 /// What is there passes to a part, those names first, and the part names no other.
@@ -174,9 +176,9 @@ pub fn pass_asked(
     ensures { OnOk result (demands_view out.new ≡ demands_view out.old ++ asks (needs_view env.now) (needs_view asked.now)) }
 {
     let first = names_of(alloc, asked)?;
-    let own = names_of(alloc, env)?;
-    let all = then_others(alloc, first.as_slice(), own.as_slice())?;
-    pass_names(all.as_slice(), env, asked, out)
+    pass_names(first.as_slice(), env, asked, out)?;
+    let others = others_of(alloc, first.as_slice(), env)?;
+    pass_names(others.as_slice(), env, asked, out)
 }
 
 /// All that is there is dropped.

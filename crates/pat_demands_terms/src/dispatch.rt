@@ -84,15 +84,15 @@ fn made(
 }
 
 /// What a term demands, where variables have these kinds and the node has this type.
-pub fn term(
+pub fn term<'a>(
     alloc: Global,
     program: &Program,
-    derivation: &Derivation,
+    derivation: &'a Derivation,
     signatures: &[Signature],
     kinds: &[Kind],
-    of: &NodeType,
+    of: &'a NodeType,
     core: &Core,
-    out: &mut Sequence<Demand>,
+    out: &mut Sequence<Demand<'a>>,
 ) -> Result<(), AllocError>
     ensures { OnOk result (demands_view out.new ≡ demands_view out.old ++ listed_term (program_view program.now) (derivation_view derivation.now) (map signature_view signatures.now) (map kind_view kinds.now) (node_type_view of.now) (core_view core.now)) }
 {

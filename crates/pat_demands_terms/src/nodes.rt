@@ -18,17 +18,17 @@ use pat_sequences::Sequence;
 use std::alloc::{AllocError, Global};
 
 /// The demands of a node of this function, in order: at the function's first node those for its parameters, and then those of
-/// the node's term. The signatures are those of the program's functions.
-pub fn demands(
+/// the node's term. The signatures are those of the program's functions. Types that lets divide are lent by the lines.
+pub fn demands<'a>(
     alloc: Global,
     program: &Program,
-    derivation: &Derivation,
+    derivation: &'a Derivation,
     signatures: &[Signature],
     number: usize,
     node: &Node,
     function: &Function,
-    line: &DerivedNode,
-) -> Result<Sequence<Demand>, AllocError>
+    line: &'a DerivedNode,
+) -> Result<Sequence<Demand<'a>>, AllocError>
     requires signatures { map signature_view signatures.now ≡ opened_from 1 (program_view program.now).functions }
     requires function { function_at (program_view program.now) node.now.function ≡ Some (function_view function.now) }
     ensures { IfOk result (λ all. demands_view all ≡ demands_at (program_view program.now) (derivation_view derivation.now) (place number (node_view node.now) (function_view function.now) (line_view line.now))) }

@@ -7,7 +7,6 @@ ghost use Rattle.pat_model.specs.Programs.{tag_at};
 ghost use Rattle.pat_core.specs.Views.{kind_view, expr_view, tag_view, clause_view, program_view};
 ghost use Rattle.pat_open_types.specs.NodeTypes.{need_of};
 ghost use Rattle.pat_types.specs.Views.{type_view, result_view, needs_view};
-ghost use Rattle.pat_validity.specs.Conditions.{but_not_name};
 ghost use Rattle.pat_demands.specs.Lists.{with_others};
 ghost use Rattle.pat_derivations.specs.Views.{line_view, derivation_view};
 ghost use Rattle.pat_demands.specs.Views.{demands_view, signature_view};
@@ -15,9 +14,10 @@ ghost use Rattle.pat_demands.specs.Listed.{listed_name, listed_named, listed_cal
 
 use pat_core::{Clause, Expr, Kind, Program, TagDecl};
 use pat_demands::{
-    Demand, Signature, but_not, clause_given, copy_of, divide_names, drop_all, kind_of, line_of,
-    names_but, names_of, params_given, part_there, pass_asked, pass_names, pass_result,
-    pass_to_part, push_arguments, signature_of, tag_of, then_others, value_asked, without,
+    Demand, Signature, clause_given, copy_of, divide_names, drop_all, find, kind_of, line_of,
+    names_besides, names_of, params_given, part_there, pass_asked, pass_names, pass_result,
+    pass_to_part, push_arguments, signature_of, tag_of, then_others, value_asked, with_names_of,
+    without,
 };
 use pat_derivations::{Derivation, DerivedNode};
 use pat_patterns::Pattern;
@@ -106,31 +106,30 @@ pub fn send_to(
 }
 
 /// The name of a let, where it is that of a mailbox.
-fn name_of_kind(
+fn name_of_kind<'a>(
     kind: Option<&Kind>,
-    bound: &TypeOf,
-    body: &[(u32, MailboxType)],
+    bound: &'a TypeOf,
+    body: &'a [(u32, MailboxType)],
     name: u32,
-    out: &mut Sequence<Demand>,
+    out: &mut Sequence<Demand<'a>>,
 ) -> Result<(), AllocError>
     ensures { OnOk result (demands_view out.new ≡ demands_view out.old ++ listed_name (option_map kind_view (option_copied kind.entry)) (result_view bound.now) (needs_view body.now) name) }
 {
     match kind {
         Some(Kind::Mailbox(_)) => {
-            let bound = bound.copy()?;
-            let body = copy_of(body, name)?;
+            let body = find(body, name);
             out.push(Demand::Name { bound, body })
         }
         _ => Ok(()),
     }
 }
 
-fn name(
+fn name<'a>(
     kinds: &[Kind],
-    bound: &DerivedNode,
-    body: &DerivedNode,
+    bound: &'a DerivedNode,
+    body: &'a DerivedNode,
     name: Option<u32>,
-    out: &mut Sequence<Demand>,
+    out: &mut Sequence<Demand<'a>>,
 ) -> Result<(), AllocError>
     ensures { OnOk result (demands_view out.new ≡ demands_view out.old ++ listed_named (map kind_view kinds.now) (line_view bound.now) (line_view body.now) name) }
 {
@@ -147,14 +146,14 @@ fn name(
 }
 
 /// A let, whose parts have these lines.
-pub fn let_in(
+pub fn let_in<'a>(
     alloc: Global,
     kinds: &[Kind],
-    env: &[(u32, MailboxType)],
+    env: &'a [(u32, MailboxType)],
     but: Option<u32>,
-    bound: Option<&DerivedNode>,
-    body: Option<&DerivedNode>,
-    out: &mut Sequence<Demand>,
+    bound: Option<&'a DerivedNode>,
+    body: Option<&'a DerivedNode>,
+    out: &mut Sequence<Demand<'a>>,
 ) -> Result<(), AllocError>
     ensures { OnOk result (demands_view out.new ≡ demands_view out.old ++ listed_let (map kind_view kinds.now) (needs_view env.now) but (option_map line_view (option_copied bound.entry)) (option_map line_view (option_copied body.entry))) }
 {
@@ -170,20 +169,20 @@ pub fn let_in(
     }
 }
 
-fn both_parts(
+fn both_parts<'a>(
     alloc: Global,
     kinds: &[Kind],
-    env: &[(u32, MailboxType)],
+    env: &'a [(u32, MailboxType)],
     but: Option<u32>,
-    bound: &DerivedNode,
-    body: &DerivedNode,
-    out: &mut Sequence<Demand>,
+    bound: &'a DerivedNode,
+    body: &'a DerivedNode,
+    out: &mut Sequence<Demand<'a>>,
 ) -> Result<(), AllocError>
     ensures { OnOk result (demands_view out.new ≡ demands_view out.old ++ listed_let (map kind_view kinds.now) (needs_view env.now) but (Some (line_view bound.now)) (Some (line_view body.now))) }
 {
     let own = names_of(alloc, env)?;
-    let first = names_with(alloc, own, but, bound.of.env.as_slice())?;
-    let all = names_with(alloc, first, but, body.of.env.as_slice())?;
+    let first = with_names_of(alloc, own, but, bound.of.env.as_slice())?;
+    let all = with_names_of(alloc, first, but, body.of.env.as_slice())?;
     divide_names(
         all.as_slice(),
         but,
@@ -193,19 +192,6 @@ fn both_parts(
         out,
     )?;
     name(kinds, bound, body, but, out)
-}
-
-/// The names, and then others that a part has, but that of its let.
-fn names_with(
-    alloc: Global,
-    names: Sequence<u32>,
-    but: Option<u32>,
-    part: &[(u32, MailboxType)],
-) -> Result<Sequence<u32>, AllocError>
-    ensures { IfOk result (λ all. all ≡ with_others names (but_not_name but (keys_of (needs_view part.now)))) }
-{
-    let own = names_but(alloc, but, part)?;
-    then_others(alloc, names.as_slice(), own.as_slice())
 }
 
 /// A receive clause of a guard.
@@ -226,8 +212,7 @@ fn clause(
         None => Ok(()),
         Some(declared) => {
             let given = clause_given(alloc, env, guarded, interface, pattern, declared, receive)?;
-            let own = names_of(alloc, env)?;
-            let others = but_not(alloc, guarded, own.as_slice())?;
+            let others = names_besides(alloc, guarded, env)?;
             let bound = binders(alloc, receive)?;
             let names = then_others(alloc, others.as_slice(), bound.as_slice())?;
             pass_to_part(
@@ -266,8 +251,7 @@ fn free(
     ensures { OnOk result (demands_view out.new ≡ demands_view out.old ++ listed_free (derivation_view derivation.now) (needs_view env.now) guarded body) }
 {
     let given = without(alloc, guarded, env)?;
-    let own = names_of(alloc, env)?;
-    let others = but_not(alloc, guarded, own.as_slice())?;
+    let others = names_besides(alloc, guarded, env)?;
     pass_to_part(
         alloc,
         derivation,
@@ -383,8 +367,7 @@ fn bodies(
 {
     if free_body.is_none() && receives.is_empty() {
         let given = without(alloc, guarded, env)?;
-        let own = names_of(alloc, env)?;
-        let others = but_not(alloc, guarded, own.as_slice())?;
+        let others = names_besides(alloc, guarded, env)?;
         return pass_names(others.as_slice(), given.as_slice(), &[], out);
     }
     clauses(
@@ -450,8 +433,7 @@ fn first_names(
     ensures { IfOk result (λ names. names ≡ with_others (range_with_len 0 count) (keys_of (needs_view env.now))) }
 {
     let parameters = numbers(alloc, count)?;
-    let own = names_of(alloc, env)?;
-    then_others(alloc, parameters.as_slice(), own.as_slice())
+    with_names_of(alloc, parameters, None, env)
 }
 
 /// The numbers below the count.

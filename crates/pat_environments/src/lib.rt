@@ -7,4 +7,4 @@ mod names;
 
 pub use entries::{ascends, copy_of, find, made_returnable, names_of, push_without, without};
 pub use lookups::LookUps;
-pub use names::{but_not, holds, others, then_others};
+pub use names::{holds, names_besides, others, others_of, then_others, with_names_of};

@@ -29,7 +29,7 @@ impl<'a> LookUps<'a> {
 
     /// The type of the variable, if it is named. Names are mostly looked up in their order, so it is first looked for at the place
     /// `near`, which then is the one behind.
-    fn find(&self, near: &mut usize, variable: u32) -> Option<&'a MailboxType>
+    pub fn find(&self, near: &mut usize, variable: u32) -> Option<&'a MailboxType>
         ensures { option_map type_view (option_copied result) ≡ need_of (needs_view self.now.env.now) variable }
     {
         match find(&self.env[..self.rising], variable) {

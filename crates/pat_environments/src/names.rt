@@ -1,10 +1,13 @@
 // Lists of names.
 ghost use Rattle.std.specs.Prelude.{◌≡◌, ◌++◌, ◌≤◌, length, take, IfOk, OnOk};
 ghost use Rattle.pat_model.specs.Programs.{is_among};
-ghost use Rattle.pat_validity.specs.Conditions.{but_not as all_but};
+ghost use Rattle.std.specs.Map.{keys_of};
+ghost use Rattle.pat_validity.specs.Conditions.{but_not as all_but, but_not_name};
+ghost use Rattle.pat_types.specs.Views.{needs_view};
 ghost use Rattle.pat_environments.specs.Lists.{others_in, with_others, NeverFalls};
 
 use pat_sequences::Sequence;
+use pat_types::MailboxType;
 use std::alloc::{AllocError, Global};
 
 /// Whether the name is in the list.
@@ -91,6 +94,77 @@ pub fn others(alloc: Global, names: &[u32], more: &[u32]) -> Result<Sequence<u32
     Ok(rest)
 }
 
+/// The names of the environment that are not in the list.
+pub fn others_of(
+    alloc: Global,
+    names: &[u32],
+    env: &[(u32, MailboxType)],
+) -> Result<Sequence<u32>, AllocError>
+    ensures { IfOk result (λ rest. rest ≡ others_in names.now (keys_of (needs_view env.now))) }
+{
+    let rising = rising_front(names);
+    let mut near = 0;
+    let mut rest = Sequence::new(alloc);
+    for (name, _) in env {
+        if !holds_near(names, rising, &mut near, *name) {
+            rest.push(*name)?;
+        }
+    }
+    Ok(rest)
+}
+
+/// The names of the environment but this one that are not in the list.
+fn others_besides(
+    alloc: Global,
+    but: u32,
+    names: &[u32],
+    env: &[(u32, MailboxType)],
+) -> Result<Sequence<u32>, AllocError>
+    ensures { IfOk result (λ rest. rest ≡ others_in names.now (all_but but (keys_of (needs_view env.now)))) }
+{
+    let rising = rising_front(names);
+    let mut near = 0;
+    let mut rest = Sequence::new(alloc);
+    for (name, _) in env {
+        if but != *name {
+            if !holds_near(names, rising, &mut near, *name) {
+                rest.push(*name)?;
+            }
+        }
+    }
+    Ok(rest)
+}
+
+/// The names of the environment that are not in the list, but this one if there is one.
+fn others_but(
+    alloc: Global,
+    but: Option<u32>,
+    names: &[u32],
+    env: &[(u32, MailboxType)],
+) -> Result<Sequence<u32>, AllocError>
+    ensures { IfOk result (λ rest. rest ≡ others_in names.now (but_not_name but (keys_of (needs_view env.now)))) }
+{
+    match but {
+        None => others_of(alloc, names, env),
+        Some(name) => others_besides(alloc, name, names, env),
+    }
+}
+
+/// The names, and then those of the environment that are not among them, but this one if there is one. Mostly there are none.
+pub fn with_names_of(
+    alloc: Global,
+    names: Sequence<u32>,
+    but: Option<u32>,
+    env: &[(u32, MailboxType)],
+) -> Result<Sequence<u32>, AllocError>
+    ensures { IfOk result (λ all. all ≡ with_others names (but_not_name but (keys_of (needs_view env.now)))) }
+{
+    let rest = others_but(alloc, but, names.as_slice(), env)?;
+    let mut all = names;
+    append(&mut all, rest.as_slice())?;
+    Ok(all)
+}
+
 /// The names of the first list, and then those of the second that are not in it.
 pub fn then_others(alloc: Global, names: &[u32], more: &[u32]) -> Result<Sequence<u32>, AllocError>
     ensures { IfOk result (λ all. all ≡ with_others names.now more.now) }
@@ -110,13 +184,17 @@ fn append(all: &mut Sequence<u32>, more: &[u32]) -> Result<(), AllocError>
     Ok(())
 }
 
-/// The names but this one.
-pub fn but_not(alloc: Global, name: u32, names: &[u32]) -> Result<Sequence<u32>, AllocError>
-    ensures { IfOk result (λ rest. rest ≡ all_but name names.now) }
+/// The names of the environment but this one.
+pub fn names_besides(
+    alloc: Global,
+    name: u32,
+    env: &[(u32, MailboxType)],
+) -> Result<Sequence<u32>, AllocError>
+    ensures { IfOk result (λ rest. rest ≡ all_but name (keys_of (needs_view env.now))) }
 {
     let mut rest = Sequence::new(alloc);
-    rest.items.reserve(names.len())?;
-    for own in names {
+    rest.items.reserve(env.len())?;
+    for (own, _) in env {
         if name != *own {
             rest.push(*own)?;
         }

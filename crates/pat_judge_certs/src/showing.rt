@@ -11,6 +11,7 @@ ghost use Rattle.pat_core.specs.Views.{program_view};
 ghost use Rattle.pat_derivations.specs.Views.{cert_view, certs_view, derivation_view};
 ghost use Rattle.pat_demands.specs.Views.{demand_view, demands_view};
 ghost use Rattle.pat_judge_certs.specs.Plain.{all_plain};
+ghost use Rattle.pat_judge_certs.specs.Views.{side_view};
 ghost use Rattle.pat_judge_certs.specs.Shown.{Takes, Leaves};
 
 use crate::covers::cover_shows;
@@ -112,25 +113,20 @@ fn shown(
     requires well { WellFormed (program_view program.now) }
     requires values { IsTrue (values_fit (scope_of (program_view program.now) (derivation_view derivation.now))) }
     requires plain { patterns_view plain.now ≡ all_plain (derivation_view derivation.now).vars }
-    ensures { IfOk result (Takes (scope_of (program_view program.now) (derivation_view derivation.now)) needed.now.interface (pattern_view needed.now.left) (pattern_view needed.now.right) (certs_view certs.now)) }
+    ensures { IfOk result (Takes (scope_of (program_view program.now) (derivation_view derivation.now)) needed.now.interface (side_view needed.now.left) (pattern_view needed.now.right.now) (certs_view certs.now)) }
 {
     match needed.interface {
         None => Ok(Outcome::NotShown),
         Some(interface) => {
-            if !is_formed(program, derivation, interface, &needed.left)
-                || !is_formed(program, derivation, interface, &needed.right)
+            let left = needed.left.as_pattern();
+            let right = needed.right;
+            if !is_formed(program, derivation, interface, left)
+                || !is_formed(program, derivation, interface, right)
             {
                 return Ok(Outcome::NotShown);
             }
             shown_in(
-                alloc,
-                program,
-                derivation,
-                plain,
-                interface,
-                &needed.left,
-                &needed.right,
-                certs,
+                alloc, program, derivation, plain, interface, left, right, certs,
             )
         }
     }

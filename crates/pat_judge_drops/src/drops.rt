@@ -1,5 +1,5 @@
 // What is not passed on may be dropped.
-ghost use Rattle.std.specs.Prelude.{◌≡◌, None, option_map};
+ghost use Rattle.std.specs.Prelude.{◌≡◌, None, option_map, option_copied};
 ghost use Rattle.std.specs.List.{list_all};
 ghost use Rattle.pat_patterns.specs.Views.{pattern_view};
 ghost use Rattle.pat_primitives.specs.Views.{polarity_view};
@@ -42,10 +42,10 @@ fn dropped_well(program: &Program, derivation: &Derivation, tests: &Tests, deman
 {
     match demand {
         Demand::Pass { given, asked } => {
-            asked.is_some() || may_drop(program, derivation, tests, given)
+            asked.is_some() || may_drop(program, derivation, tests, given.as_ref())
         }
         Demand::Divide { given, bound, body } => {
-            bound.is_some() || body.is_some() || may_drop(program, derivation, tests, given)
+            bound.is_some() || body.is_some() || may_drop(program, derivation, tests, *given)
         }
         Demand::There { .. } => true,
         Demand::Name { bound, body } => {
@@ -59,10 +59,10 @@ fn may_drop(
     program: &Program,
     derivation: &Derivation,
     tests: &Tests,
-    of: &Option<MailboxType>,
+    of: Option<&MailboxType>,
 ) -> bool
     requires { IsTested (scope_of (program_view program.now) (derivation_view derivation.now)) tests.now }
-    ensures { result ≡ is_dropped_well (scope_of (program_view program.now) (derivation_view derivation.now)) (Pass (option_map type_view of.now) None) }
+    ensures { result ≡ is_dropped_well (scope_of (program_view program.now) (derivation_view derivation.now)) (Pass (option_map type_view (option_copied of.entry)) None) }
 {
     match of {
         None => true,

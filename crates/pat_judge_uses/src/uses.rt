@@ -1,5 +1,5 @@
 // What is used is there, and is used as it may be.
-ghost use Rattle.std.specs.Prelude.{◌≡◌, option_map};
+ghost use Rattle.std.specs.Prelude.{◌≡◌, option_map, option_copied};
 ghost use Rattle.std.specs.List.{list_all};
 ghost use Rattle.pat_primitives.specs.Views.{polarity_view};
 ghost use Rattle.pat_types.specs.Views.{type_view, result_view};
@@ -29,9 +29,9 @@ fn used_well(demand: &Demand) -> bool
 {
     match demand {
         Demand::Pass { given, asked } => passed_well(given, asked),
-        Demand::Divide { given, bound, body } => divided_well(given, bound, body),
+        Demand::Divide { given, bound, body } => divided_well(*given, *bound, *body),
         Demand::There { given, asked } => given.is_some() || asked.is_none(),
-        Demand::Name { bound, body } => named_well(bound, body),
+        Demand::Name { bound, body } => named_well(bound, *body),
     }
 }
 
@@ -48,11 +48,11 @@ fn passed_well(given: &Option<MailboxType>, asked: &Option<MailboxType>) -> bool
 }
 
 fn divided_well(
-    given: &Option<MailboxType>,
-    bound: &Option<MailboxType>,
-    body: &Option<MailboxType>,
+    given: Option<&MailboxType>,
+    bound: Option<&MailboxType>,
+    body: Option<&MailboxType>,
 ) -> bool
-    ensures { result ≡ is_used_well (Divide (option_map type_view given.now) (option_map type_view bound.now) (option_map type_view body.now)) }
+    ensures { result ≡ is_used_well (Divide (option_map type_view (option_copied given.entry)) (option_map type_view (option_copied bound.entry)) (option_map type_view (option_copied body.entry))) }
 {
     match given {
         None => bound.is_none() && body.is_none(),
@@ -70,8 +70,8 @@ fn divided_well(
 }
 
 /// Whether the name of a let has in the body the type that it is bound with.
-fn named_well(bound: &TypeOf, body: &Option<MailboxType>) -> bool
-    ensures { result ≡ is_used_well (Name (result_view bound.now) (option_map type_view body.now)) }
+fn named_well(bound: &TypeOf, body: Option<&MailboxType>) -> bool
+    ensures { result ≡ is_used_well (Name (result_view bound.now) (option_map type_view (option_copied body.entry))) }
 {
     match body {
         None => true,

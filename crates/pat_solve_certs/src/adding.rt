@@ -72,7 +72,8 @@ fn push_certificate(
         // It is of an interface.
         None => unreachable!(),
         Some(interface) => {
-            match certificate(alloc, solved, interface, &needed.left, &needed.right)? {
+            let left = needed.left.as_pattern();
+            match certificate(alloc, solved, interface, left, needed.right)? {
                 None => Ok(()),
                 Some(cert) => certs.push(cert),
             }

@@ -7,6 +7,7 @@ use Rattle.pat_core.specs.Views.{program_view}
 use Rattle.pat_derivations.specs.Views.{certs_view, derivation_view}
 use Rattle.pat_demands.specs.Views.{demand_view}
 use Rattle.pat_judge_certs.specs.Shown.{Takes}
+use Rattle.pat_judge_certs.specs.Views.{side_view}
 use Rattle.pat_judge_certs.specs.declared.showing.Outcome.TheVariants as outcome
 use Rattle.pat_judge_certs.proofs.Taken.{leaves_rest}
 use Rattle.pat_judge_certs.proofs.showing.after.Goals as goal
@@ -19,6 +20,6 @@ returns c =
     let cs = c.args.certs.now in
     let some : c.in_ok-inclusion_of.field-0 ≡ Some needed = search rules in
     let how : c.in_ok-shown-in-Some.field-0 ≡ outcome.ByNext = search rules in
-    let takes = subst (Takes s needed.interface (pattern_view needed.left) (pattern_view needed.right) (certs_view cs)) how c.in_ok-shown-in-Some.ensures in
-    let own : (record { interface = needed.interface; left = pattern_view needed.left; right = pattern_view needed.right }) ∷ [] ≡ qs = search rules in
+    let takes = subst (Takes s needed.interface (side_view needed.left) (pattern_view needed.right.now) (certs_view cs)) how c.in_ok-shown-in-Some.ensures in
+    let own : (record { interface = needed.interface; left = side_view needed.left; right = pattern_view needed.right.now }) ∷ [] ≡ qs = search rules in
     subst (λ l. (more : List Inclusion) → are_shown_of s (qs ++ more) (certs_view cs) ≡ are_shown_of s more (certs_view l)) (sym c.but_first.ensures) (leaves_rest s _ qs cs own takes)
