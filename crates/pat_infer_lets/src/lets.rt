@@ -1,20 +1,21 @@
 // Lets whose body has been walked, and lets whose parts have been.
 ghost use Rattle.std.specs.Prelude.{◌≡◌, ◌+◌, length, option_map, IfOk};
+ghost use Rattle.std.specs.List.{list_all};
+ghost use Rattle.std.specs.Map.{keys_of};
 ghost use Rattle.pat_model.specs.Programs.{node_at};
 ghost use Rattle.pat_open_types.specs.NodeTypes.{need_of};
-ghost use Rattle.pat_inference.specs.Constraints.{AtNode, OrderRule, DoubleRule, each_unless, unless};
+ghost use Rattle.pat_inference.specs.Constraints.{AtNode, OrderRule, DoubleRule, each_unless};
 ghost use Rattle.pat_inference.specs.Needs.{names_of_two};
 ghost use Rattle.pat_inference.specs.BothParts.{in_order, one_receives};
 ghost use Rattle.pat_inference.specs.Walk.{asked_as as asked_as_of, asked_of as asked_of_node, name_need};
 ghost use Rattle.pat_core.specs.Views.{kind_view, program_view};
 ghost use Rattle.pat_types.specs.Views.{type_view, result_view, needs_view};
-ghost use Rattle.pat_infer_problems.specs.Results.{Meets, first_of};
+ghost use Rattle.pat_infer_problems.specs.Results.{Meets};
 ghost use Rattle.pat_infer_needs.specs.Combining.{need_ref};
 ghost use Rattle.pat_infer_lets.specs.Lets.{own_let};
 ghost use Rattle.pat_infer_problems.specs.Walked.{Infers};
 
 use pat_core::{Kind, Program};
-use pat_infer_names::names_of_parts;
 use pat_infer_needs::{find, find_next, first_place, gather_parts, is_receiver, is_second};
 use pat_infer_problems::{InferError, Problem, Rule, check_node};
 use pat_patterns::Pattern;
@@ -86,14 +87,13 @@ pub fn join_let(
 ) -> Result<Sequence<(u32, MailboxType)>, InferError>
     ensures { Infers program.now problem.old problem.new result (own_let node (1 + length problem.old.vars) (needs_view bound.now) (needs_view body.now)) }
 {
-    check_order(alloc, program, node, bound, body)?;
-    check_double(alloc, program, node, bound, body)?;
+    check_order(program, node, bound, body)?;
+    check_double(program, node, bound, body)?;
     let needs = gather_parts(alloc, program, node, bound, body, problem)?;
     Ok(needs)
 }
 
 fn check_order(
-    alloc: Global,
     program: &Program,
     node: u32,
     bound: &[(u32, MailboxType)],
@@ -101,22 +101,16 @@ fn check_order(
 ) -> Result<(), InferError>
     ensures { Meets program.now result (each_unless (λ z. in_order (need_of (needs_view bound.now) z) (need_of (needs_view body.now) z)) OrderRule (λ z. AtNode node) (names_of_two (needs_view bound.now) (needs_view body.now))) }
 {
-    let names = names_of_parts(alloc, bound, body)?;
-    let holds = are_in_order(node, names.as_slice(), bound, body);
-    check_node(program, holds, Rule::Order, node)
+    check_node(program, are_in_order(bound, body), Rule::Order, node)
 }
 
-fn are_in_order(
-    node: u32,
-    names: &[u32],
-    bound: &[(u32, MailboxType)],
-    body: &[(u32, MailboxType)],
-) -> bool
-    ensures { first_of (unless result OrderRule (AtNode node)) ≡ first_of (each_unless (λ z. in_order (need_of (needs_view bound.now) z) (need_of (needs_view body.now) z)) OrderRule (λ z. AtNode node) names.now) }
+/// Whether the needs of both parts are in order. Only those of the bound part are looked at, since others are.
+fn are_in_order(bound: &[(u32, MailboxType)], body: &[(u32, MailboxType)]) -> bool
+    ensures { result ≡ list_all (λ z. in_order (need_of (needs_view bound.now) z) (need_of (needs_view body.now) z)) (keys_of (needs_view bound.now)) }
 {
     let mut in_bound = first_place();
     let mut in_body = first_place();
-    for name in names {
+    for (name, _) in bound {
         let one = find_next(bound, &mut in_bound, *name);
         let other = find_next(body, &mut in_body, *name);
         if !is_in_order(one, other) {
@@ -137,7 +131,6 @@ fn is_in_order(bound: Option<&MailboxType>, body: Option<&MailboxType>) -> bool
 }
 
 fn check_double(
-    alloc: Global,
     program: &Program,
     node: u32,
     bound: &[(u32, MailboxType)],
@@ -145,22 +138,16 @@ fn check_double(
 ) -> Result<(), InferError>
     ensures { Meets program.now result (each_unless (λ z. one_receives (need_of (needs_view bound.now) z) (need_of (needs_view body.now) z)) DoubleRule (λ z. AtNode node) (names_of_two (needs_view bound.now) (needs_view body.now))) }
 {
-    let names = names_of_parts(alloc, bound, body)?;
-    let holds = receive_once(node, names.as_slice(), bound, body);
-    check_node(program, holds, Rule::Double, node)
+    check_node(program, receive_once(bound, body), Rule::Double, node)
 }
 
-fn receive_once(
-    node: u32,
-    names: &[u32],
-    bound: &[(u32, MailboxType)],
-    body: &[(u32, MailboxType)],
-) -> bool
-    ensures { first_of (unless result DoubleRule (AtNode node)) ≡ first_of (each_unless (λ z. one_receives (need_of (needs_view bound.now) z) (need_of (needs_view body.now) z)) DoubleRule (λ z. AtNode node) names.now) }
+/// Whether one part at most receives from each variable. Only those of the bound part are looked at, since of others it is so.
+fn receive_once(bound: &[(u32, MailboxType)], body: &[(u32, MailboxType)]) -> bool
+    ensures { result ≡ list_all (λ z. one_receives (need_of (needs_view bound.now) z) (need_of (needs_view body.now) z)) (keys_of (needs_view bound.now)) }
 {
     let mut in_bound = first_place();
     let mut in_body = first_place();
-    for name in names {
+    for (name, _) in bound {
         let one = find_next(bound, &mut in_bound, *name);
         let other = find_next(body, &mut in_body, *name);
         if !receives_once(one, other) {
