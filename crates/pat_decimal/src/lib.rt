@@ -11,6 +11,11 @@ use std::alloc::AllocError;
 pub fn push_number(text: &mut Vec<u8>, n: u64) -> Result<(), AllocError>
     ensures { OnOk result (text.new.items ≡ text.old.items ++ decimal n) }
 {
+    if n < 10 {
+        // Most numbers of a history are that small.
+        text.push(b'0' + n as u8)?;
+        return Ok(());
+    }
     let mut digits = Buffer::new();
     text.extend_from_slice(digits.format(n).as_bytes())?;
     Ok(())
