@@ -2,8 +2,10 @@
 use Rattle.std.specs.Prelude.{ℕ, Bool, true, false, ◌&&◌, nat_eq, if◌then◌else◌, List, [], ◌∷◌, length, Option, Some, None, option_map, option_and_then, find}
 use Rattle.pat_model.specs.Values.{Value, Const, Mailbox, BoolConst, Env, value_at, eval, eval_all, line_of}
 use Rattle.pat_model.specs.Programs.{Program, Function, Clause, Core, Val, Let, Call, If, Print, New, Send, Spawn, Guard, function_at}
-use Rattle.pat_model.specs.Configs.{Control, Thread, Frame, Message}
+use Rattle.pat_model.specs.Configs.{Control, Running, Returned, Thread, Frame, Message}
 use Rattle.pat_model.specs.Steps.{Redex, At, Done, Nowhere, at_node, thread_of, resume, frame_of, numbered, clause_for, received}
+use Rattle.pat_reduce_threads.specs.declared.state.Frame.{Frame as CodeFrame}
+use Rattle.pat_reduce_threads.specs.ThreadViews.{frame_view}
 
 -- the value, where it is one or an expression that has one
 abbrev pub redex_value : Redex → Option Value
@@ -20,6 +22,15 @@ resumed p (f ∷ frames) v = Some (resume p f frames v)
 abbrev pub opened : Program → Redex → Option (Frame × Control)
 opened p (At (Let y m n) env) = Some (frame_of p y n env, at_node p m env)
 opened p _ = None
+
+-- before a node a control goes to another one, with its part of the values
+abbrev pub moved_to : Program → ℕ → Control → Control
+moved_to p m (Running n env) = at_node p m env
+moved_to p m (Returned v) = Returned v
+
+-- a frame, and the control that goes to a node
+abbrev pub opened_view : Program → Control → CodeFrame × ℕ → Frame × Control
+opened_view p k q = (frame_view q.0, moved_to p q.1 k)
 
 -- the control that a call goes on with
 abbrev pub entered : Program → Option Function → Option Env → Option Control

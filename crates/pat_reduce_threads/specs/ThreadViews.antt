@@ -15,10 +15,6 @@ control_view (CodeReturned v) = Returned (value_view v)
 abbrev pub frame_view : CodeFrame → Frame
 frame_view f = record { var = f.var; body = f.body; env = env_view f.env }
 
--- a frame and a control
-abbrev pub opened_view : CodeFrame × CodeControl → Frame × Control
-opened_view q = (frame_view q.0, control_view q.1)
-
 abbrev pub thread_view : ThreadState → Thread
 thread_view s = record { control = control_view s.control; frames = map frame_view s.frames }
 

@@ -9,7 +9,7 @@ ghost use Rattle.pat_reduce_threads.specs.GuardViews.{guard_view};
 ghost use Rattle.pat_reduce_threads.specs.ThreadActs.{guard_at, guarding, message_in, takes, clause_takes, takes_option, first_taken, received_by, received_of, redex_received};
 ghost use Rattle.pat_reduce_values.specs.Results.{Gives};
 
-use crate::nodes::{core_of, node_with};
+use crate::nodes::{core_of, node_of};
 use crate::{Control, Message};
 use pat_core::{Clause, Core};
 use pat_reduce_values::{Executable, StepError, Value, ValueRef, bind, bind_all, copied, value_of};
@@ -165,7 +165,7 @@ pub fn go_on_with(
                 return Err(StepError::Disabled);
             }
             let env = received_env(alloc, guard.env, clause, message)?;
-            Ok(node_with(alloc, code, clause.body, env.as_slice())?)
+            Ok(node_of(code, clause.body, env))
         }
         None => Err(StepError::Disabled),
     }

@@ -5,10 +5,12 @@ ghost use Rattle.pat_model.specs.Steps.{at_node};
 ghost use Rattle.pat_core.specs.Views.{core_view, function_view, program_view};
 ghost use Rattle.pat_reduce_values.specs.ValueViews.{env_view};
 ghost use Rattle.pat_reduce_threads.specs.ThreadViews.{control_view};
+ghost use Rattle.pat_reduce_threads.specs.ThreadActs.{moved_to};
 
 use crate::Control;
 use pat_core::{Core, Function};
-use pat_reduce_values::{Executable, Value, kept};
+use pat_reduce_values::{Executable, Value, keep_free, kept};
+use pat_sequences::Sequence;
 use std::alloc::{AllocError, Global};
 
 /// The term of a node.
@@ -36,4 +38,26 @@ pub fn node_with(
 {
     let env = kept(alloc, code, node, env)?;
     Ok(Control::Node { node, env })
+}
+
+/// The node with its part of these values. It takes no memory.
+pub fn node_of(code: &Executable, node: u32, env: Sequence<(u32, Value)>) -> Control
+    ensures { control_view result ≡ at_node (program_view code.now.program) node (env_view env) }
+{
+    let mut env = env;
+    keep_free(code, node, &mut env);
+    Control::Node { node, env }
+}
+
+/// A control before a node goes to another one, with its part of the values. It takes no memory.
+pub fn move_to(code: &Executable, node: u32, control: &mut Control)
+    ensures { control_view control.new ≡ moved_to (program_view code.now.program) node (control_view control.old) }
+{
+    match control {
+        Control::Node { node: own, env } => {
+            keep_free(code, node, env);
+            *own = node;
+        }
+        Control::Returned(_) => {}
+    }
 }

@@ -5,12 +5,13 @@ ghost use Rattle.pat_model.specs.Programs.{core_at, function_at};
 ghost use Rattle.pat_model.specs.Steps.{local_step, numbered, redex, frame_of, at_node};
 ghost use Rattle.pat_core.specs.Views.{core_view, expr_view, function_view, program_view};
 ghost use Rattle.pat_reduce_values.specs.ValueViews.{value_view, reference_view, env_view};
-ghost use Rattle.pat_reduce_threads.specs.ThreadViews.{control_view, frame_view, thread_view, opened_view};
-ghost use Rattle.pat_reduce_threads.specs.ThreadActs.{redex_value, resumed, opened, entered, chosen, jumped, other_local, redex_line, is_over_at};
+ghost use Rattle.pat_reduce_threads.specs.ThreadViews.{control_view, frame_view, thread_view};
+ghost use Rattle.pat_reduce_threads.specs.ThreadActs.{redex_value, resumed, opened, opened_view, entered, chosen, jumped, other_local, redex_line, is_over_at};
 ghost use Rattle.pat_reduce_values.specs.Results.{Gives, StepGives};
 
-use crate::nodes::{core_of, function_of, node_with};
+use crate::nodes::{core_of, function_of, move_to, node_of, node_with};
 use crate::{Control, Frame, ThreadState};
+use itoa::Buffer;
 use pat_core::{Core, Expr, Function};
 use pat_reduce_values::{
     Executable, StepError, Value, ValueRef, bound, evaluate, kept_but, parameters, value_for,
@@ -56,7 +57,7 @@ fn resume(
     let control = match state.frames.top() {
         Some(frame) => {
             let env = bound(alloc, frame.env.as_slice(), frame.var, value)?;
-            node_with(alloc, code, frame.body, env.as_slice())?
+            node_of(code, frame.body, env)
         }
         None => return Err(StepError::Disabled),
     };
@@ -70,9 +71,9 @@ fn go_on(alloc: Global, code: &Executable, state: &mut ThreadState) -> Result<()
     ensures { StepGives thread_view (other_local (program_view code.now.program) (redex (program_view code.now.program) (control_view state.old.control)) (map frame_view state.old.frames)) state.old state.new result }
 {
     match open(alloc, code, &state.control) {
-        Ok((frame, control)) => {
+        Ok((frame, bound)) => {
             state.frames.push(frame)?;
-            state.control = control;
+            move_to(code, bound, &mut state.control);
             Ok(())
         }
         Err(StepError::Disabled) => {
@@ -83,15 +84,15 @@ fn go_on(alloc: Global, code: &Executable, state: &mut ThreadState) -> Result<()
     }
 }
 
-// The frame that a `let` puts on top, and the control that it goes on with.
-fn open(alloc: Global, code: &Executable, control: &Control) -> Result<(Frame, Control), StepError>
-    ensures { Gives opened_view (opened (program_view code.now.program) (redex (program_view code.now.program) (control_view control.now))) result }
+// The frame that a `let` puts on top, and the node that it goes on with.
+fn open(alloc: Global, code: &Executable, control: &Control) -> Result<(Frame, u32), StepError>
+    ensures { Gives (opened_view (program_view code.now.program) (control_view control.now)) (opened (program_view code.now.program) (redex (program_view code.now.program) (control_view control.now))) result }
 {
     match control {
         Control::Node { node, env } => match core_of(code, *node) {
             Some(Core::Let { var, bound, body }) => {
                 let frame = waiting(alloc, code, *var, *body, env.as_slice())?;
-                Ok((frame, node_with(alloc, code, *bound, env.as_slice())?))
+                Ok((frame, *bound))
             }
             _ => Err(StepError::Disabled),
         },
@@ -162,7 +163,7 @@ fn node_with_parameters(
     ensures { Gives control_view (option_map (at_node (program_view code.now.program) node) (option_map (numbered 0) (eval_all (env_view env.now) (map expr_view args.now)))) result }
 {
     match parameters(alloc, args, env) {
-        Ok(own) => Ok(node_with(alloc, code, node, own.as_slice())?),
+        Ok(own) => Ok(node_of(code, node, own)),
         Err(error) => Err(error),
     }
 }
@@ -205,8 +206,8 @@ fn line_for(alloc: Global, value: ValueRef<'_>) -> Result<Text, StepError>
 {
     match value {
         ValueRef::Int(n) => {
-            let line = n.to_string(alloc)?;
-            Ok(Text::from_slice(alloc, line.as_bytes())?)
+            let mut digits = Buffer::new();
+            Ok(Text::from_slice(alloc, digits.format(n).as_bytes())?)
         }
         ValueRef::Bool(true) => Ok(Text::from_slice(alloc, b"true")?),
         ValueRef::Bool(false) => Ok(Text::from_slice(alloc, b"false")?),

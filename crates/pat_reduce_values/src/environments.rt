@@ -1,5 +1,5 @@
 // Environments: values of variables, in ascending order of variable.
-ghost use Rattle.std.specs.Prelude.{◌≡◌, length, map, slice_get, IfOk, OnOk};
+ghost use Rattle.std.specs.Prelude.{◌≡◌, [], ◌∷◌, ◌++◌, length, map, slice_get, IfOk, OnOk};
 ghost use Rattle.pat_primitives.specs.Values.{bind, bind_all};
 ghost use Rattle.pat_primitives.specs.Programs.{keep};
 ghost use Rattle.pat_primitives.specs.Steps.{bind_name};
@@ -24,7 +24,7 @@ pub fn kept(
     let mut own = Sequence::new(alloc);
     for entry in env {
         if code.is_free(entry.0, node) {
-            own.push((entry.0, entry.1.copy(alloc)?))?;
+            push_copy(alloc, &mut own, entry)?;
         }
     }
     Ok(own)
@@ -43,21 +43,42 @@ pub fn kept_but(
     let mut own = Sequence::new(alloc);
     for entry in env {
         if code.is_free(entry.0, node) && var != Some(entry.0) {
-            own.push((entry.0, entry.1.copy(alloc)?))?;
+            push_copy(alloc, &mut own, entry)?;
         }
     }
     Ok(own)
+}
+
+fn push_copy(
+    alloc: Global,
+    own: &mut Sequence<(u32, Value)>,
+    entry: &(u32, Value),
+) -> Result<(), AllocError>
+    ensures { OnOk result (env_view own.new ≡ env_view own.old ++ (entry.now.0, value_view entry.now.1) ∷ []) }
+{
+    let value = entry.1.copy(alloc)?;
+    own.items.reserve(1)?;
+    own.items.push_reserved((entry.0, value));
+    Ok(())
 }
 
 /// A second environment, the same.
 pub fn copied(alloc: Global, env: &[(u32, Value)]) -> Result<Sequence<(u32, Value)>, AllocError>
     ensures { IfOk result (λ r. env_view r ≡ env_view env.now) }
 {
-    let mut own = Sequence::new(alloc);
+    let mut own = Vec::new(alloc);
+    own.reserve(env.len())?;
     for entry in env {
-        own.push((entry.0, entry.1.copy(alloc)?))?;
+        own.push_reserved((entry.0, entry.1.copy(alloc)?));
     }
-    Ok(own)
+    Ok(Sequence::from_vec(own))
+}
+
+/// Leaves the values of just the node's free variables. It takes no memory.
+pub fn keep_free(code: &Executable, node: u32, env: &mut Sequence<(u32, Value)>)
+    ensures { env_view env.new ≡ keep (program_view code.now.program) node (env_view env.old) }
+{
+    env.items.retain(|entry| code.is_free(entry.0, node));
 }
 
 /// The environment where the variable, if there is one, has this value.

@@ -124,7 +124,11 @@ fn push_parameter(
     ensures { OnOk result (env_view values.new ≡ env_view values.old ++ parameter number (value_view value)) }
 {
     match u32::try_from(number) {
-        Ok(variable) => values.push((variable, value)),
+        Ok(variable) => {
+            values.items.reserve(1)?;
+            values.items.push_reserved((variable, value));
+            Ok(())
+        }
         Err(_) => Ok(()),
     }
 }

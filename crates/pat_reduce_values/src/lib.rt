@@ -6,7 +6,7 @@ mod error;
 mod evaluation;
 mod values;
 
-pub use environments::{bind, bind_all, bound, copied, kept, kept_but};
+pub use environments::{bind, bind_all, bound, copied, keep_free, kept, kept_but};
 pub use error::StepError;
 pub use evaluation::{evaluate, have_values, parameters, value_for, value_of, values_of};
 pub use pat_executable::Executable;

@@ -1,14 +1,12 @@
-use Rattle.std.proofs.Common.{map, ap, ◌∙◌}
+use Rattle.std.proofs.Common.{map}
 use Rattle.pat_model.specs.Values.{eval_all}
-use Rattle.pat_model.specs.Steps.{at_node}
 use Rattle.pat_core.specs.Views.{expr_view, program_view}
 use Rattle.pat_reduce_values.specs.ValueViews.{env_view}
 use Rattle.pat_reduce_threads.specs.ThreadViews.{control_view}
 use Rattle.pat_reduce_threads.proofs.ParametersKept.{enters}
 use Rattle.pat_reduce_threads.proofs.threads.node_with_parameters.Goals as goal
 
-pub returns-in_ok-node_with-in-Ok : goal.returns-in_ok-node_with-in-Ok
-returns-in_ok-node_with-in-Ok c =
+pub returns-in-Ok : goal.returns-in-Ok
+returns-in-Ok c =
     let p = program_view c.args.code.now.program in
-    enters p c.args.node (λ x free. c.args.code.now.small x c.args.node free) (eval_all (env_view c.args.env.now) (map expr_view c.args.args.now)) (env_view c.in-Ok.own) (control_view c.in_ok-node_with-in-Ok.field-0) c.in-Ok.ensures
-    (c.in_ok-node_with-in-Ok.ensures ∙ ap (λ own. at_node p c.args.node (env_view own)) c.as_slice.ensures)
+    enters p c.args.node (λ x free. c.args.code.now.small x c.args.node free) (eval_all (env_view c.args.env.now) (map expr_view c.args.args.now)) (env_view c.in-Ok.own) (control_view c.node_of.result) c.in-Ok.ensures c.node_of.ensures
