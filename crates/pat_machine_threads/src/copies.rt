@@ -2,11 +2,11 @@
 ghost use Rattle.std.specs.Prelude.{◌≡◌, map, reverse, IfOk};
 ghost use Rattle.pat_commits.specs.Tops.{top_of};
 ghost use Rattle.pat_reduce_threads.specs.ThreadViews.{control_view, frame_view, thread_view};
-ghost use Rattle.pat_reduce_values.specs.ValueViews.{env_view};
 
 use crate::tops::top_frames;
-use pat_reduce::{Control, Frame, ThreadState, Value};
-use pat_sequences::{Sequence, Stack};
+use pat_reduce::{Control, Frame, ThreadState};
+use pat_reduce_values::copied;
+use pat_sequences::Stack;
 use std::alloc::{AllocError, Global};
 
 /// A second state, the same.
@@ -32,15 +32,15 @@ fn copy_control(alloc: Global, control: &Control) -> Result<Control, AllocError>
 {
     match control {
         Control::Node { node, env } => {
-            let env = copy_env(alloc, env.as_slice())?;
+            let env = copied(alloc, env.as_slice())?;
             Ok(Control::Node { node: *node, env })
         }
         Control::Returned(value) => Ok(Control::Returned(value.copy(alloc)?)),
     }
 }
 
-// The stack of these frames, which stand from the bottom up.
-fn copy_frames(alloc: Global, frames: &[Frame]) -> Result<Stack<Frame>, AllocError>
+/// The stack of these frames, which stand from the bottom up.
+pub(crate) fn copy_frames(alloc: Global, frames: &[Frame]) -> Result<Stack<Frame>, AllocError>
     ensures { IfOk result (λ own. map frame_view own ≡ map frame_view (reverse frames.now)) }
 {
     let mut own = Stack::new(alloc);
@@ -53,20 +53,10 @@ fn copy_frames(alloc: Global, frames: &[Frame]) -> Result<Stack<Frame>, AllocErr
 fn copy_frame(alloc: Global, frame: &Frame) -> Result<Frame, AllocError>
     ensures { IfOk result (λ f. frame_view f ≡ frame_view frame.now) }
 {
-    let env = copy_env(alloc, frame.env.as_slice())?;
+    let env = copied(alloc, frame.env.as_slice())?;
     Ok(Frame {
         var: frame.var,
         body: frame.body,
         env,
     })
-}
-
-fn copy_env(alloc: Global, env: &[(u32, Value)]) -> Result<Sequence<(u32, Value)>, AllocError>
-    ensures { IfOk result (λ own. env_view own ≡ env_view env.now) }
-{
-    let mut own = Sequence::new(alloc);
-    for entry in env {
-        own.push((entry.0, entry.1.copy(alloc)?))?;
-    }
-    Ok(own)
 }

@@ -1,15 +1,18 @@
 // Local steps of a kept thread, on a copy of its top.
-ghost use Rattle.std.specs.Prelude.{◌≡◌, IfOk};
+ghost use Rattle.std.specs.Prelude.{◌≡◌, ◌≤◌, Some, map, reverse, IfOk};
+ghost use Rattle.pat_model.specs.Steps.{resume};
 ghost use Rattle.pat_reduce_threads.specs.Views.{program_view};
-ghost use Rattle.pat_reduce_threads.specs.ThreadViews.{thread_view};
-ghost use Rattle.pat_commits.specs.Commits.{IsLocalRun};
+ghost use Rattle.pat_reduce_threads.specs.ThreadViews.{frame_view, thread_view};
+ghost use Rattle.pat_reduce_values.specs.ValueViews.{value_view};
+ghost use Rattle.pat_commits.specs.Commits.{IsLocalRun, locally};
 ghost use Rattle.pat_commits.specs.Tops.{top_of};
 ghost use Rattle.pat_machine_threads.specs.Settling.{IsRunOnTop};
 
-use crate::copies::copy_top;
+use crate::copies::{copy_frames, copy_top};
 use crate::run::run_locally;
-use pat_reduce::ThreadState;
-use pat_reduce_values::Executable;
+use crate::tops::top_frames;
+use pat_reduce::{Control, Frame, ThreadState, Value};
+use pat_reduce_values::{Executable, bound, keep_free};
 use pat_sequences::let_go;
 use std::alloc::{AllocError, Global};
 
@@ -53,7 +56,52 @@ fn run_on_top(
     ensures gone { IfOk result (λ s. s.gone ≡ gone) }
     ensures local { IfOk result (λ s. IsLocalRun (program_view code.now.program) allowance (top_of gone (thread_view kept.now)) s.steps (thread_view s.end)) }
 {
-    let mut end = copy_top(alloc, kept, gone)?;
-    let steps = run_locally(alloc, code, &mut end, allowance)?;
+    let (mut end, first) = begin(alloc, code, kept, allowance, gone)?;
+    let more = run_locally(alloc, code, &mut end, allowance - first)?;
+    let steps = first + more;
     Ok(Settled { end, gone, steps })
+}
+
+// A copy of so many frames on top of the kept state, and no step; or the first step, where a frame waits for the value that is there,
+// since then neither is copied.
+fn begin(
+    alloc: Global,
+    code: &Executable,
+    kept: &ThreadState,
+    allowance: u32,
+    gone: u32,
+) -> Result<(ThreadState, u32), AllocError>
+    ensures within { IfOk result (λ b. b.1 ≤ allowance) }
+    ensures begun { IfOk result (λ b. locally (program_view code.now.program) b.1 (top_of gone (thread_view kept.now)) ≡ Some (thread_view b.0)) }
+{
+    match &kept.control {
+        Control::Returned(value) if allowance > 0 => {
+            match top_frames(&kept.frames, gone).split_last() {
+                Some((frame, rest)) => Ok((resumed(alloc, code, value, frame, rest)?, 1)),
+                None => Ok((copy_top(alloc, kept, gone)?, 0)),
+            }
+        }
+        _ => Ok((copy_top(alloc, kept, gone)?, 0)),
+    }
+}
+
+// The frame goes on with a copy of the value, on copies of the frames below, which stand from the bottom up.
+fn resumed(
+    alloc: Global,
+    code: &Executable,
+    value: &Value,
+    frame: &Frame,
+    rest: &[Frame],
+) -> Result<ThreadState, AllocError>
+    ensures { IfOk result (λ s. thread_view s ≡ resume (program_view code.now.program) (frame_view frame.now) (map frame_view (reverse rest.now)) (value_view value.now)) }
+{
+    let value = value.copy(alloc)?;
+    let mut env = bound(alloc, frame.env.as_slice(), frame.var, value)?;
+    keep_free(code, frame.body, &mut env);
+    let control = Control::Node {
+        node: frame.body,
+        env,
+    };
+    let frames = copy_frames(alloc, rest)?;
+    Ok(ThreadState { control, frames })
 }
