@@ -1,5 +1,5 @@
 // Commits.
-ghost use Rattle.std.specs.Prelude.{◌≡◌, ℕ, ◌<◌, Some, None, IfOk, OnErr, IfErr, IsTrue};
+ghost use Rattle.std.specs.Prelude.{◌≡◌, ℕ, ◌<◌, Some, None, IfOk, OnOk, OnErr, IfErr, IsTrue};
 ghost use Rattle.pat_model.specs.Programs.{is_among};
 ghost use Rattle.pat_model.specs.Configs.{Thread as ThreadOf, thread_at};
 ghost use Rattle.pat_core.specs.Views.{program_view};
@@ -15,7 +15,7 @@ use crate::entry::{note, steps_of, take_back};
 use crate::job::{CommitRefused, Job, Receipt};
 use crate::noting::{act_of, note_threads};
 use crate::parts::Parts;
-use pat_machine_following::{list_top, share};
+use pat_machine_following::{State, list_top, share};
 use pat_machine_threads::{LocalRun, Settled, is_top, settle_top};
 use pat_reduce::Entry;
 use pat_sequences::let_go;
@@ -89,7 +89,7 @@ impl Parts {
         self.out.reserve(1)?;
         self.waits.reserve()?;
         self.names.reserve()?;
-        let named = self.named(job.thread, settled.gone)?;
+        list_named(&self.state, job.thread, settled.gone, &mut self.named)?;
         let newcomer = self.state.threads_made();
         let steps = settled.steps;
         let taken = share(
@@ -109,7 +109,7 @@ impl Parts {
             &self.names,
             job.thread,
             newcomer,
-            named.as_slice(),
+            self.named.as_slice(),
             &taken,
         );
         let shared = act_of(&taken);
@@ -125,17 +125,21 @@ impl Parts {
         let index = note(&mut self.history, entry);
         Ok(Receipt { index, entry })
     }
+}
 
-    // The mailboxes that the top of a thread names.
-    fn named(&self, thread: u32, frames: u32) -> Result<Vec<u32>, AllocError>
-        ensures { IfOk result (λ ns. (s : ThreadOf) (a : ℕ) → thread_at self.now.state thread ≡ Some s → 0 < times_in_thread a (top_of frames s) → IsTrue (is_among a ns.items)) }
-    {
-        let mut named = Vec::new(self.alloc);
-        match self.state.thread(thread) {
-            Some(kept) => list_top(kept, frames, &mut named)?,
-            None => {}
-        }
-        Ok(named)
+// Lists the mailboxes that the top of a thread names, and no others.
+fn list_named(
+    state: &State,
+    thread: u32,
+    frames: u32,
+    named: &mut Vec<u32>,
+) -> Result<(), AllocError>
+    ensures { OnOk result ((s : ThreadOf) (a : ℕ) → thread_at state.now thread ≡ Some s → 0 < times_in_thread a (top_of frames s) → IsTrue (is_among a named.new.items)) }
+{
+    named.clear();
+    match state.thread(thread) {
+        Some(kept) => list_top(kept, frames, named),
+        None => Ok(()),
     }
 }
 

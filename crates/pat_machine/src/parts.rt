@@ -33,6 +33,8 @@ pub struct Parts {
     pub lent: u64,
     /// The allowances by thread number.
     pub out: Vec<Option<u32>>,
+    /// Space for the mailboxes that a thread names before a commit.
+    pub named: Vec<u32>,
     pub last: Option<u32>,
 }
 
@@ -67,6 +69,7 @@ impl Parts {
             left: steps,
             lent: 0,
             out,
+            named: Vec::new(alloc),
             last: None,
         })
     }

@@ -120,7 +120,7 @@ note_threads-requires-clause-were c =
           (subst (λ l. AreNoted p m.state m.waits.awake.numbers.items m.waits.senders.numbers.items l) (sym c.in_ok-reserve-3.ensures.sleepers) kept.noted));
       listed =
           listed_from_top p m.state d t s.gone h.kept (thread_view s.end) a _ h.there shared run
-          (λ b some. subst (λ l. is_among b l ≡ true) (sym c.as_slice.ensures.value) (c.in_ok-named.ensures h.kept b h.there some));
+          (λ b some. subst (λ l. is_among b l ≡ true) (sym c.as_slice.ensures.value) (c.in_ok-list_named.ensures h.kept b h.there some));
       brought = c.in_ok-taken.ensures.message;
     }
 
