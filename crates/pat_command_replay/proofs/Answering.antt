@@ -11,7 +11,8 @@ use Rattle.pat_reduce.specs.declared.config.Config.{Config as CodeConfig}
 use Rattle.pat_reduce.specs.declared.history.Entry.{Entry as CodeEntry}
 use Rattle.pat_reduce.specs.Views.{config_view, entry_view}
 use Rattle.pat_commits.specs.Refusals.{IsRefusedAt}
-use Rattle.pat_lines.specs.Gives.{CodeOutcome, outcome_view}
+use Rattle.pat_machine.specs.declared.job.Outcome.{Outcome as CodeOutcome}
+use Rattle.pat_lines.specs.Gives.{outcome_view}
 use Rattle.pat_derivation_text.specs.Joined.{cut}
 use Rattle.pat_derivation_text_laws.proofs.Cutting.{CutInPieces, cut_pieces}
 use Rattle.pat_history_text.specs.HistoryText.{marker}

@@ -12,7 +12,8 @@ use Rattle.pat_reduce.specs.declared.config.Config.{Config as CodeConfig}
 use Rattle.pat_reduce.specs.declared.history.Entry.{Entry as CodeEntry}
 use Rattle.pat_reduce.specs.Views.{config_view, entry_view}
 use Rattle.pat_commits.specs.Machines.{StaysWithin}
-use Rattle.pat_run.specs.Shown.{Named, Shown, IsMachine, program_of, entries_of}
+use Rattle.pat_machine.specs.declared.job.Named.{Named}
+use Rattle.pat_run.specs.Shown.{Shown, IsMachine, program_of, entries_of}
 use Rattle.pat_run.specs.Gives.{outcome_view}
 use Rattle.pat_options.specs.declared.options.RunOptions.{RunOptions}
 use Rattle.pat_run.specs.declared.running.Finished.{Finished}

@@ -13,7 +13,7 @@ use Rattle.pat_commits.specs.Lendings.{NoneOut, SomeOut}
 use Rattle.pat_commits.specs.Turns.{IsReady, IsAtRest, IsTurn}
 use Rattle.pat_machine.specs.declared.job.Job.{Job}
 use Rattle.pat_machine.specs.declared.job.Receipt.{Receipt}
-pub use Rattle.pat_machine.specs.declared.job.Outcome.{Outcome as CodeOutcome}
+use Rattle.pat_machine.specs.declared.job.Outcome.{Outcome as CodeOutcome}
 use Rattle.pat_machine.specs.declared.job.Outcome.TheVariants as ending
 use Rattle.pat_machine.specs.declared.job.StateRefused.{StateRefused}
 use Rattle.pat_machine.specs.declared.job.StateRefused.TheVariants as state

@@ -10,7 +10,7 @@ use Rattle.pat_reduce.specs.Views.{entry_view}
 use Rattle.pat_commits.specs.Lendings.{Out}
 use Rattle.pat_commits.specs.Machines.{MachineFacts}
 use Rattle.pat_commits.specs.Lendings.{NoneOut}
-pub use Rattle.pat_machine.specs.declared.job.Named.{Named}
+use Rattle.pat_machine.specs.declared.job.Named.{Named}
 
 -- what stays the same, the configuration, the history, the steps left, the allowances that are out by thread number, and the thread last taken
 pub record Shown : Type 0 where
