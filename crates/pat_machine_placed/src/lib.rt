@@ -2,6 +2,7 @@
 #![tactic(auto)]
 
 mod copies;
+mod in_place;
 mod moves;
 mod placed;
 mod steps;

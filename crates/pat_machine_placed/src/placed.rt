@@ -1,11 +1,11 @@
 // A configuration, its threads by number.
-ghost use Rattle.std.specs.Prelude.{◌≡◌, ◌==◌, ℕ, [], ◌∷◌, ◌++◌, length, map, option_copied, option_map, IfOk, IfSome, IfNone, OnOk, OnErr};
+ghost use Rattle.std.specs.Prelude.{◌≡◌, ◌==◌, ℕ, [], ◌∷◌, ◌++◌, length, map, option_copied, option_map, IfOk, OnOk, OnErr};
 ghost use Rattle.pat_model.specs.Configs.{Thread as ThreadOf, start, thread_at, with_thread};
 ghost use Rattle.pat_core.specs.Views.{program_view};
-ghost use Rattle.pat_reduce_threads.specs.ThreadViews.{control_view, message_view, thread_view};
+ghost use Rattle.pat_reduce_threads.specs.ThreadViews.{control_view, thread_view};
 
 use pat_machine_table::Table;
-use pat_reduce::{Config, Control, Message, ThreadState};
+use pat_reduce::{Config, Control, ThreadState};
 use pat_reduce_values::Executable;
 use pat_sequences::{Text, let_go};
 use std::alloc::{AllocError, Global};
@@ -105,14 +105,6 @@ impl Placed {
         ensures { result.now ≡ self.now.printed }
     {
         self.config.printed.as_slice()
-    }
-
-    /// Takes the last message out. It takes no memory.
-    pub fn take_message(&mut self) -> Option<Message>
-        ensures some { IfSome result (λ m. (self.old.messages ≡ self.new.messages ++ message_view m ∷ []) × (self.new ≡ record self.old { messages = self.new.messages })) }
-        ensures none { IfNone result ((self.old.messages ≡ []) × (self.new ≡ self.old)) }
-    {
-        self.config.messages.pop()
     }
 
     /// A further live mailbox. An error changes nothing.

@@ -8,7 +8,7 @@ ghost use Rattle.pat_machine_placed.specs.Steps.{StepsApart};
 
 use crate::Placed;
 use crate::moves::{put_back, set_apart};
-use pat_reduce::{Step, StepError};
+use pat_reduce::{Act, Step, StepError};
 use pat_reduce_values::Executable;
 use std::alloc::Global;
 
@@ -16,6 +16,18 @@ impl Placed {
     /// Takes a step of a thread by itself, while no other one is there and no message: what is left of it goes back to its place.
     /// An error changes nothing.
     pub fn step(&mut self, alloc: Global, code: &Executable, step: &Step) -> Result<(), StepError>
+        requires room { HasRoom self.old }
+        requires none { self.old.messages ≡ [] }
+        ensures { StepsApart (program_view code.now.program) self.old (step_view step.now) self.new result }
+    {
+        match step.act {
+            Act::Print => self.print(alloc, code, step.thread),
+            _ => self.step_apart(alloc, code, step),
+        }
+    }
+
+    // The same of any step, by moving the thread out of the table.
+    fn step_apart(&mut self, alloc: Global, code: &Executable, step: &Step) -> Result<(), StepError>
         requires room { HasRoom self.old }
         requires none { self.old.messages ≡ [] }
         ensures { StepsApart (program_view code.now.program) self.old (step_view step.now) self.new result }

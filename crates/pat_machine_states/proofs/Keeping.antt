@@ -16,12 +16,13 @@ use Rattle.pat_reduce_values.specs.declared.error.StepError.TheVariants.{Disable
 use Rattle.pat_reduce_values.specs.Results.{StepGives}
 use Rattle.pat_reduce_threads.specs.declared.state.Message.{Message as CodeMessage}
 use Rattle.pat_reduce_threads.specs.ThreadViews.{message_view}
-use Rattle.pat_reduce_threads.specs.ThreadActs.{guarding, guard_at, redex_received}
-use Rattle.pat_reduce.proofs.Shared.{taken, receive_step}
+use Rattle.pat_reduce_threads.specs.ThreadActs.{guarding, guard_at, redex_message, redex_received}
+use Rattle.pat_reduce.proofs.Shared.{sent, taken, send_step, receive_step}
 use Rattle.pat_locality_laws.specs.Wakings.{mailbox_in, guarded_at, guarded}
 use Rattle.pat_machine_placed.specs.Alone.{alone, put_back, back, back_without, is_own_act, is_beside}
 use Rattle.pat_machine_placed.specs.Laws.{Frees, Sends}
 use Rattle.pat_machine_placed.proofs.Steps.{steps_alone, beside_leaves, new_leaves}
+use Rattle.pat_machine_placed.proofs.Backs.{own_there}
 use Rattle.pat_machine_placed.proofs.Sending.{send_leaves}
 use Rattle.pat_machine_placed.proofs.Freeing.{frees_alone, free_leaves}
 use Rattle.pat_pending_laws.specs.Pending.{messages_of, all_of, live_of, box_at, pending_at, AreKept}
@@ -33,14 +34,9 @@ use Rattle.pat_machine_pending.specs.Mailboxes.{Mailbox, IsLive, mailbox_at, all
 use Rattle.pat_machine_pending.specs.Boxes.{boxes_view}
 use Rattle.pat_machine_pending.specs.Deliveries.{IsDelivery}
 use Rattle.pat_machine_pending.proofs.Boxed.{pending_view, live_view, is_live, none_pending, set_view, push_view, map_get, map_remove, all_unmap, count_view}
-use Rattle.pat_machine_placed.specs.Steps.{IsTaken, StepsApart}
+use Rattle.pat_machine_placed.specs.Steps.{IsTaken, StepsApart, IsSent, SendsOut}
 use Rattle.pat_machine_states.specs.Boxes.{state_view, AreOf, IsState}
 use Rattle.pat_machine_states.specs.Stepping.{ReferToLive, mailbox_of, guarded_in}
-
-one_message : (rest : List Message) (m n : Message) → rest ++ m ∷ [] ≡ n ∷ [] → (rest ≡ []) × (m ≡ n)
-one_message [] m n h = (refl, cc)
-one_message (x ∷ []) m n h = absurd cc
-one_message (x ∷ y ∷ rest) m n h = absurd cc
 
 all_filter : {A : Type 0} (P : A → Type 0) (f : A → Bool) (xs : List A) → AllByRecursion P xs → AllByRecursion P (filter f xs)
 all_filter P f [] h = tt
@@ -235,26 +231,25 @@ module _ (p : Program) (c : Config) (latest : Option ℕ) (ms : List (Option Mai
 
   -- ---- send
 
-  module _ (t : ℕ) (e : Config) (x : IsTaken p c (record { thread = t; act = ActSend }) e) where
-    sends : Sends c x.left
-    sends = send_leaves p c x.left t x.thread x.there (inner (record { thread = t; act = ActSend }) refl e x)
+  module _ (t : ℕ) (m : CodeMessage) (d : Config) (x : IsSent p c t (message_view m) d) where
+    abbrev single : Config
+    single = alone c t x.thread []
 
-    sent_is : e.messages ≡ sends.message ∷ []
-    sent_is = ap (λ (y : Config). y.messages) x.after ∙ sends.messages
+    sends : Sends c (sent single t x.thread.frames (message_view m))
+    sends =
+        send_leaves p c (sent single t x.thread.frames (message_view m)) t x.thread x.there
+        (send_step p single t x.thread (own_there t x.thread) ∙ ap (option_map (sent single t x.thread.frames)) x.message)
 
-    pub was_sent : e.messages ≡ [] → ⊥
-    was_sent none = let both : sends.message ∷ [] ≡ [] = sym sent_is ∙ none in cc
+    message_is : message_view m ≡ sends.message
+    message_is = let both : message_view m ∷ [] ≡ sends.message ∷ [] = sends.messages in cc
 
-    module _ (ordered : IsOrdered seen) (refer : ReferToLive seen) (d : Config) (m : CodeMessage) (popped : (e.messages ≡ d.messages ++ message_view m ∷ []) × (d ≡ record e { messages = d.messages })) where
-      the_one : (d.messages ≡ []) × (message_view m ≡ sends.message)
-      the_one = one_message d.messages (message_view m) sends.message (sym popped.0 ∙ sent_is)
+    number_is : m.number ≡ c.next_message
+    number_is = ap (λ (n : Message). n.number) message_is ∙ sends.number
 
-      number_is : m.number ≡ c.next_message
-      number_is = ap (λ (n : Message). n.number) the_one.1 ∙ sends.number
-
+    module _ (ordered : IsOrdered seen) (refer : ReferToLive seen) where
       pub target_live : is_some (box_at boxes m.mailbox) ≡ true
       target_live =
-          let named : some_thread_refers seen m.mailbox ≡ true = ap (λ (n : Message). some_thread_refers seen n.mailbox) the_one.1 ∙ sends.named in
+          let named : some_thread_refers seen m.mailbox ≡ true = ap (λ (n : Message). some_thread_refers seen n.mailbox) message_is ∙ sends.named in
           sym (live_is_listed boxes m.mailbox) ∙ refer m.mailbox named
 
       pub mailbox_live : IsLive ms m.mailbox
@@ -271,7 +266,6 @@ module _ (p : Program) (c : Config) (latest : Option ℕ) (ms : List (Option Mai
       pub send_done : (ns : List (Option Mailbox)) → ns ≡ slice_set ms m.mailbox (Some (record { pending = pending_of ms m.mailbox ++ m ∷ [] }))
           → (step p seen (record { thread = t; act = ActSend }) ≡ Some (state_view d ns)) × IsState d (Some m.mailbox) ns
       send_done ns grown =
-          let k : Step = record { thread = t; act = ActSend } in
           let b = m.mailbox in
           let n = message_view m in
           let own : map message_view (pending_of ms b ++ m ∷ []) ≡ pending_at boxes b ++ n ∷ [] =
@@ -281,21 +275,23 @@ module _ (p : Program) (c : Config) (latest : Option ℕ) (ms : List (Option Mai
           let law = sends_last boxes b n target_live below in
           let messages : messages_of (boxes_view ns) ≡ messages_of boxes ++ n ∷ [] = ap messages_of view ∙ law.messages in
           let live : live_of (boxes_view ns) ≡ live_of boxes = ap live_of view ∙ law.live in
-          let came : messages_of boxes ++ x.left.messages ≡ messages_of (boxes_view ns) = ap (λ l. messages_of boxes ++ l) (sends.messages ∙ ap (λ y. y ∷ []) (sym the_one.1)) ∙ sym messages in
-          let whole : step p seen k ≡ Some (state_view d ns) =
-          put k refl e x (messages_of (boxes_view ns)) (live_of (boxes_view ns)) came (ap (λ l. live_of boxes ++ l) sends.live ∙ append-nil (live_of boxes) ∙ sym live)
-          ∙ ap (λ (y : Config). Some (record y { messages = messages_of (boxes_view ns); live = live_of (boxes_view ns) })) (sym popped.1) in
-          let next : d.next_message ≡ c.next_message + 1 = ap (λ (y : Config). y.next_message) popped.1 ∙ ap (λ (y : Config). y.next_message) x.after ∙ sends.next in
+          let whole : step p seen (record { thread = t; act = ActSend }) ≡ Some (state_view d ns) =
+          send_step p seen t x.thread x.there
+          ∙ ap (option_map (sent seen t x.thread.frames)) x.message
+          ∙ ap (λ (y : Config). Some (record y { messages = messages_of boxes ++ n ∷ []; live = live_of boxes })) (sym x.after)
+          ∙ ap (λ (l : List Message). Some (record d { messages = l; live = live_of boxes })) (sym messages)
+          ∙ ap (λ (l : List ℕ). Some (record d { messages = messages_of (boxes_view ns); live = l })) (sym live) in
+          let next : d.next_message ≡ c.next_message + 1 = ap (λ (y : Config). y.next_message) x.after in
           let older : AllByRecursion (λ (y : Message). y.number + 1 ≡ d.next_message → Some b ≡ Some y.mailbox) (messages_of boxes) =
           all_weaker (λ (y : Message). y.number < c.next_message) (λ (y : Message). y.number + 1 ≡ d.next_message → Some b ≡ Some y.mailbox) (λ y less is. absurd (omega arith)) (messages_of boxes) ordered.messages_below in (
             whole,
             record {
-              messages = the_one.0;
-              live = ap (λ (y : Config). y.live) popped.1 ∙ ap (λ (y : Config). y.live) x.after ∙ sends.live;
+              messages = ap (λ (y : Config). y.messages) x.after ∙ h.messages;
+              live = ap (λ (y : Config). y.live) x.after ∙ h.live;
               boxes = record {
                 numbered =
                     let size = ap length view ∙ length_set boxes b (Some (pending_at boxes b ++ n ∷ [])) in
-                    size ∙ h.boxes.numbered ∙ sym sends.mailboxes ∙ sym (ap (λ (y : Config). y.next_mailbox) popped.1 ∙ ap (λ (y : Config). y.next_mailbox) x.after);
+                    size ∙ h.boxes.numbered ∙ sym (ap (λ (y : Config). y.next_mailbox) x.after);
                 kept = subst AreKept (sym view) (law.kept refl h.boxes.kept);
                 last =
                     subst (AllByRecursion (λ (y : Message). y.number + 1 ≡ d.next_message → Some b ≡ Some y.mailbox)) (sym messages)
@@ -303,6 +299,15 @@ module _ (p : Program) (c : Config) (latest : Option ℕ) (ms : List (Option Mai
               };
             },
           )
+
+  -- a thread that is there and sends nothing
+  none_sent : (t : ℕ) (o : Option Thread) → thread_at c t ≡ o → ((s : Thread) → thread_at c t ≡ Some s → redex_message c.next_message (redex p s.control) ≡ None) → step p seen (record { thread = t; act = ActSend }) ≡ None
+  none_sent t None at none = ap (option_and_then (λ s. thread_step p seen t s ActSend)) at
+  none_sent t (Some s) at none = send_step p seen t s at ∙ ap (option_map (sent seen t s.frames)) (none s at)
+
+  pub send_refused : (t : ℕ) (d : Config) (ns : List (Option Mailbox)) → ns ≡ ms → (e : StepError) → SendsOut p c t d (Err e) → StepGives (λ x. x) (step p seen (record { thread = t; act = ActSend })) seen (state_view d ns) (Err e) × IsState d latest ns
+  send_refused t d ns kept Disabled (none, same) = ((none_sent t (thread_at c t) refl none, view_same d ns same kept), left d ns same kept)
+  send_refused t d ns kept NoMemory same = (view_same d ns same kept, left d ns same kept)
 
   -- ---- free
 

@@ -94,17 +94,12 @@ impl State {
         ensures { StepGives (λ c. c) (after_step (program_view code.now.program) self.old (record { thread = thread; act = ActSend })) self.old self.new result }
     {
         self.mailboxes.make_room()?;
-        let act = Act::Send;
-        match self.placed.step(alloc, code, &Step { thread, act }) {
-            Ok(()) => match self.placed.take_message() {
-                Some(message) => {
-                    self.latest = Some(message.mailbox);
-                    self.mailboxes.send(message);
-                    Ok(())
-                }
-                // It was sent.
-                None => unreachable!(),
-            },
+        match self.placed.send(alloc, code, thread) {
+            Ok(message) => {
+                self.latest = Some(message.mailbox);
+                self.mailboxes.send(message);
+                Ok(())
+            }
             Err(error) => Err(error),
         }
     }

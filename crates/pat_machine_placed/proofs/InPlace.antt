@@ -1,0 +1,45 @@
+-- A thread that goes on in its place.
+use Rattle.std.proofs.Common.{◌≡◌, ℕ, ◌+◌, nat_eq, List, [], ◌∷◌, ◌++◌, map, Some, sym, ap, ◌∙◌}
+use Rattle.std.specs.Prelude.{option_map}
+use Rattle.std.specs.Map.{set_value}
+use Rattle.pat_model.specs.Programs.{Program}
+use Rattle.pat_model.specs.Configs.{Thread, Message, Config, thread_at}
+use Rattle.pat_model.specs.Steps.{ActPrint, redex, returned_unit, step}
+use Rattle.pat_reduce_threads.specs.ThreadActs.{redex_line, redex_message}
+use Rattle.pat_reduce_threads.specs.ThreadViews.{message_view}
+use Rattle.pat_reduce.specs.declared.config.Config.{Config as CodeConfig}
+use Rattle.pat_reduce.specs.Views.{config_view, threads_view}
+use Rattle.pat_reduce.proofs.Shared.{said, print_step}
+use Rattle.pat_alone_laws.specs.Alone.{alone, put_back}
+use Rattle.pat_alone_laws.proofs.Backs.{own_there, back_only}
+use Rattle.pat_machine_table.specs.Entries.{Threads}
+use Rattle.pat_machine_placed.specs.Placed.{placed_view}
+use Rattle.pat_machine_placed.specs.Steps.{IsTaken, IsSent}
+
+module _ (p : Program) (c : CodeConfig) (table last : Threads) (t : ℕ) (s : Thread) (there : thread_at (placed_view c table) t ≡ Some s) (set : threads_view last.entries ≡ set_value (nat_eq t) (threads_view table.entries) (returned_unit s.frames)) where
+  abbrev whole : Config
+  whole = placed_view c table
+
+  pub is_sent : (m : Message) → redex_message c.next_message (redex p s.control) ≡ Some m → IsSent p whole t m (placed_view (record c { next_message = c.next_message + 1 }) last)
+  is_sent m given = record {
+    thread = s;
+    there = there;
+    message = given;
+    after = ap (λ l. record (config_view c) { threads = l; next_message = c.next_message + 1 }) set;
+  }
+
+  pub is_said : (line : List ℕ) → redex_line (redex p s.control) ≡ Some line → map message_view c.messages ≡ [] → (printed : List (List ℕ)) → printed ≡ c.printed ++ line ∷ []
+      → IsTaken p whole (record { thread = t; act = ActPrint }) (placed_view (record c { printed = printed }) last)
+  is_said line given none printed more =
+      let single : Config = alone whole t s c.live in
+      let left : Config = said single t s.frames line in
+      record {
+        thread = s;
+        left = left;
+        there = there;
+        gives = print_step p single t s (own_there t s) ∙ ap (option_map (said single t s.frames)) given;
+        after =
+            ap (λ (ms : List Message). record (config_view c) { threads = threads_view last.entries; messages = ms; printed = printed }) none
+            ∙ ap (λ (ls : List (List ℕ)). record (config_view c) { threads = threads_view last.entries; messages = []; printed = ls }) more
+            ∙ ap (λ l. record left { threads = l }) (set ∙ sym (back_only t s whole.threads (returned_unit s.frames)));
+      }
