@@ -4,7 +4,7 @@ use Rattle.std.specs.Map.{lookup, set_value, remove_entry}
 use Rattle.std.proofs.lemmas.Bool.{eq-eqb, cond-true, cond-false}
 use Rattle.pat_model.specs.Configs.{Thread, Message, Config}
 use Rattle.pat_locality_laws.proofs.LookUps.{set_twice, set_same}
-use Rattle.pat_alone_laws.specs.Alone.{put_back, back}
+use Rattle.pat_alone_laws.specs.Alone.{put_back}
 
 removed_anyway : (t : ℕ) (ts : List (ℕ × Thread)) (s : Thread) → remove_entry (nat_eq t) (set_value (nat_eq t) ts s) ≡ remove_entry (nat_eq t) ts
 removed_anyway t [] s = refl

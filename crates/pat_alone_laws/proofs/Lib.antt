@@ -2,5 +2,4 @@
 pub mod Backs
 pub mod Steps
 pub mod Sending
-pub mod Freeing
 pub mod Left

@@ -2,12 +2,12 @@
 use Rattle.std.proofs.Common.{◌≡◌, ℕ, ◌+◌, true, nat_eq, List, [], ◌∷◌, ◌++◌, Option, Some, None, refl, sym, ap, ◌∙◌, subst, append-nil}
 use Rattle.std.specs.Prelude.{option_map, option_and_then}
 use Rattle.std.specs.Map.{set_value, remove_entry}
-use Rattle.pat_model.specs.Values.{Value, Const, Mailbox, UnitConst, value_at, eval, eval_all, line_of}
+use Rattle.pat_model.specs.Values.{Const, UnitConst, eval, line_of}
 use Rattle.pat_model.specs.Programs.{Program, Val, Let, Call, If, Print, New, Send, Spawn, Guard}
-use Rattle.pat_model.specs.Configs.{Control, Returned, Frame, Thread, Message, Config, thread_at, with_thread}
-use Rattle.pat_model.specs.Steps.{Act, ActLocal, ActNew, ActSend, ActSpawn, ActPrint, ActEnd, ActFree, ActReceive, Redex, At, Done, Nowhere, redex, thread_of, at_node, local_step, new_at, send_to, send_at, spawn_at, print_line, print_at, end_at, thread_step, step}
-use Rattle.pat_alone_laws.specs.Alone.{alone, put_back, back, is_own_act, is_beside}
-use Rattle.pat_alone_laws.specs.Laws.{Leaves, Makes}
+use Rattle.pat_model.specs.Configs.{Control, Returned, Frame, Thread, Config, thread_at, with_thread}
+use Rattle.pat_model.specs.Steps.{Act, ActLocal, ActNew, ActSend, ActSpawn, ActPrint, ActEnd, ActFree, ActReceive, Redex, At, Done, Nowhere, redex, thread_of, at_node, local_step, spawn_at, print_line, print_at, end_at, thread_step, step}
+use Rattle.pat_alone_laws.specs.Alone.{alone, put_back, back, is_beside}
+use Rattle.pat_alone_laws.specs.Laws.{Leaves}
 use Rattle.pat_alone_laws.proofs.Backs.{with_parts, own_there, back_set, back_only, back_removed}
 
 -- what holds of the configuration after, if there is one
@@ -43,51 +43,8 @@ module _ (p : Program) (c : Config) (t : ℕ) (s : Thread) where
   local_goes : Goes c t (Leaves c) (thread_step p c t s ActLocal) (thread_step p single t s ActLocal)
   local_goes = goes_map c t (Leaves c) (with_thread c t) (with_thread single t) on_is on_leaves (local_step p s)
 
-  -- ---- a mailbox is made
-
-  abbrev made : Config → Config
-  made d = record (with_thread d t (thread_of (Returned (Mailbox d.next_mailbox)) s.frames)) { live = d.live ++ d.next_mailbox ∷ []; next_mailbox = d.next_mailbox + 1 }
-
-  made_goes : Goes c t (Makes c) (Some (made c)) (Some (made single))
-  made_goes =
-      let r = thread_of (Returned (Mailbox c.next_mailbox)) s.frames in
-      goes_some c t (Makes c) (made c) (made single)
-      (with_parts (made c) (put_back t c.threads (set_value (nat_eq t) ((t, s) ∷ []) r)) (c.messages ++ []) (c.live ++ c.next_mailbox ∷ []) (back_only t s c.threads r) (append-nil c.messages) refl)
-      (record { messages = refl; live = refl; mailboxes = refl; next = refl })
-
-  new_goes : (r : Redex) → Goes c t (Makes c) (new_at c t s.frames r) (new_at single t s.frames r)
-  new_goes (At (New i) env) = made_goes
-  new_goes (At _ env) = goes_none c t (Makes c)
-  new_goes (Done v) = goes_none c t (Makes c)
-  new_goes Nowhere = goes_none c t (Makes c)
-
-  -- ---- a send
-
-  abbrev Any : Config → Type 0
-  Any d = Unit {0}
-
   abbrev unit : Thread
   unit = thread_of (Returned (Const UnitConst)) s.frames
-
-  abbrev sent : Config → Message → Config
-  sent d m = record (with_thread d t unit) { messages = d.messages ++ m ∷ []; next_message = d.next_message + 1 }
-
-  sent_is : (m : Message) → sent c m ≡ back c t (sent single m)
-  sent_is m = with_parts (sent c m) (put_back t c.threads (set_value (nat_eq t) ((t, s) ∷ []) unit)) (c.messages ++ m ∷ []) (c.live ++ []) (back_only t s c.threads unit) refl (append-nil c.live)
-
-  sends : (m : ℕ) (v : Option Value) (vs : Option (List Value)) → Goes c t Any (send_to c t s.frames m v vs) (send_to single t s.frames m v vs)
-  sends m None vs = goes_none c t Any
-  sends m (Some (Const k)) vs = goes_none c t Any
-  sends m (Some (Mailbox a)) None = goes_none c t Any
-  sends m (Some (Mailbox a)) (Some vs) =
-      let message : Message = record { number = c.next_message; mailbox = a; tag = m; values = vs } in
-      goes_some c t Any (sent c message) (sent single message) (sent_is message) tt
-
-  send_goes : (r : Redex) → Goes c t Any (send_at c t s.frames r) (send_at single t s.frames r)
-  send_goes (At (Send x m args) env) = sends m (value_at env x) (eval_all env args)
-  send_goes (At _ env) = goes_none c t Any
-  send_goes (Done v) = goes_none c t Any
-  send_goes Nowhere = goes_none c t Any
 
   -- ---- a spawn
 
@@ -175,16 +132,6 @@ module _ (p : Program) (c : Config) (t : ℕ) (s : Thread) where
   beside_goes ActFree h = absurd cc
   beside_goes (ActReceive k) h = absurd cc
 
-  own_through : (a : Act) → is_own_act a ≡ true → thread_step p c t s a ≡ option_map (back c t) (thread_step p single t s a)
-  own_through ActNew h = (new_goes (redex p s.control)).0
-  own_through ActSend h = (send_goes (redex p s.control)).0
-  own_through ActLocal h = (beside_goes ActLocal refl).0
-  own_through ActSpawn h = (beside_goes ActSpawn refl).0
-  own_through ActPrint h = (beside_goes ActPrint refl).0
-  own_through ActEnd h = (beside_goes ActEnd refl).0
-  own_through ActFree h = absurd cc
-  own_through (ActReceive k) h = absurd cc
-
 -- a step of a thread that is there
 pub step_there : (p : Program) (c : Config) (t : ℕ) (s : Thread) (a : Act) → thread_at c t ≡ Some s → step p c (record { thread = t; act = a }) ≡ thread_step p c t s a
 step_there p c t s a there = ap (λ o. option_and_then (λ r. thread_step p c t r a) o) there
@@ -192,12 +139,9 @@ step_there p c t s a there = ap (λ o. option_and_then (λ r. thread_step p c t 
 pub step_alone : (p : Program) (c : Config) (t : ℕ) (s : Thread) (live : List ℕ) (a : Act) → step p (alone c t s live) (record { thread = t; act = a }) ≡ thread_step p (alone c t s live) t s a
 step_alone p c t s live a = step_there p (alone c t s live) t s a (own_there t s)
 
-pub steps_alone : (p : Program) (c : Config) (t : ℕ) (s : Thread) (a : Act) → is_own_act a ≡ true → thread_at c t ≡ Some s
+pub steps_alone : (p : Program) (c : Config) (t : ℕ) (s : Thread) (a : Act) → is_beside a ≡ true → thread_at c t ≡ Some s
     → step p c (record { thread = t; act = a }) ≡ option_map (back c t) (step p (alone c t s []) (record { thread = t; act = a }))
-steps_alone p c t s a own there = step_there p c t s a there ∙ own_through p c t s a own ∙ ap (option_map (back c t)) (sym (step_alone p c t s [] a))
+steps_alone p c t s a own there = step_there p c t s a there ∙ (beside_goes p c t s a own).0 ∙ ap (option_map (back c t)) (sym (step_alone p c t s [] a))
 
 pub beside_leaves : (p : Program) (c d : Config) (t : ℕ) (s : Thread) (a : Act) → is_beside a ≡ true → step p (alone c t s []) (record { thread = t; act = a }) ≡ Some d → Leaves c d
 beside_leaves p c d t s a beside is = subst (After (Leaves c)) (sym (step_alone p c t s [] a) ∙ is) (beside_goes p c t s a beside).1
-
-pub new_leaves : (p : Program) (c d : Config) (t : ℕ) (s : Thread) → step p (alone c t s []) (record { thread = t; act = ActNew }) ≡ Some d → Makes c d
-new_leaves p c d t s is = subst (After (Makes c)) (sym (step_alone p c t s [] ActNew) ∙ is) (new_goes p c t s (redex p s.control)).1

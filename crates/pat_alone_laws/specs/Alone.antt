@@ -1,8 +1,8 @@
 -- A thread by itself, and what a step of it leaves, put back among the others.
-use Rattle.std.specs.Prelude.{◌≡◌, ℕ, ◌+◌, Bool, true, false, not, nat_eq, List, [], ◌∷◌, ◌++◌, filter}
+use Rattle.std.specs.Prelude.{◌≡◌, ℕ, ◌+◌, Bool, true, false, nat_eq, List, [], ◌∷◌, ◌++◌}
 use Rattle.std.specs.Map.{set_value, remove_entry}
 use Rattle.pat_model.specs.Configs.{Thread, Config}
-use Rattle.pat_model.specs.Steps.{Act, ActLocal, ActNew, ActSend, ActSpawn, ActPrint, ActEnd}
+use Rattle.pat_model.specs.Steps.{Act, ActLocal, ActSpawn, ActPrint, ActEnd}
 
 -- the configuration with this thread alone, no message, and these live mailboxes
 abbrev pub alone : Config → ℕ → Thread → List ℕ → Config
@@ -17,26 +17,12 @@ put_back t threads (own ∷ came) = set_value (nat_eq t) threads own.1 ++ came
 abbrev pub back : Config → ℕ → Config → Config
 back c t d = record d { threads = put_back t c.threads d.threads; messages = c.messages ++ d.messages; live = c.live ++ d.live }
 
--- the same where it freed a mailbox
-abbrev pub back_without : Config → ℕ → (mailbox : ℕ) → Config → Config
-back_without c t a d = record (back c t d) { live = filter (λ b. not (nat_eq b a)) c.live }
-
 -- what a step leaves of thread t alone, and how many threads were made, where it was n: nothing, or the thread, or it and a newcomer
 abbrev pub AreLeft : (t n : ℕ) → List (ℕ × Thread) → (made : ℕ) → Type 0
 AreLeft t n [] made = made ≡ n
 AreLeft t n (own ∷ []) made = (own.0 ≡ t) × (made ≡ n)
 AreLeft t n (own ∷ came ∷ []) made = (own.0 ≡ t) × (came.0 ≡ n) × (made ≡ n + 1)
 AreLeft t n (own ∷ came ∷ other ∷ more) made = ⊥
-
--- an act that looks at nothing but the thread
-abbrev pub is_own_act : Act → Bool
-is_own_act ActLocal = true
-is_own_act ActNew = true
-is_own_act ActSend = true
-is_own_act ActSpawn = true
-is_own_act ActPrint = true
-is_own_act ActEnd = true
-is_own_act _ = false
 
 -- an act that looks at no message and makes none, and makes and frees no mailbox
 abbrev pub is_beside : Act → Bool

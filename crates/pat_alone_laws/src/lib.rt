@@ -1,22 +1,18 @@
 //! Laws of a thread that takes a step by itself, apart from the configuration, and is put back. No code of the product.
 #![tactic(auto)]
 
-ghost use Rattle.pat_alone_laws.specs.Laws.{StepsAlone, FreesAlone, FreesAtGuard, ThreadsAreLeft, BesideLeaves, NewLeaves, SendLeaves, FreeLeaves, PlaceIsTaken, SameIsBack};
+ghost use Rattle.pat_alone_laws.specs.Laws.{StepsAlone, ThreadsAreLeft, BesideLeaves, SendLeaves, PlaceIsTaken, SameIsBack};
 
 /// A step of a thread is one of the thread by itself, what is left of which is put back.
 pub fn alone_laws()
-    ensures own { StepsAlone }
-    ensures frees { FreesAlone }
-    ensures guards { FreesAtGuard }
+    ensures { StepsAlone }
 {}
 
 /// What a step leaves of a thread by itself.
 pub fn left_laws()
     ensures threads { ThreadsAreLeft }
     ensures beside { BesideLeaves }
-    ensures new { NewLeaves }
     ensures send { SendLeaves }
-    ensures free { FreeLeaves }
 {}
 
 /// What is put back takes the place of what stood there, and changes nothing where it is as it was.

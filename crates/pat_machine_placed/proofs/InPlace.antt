@@ -1,36 +1,62 @@
 -- A thread that goes on in its place.
-use Rattle.std.proofs.Common.{◌≡◌, ℕ, ◌+◌, nat_eq, List, [], ◌∷◌, ◌++◌, map, Some, sym, ap, ◌∙◌}
+use Rattle.std.proofs.Common.{◌≡◌, ℕ, ◌+◌, true, nat_eq, List, [], ◌∷◌, ◌++◌, map, Some, sym, ap, ◌∙◌}
 use Rattle.std.specs.Prelude.{option_map}
 use Rattle.std.specs.Map.{set_value}
 use Rattle.pat_model.specs.Programs.{Program}
-use Rattle.pat_model.specs.Configs.{Thread, Message, Config, thread_at}
-use Rattle.pat_model.specs.Steps.{ActPrint, redex, returned_unit, step}
-use Rattle.pat_reduce_threads.specs.ThreadActs.{redex_line, redex_message}
+use Rattle.pat_model.specs.Values.{Const, Mailbox, UnitConst}
+use Rattle.pat_model.specs.Configs.{Control, Returned, Thread, Message, Config, thread_at}
+use Rattle.pat_model.specs.Steps.{ActPrint, redex, thread_of}
+use Rattle.pat_reduce_threads.specs.ThreadActs.{is_new, redex_line, redex_message}
 use Rattle.pat_reduce_threads.specs.ThreadViews.{message_view}
 use Rattle.pat_reduce.specs.declared.config.Config.{Config as CodeConfig}
 use Rattle.pat_reduce.specs.Views.{config_view, threads_view}
 use Rattle.pat_reduce.proofs.Shared.{said, print_step}
-use Rattle.pat_alone_laws.specs.Alone.{alone, put_back}
+use Rattle.pat_alone_laws.specs.Alone.{alone}
 use Rattle.pat_alone_laws.proofs.Backs.{own_there, back_only}
 use Rattle.pat_machine_table.specs.Entries.{Threads}
 use Rattle.pat_machine_placed.specs.Placed.{placed_view}
-use Rattle.pat_machine_placed.specs.Steps.{IsTaken, IsSent}
+use Rattle.pat_machine_placed.specs.InPlace.{redex_frees, IsSent, IsMade, IsFreed}
+use Rattle.pat_machine_placed.specs.Steps.{IsTaken}
 
-module _ (p : Program) (c : CodeConfig) (table last : Threads) (t : ℕ) (s : Thread) (there : thread_at (placed_view c table) t ≡ Some s) (set : threads_view last.entries ≡ set_value (nat_eq t) (threads_view table.entries) (returned_unit s.frames)) where
+module _ (p : Program) (c : CodeConfig) (table last : Threads) (t : ℕ) (s : Thread) (there : thread_at (placed_view c table) t ≡ Some s) where
   abbrev whole : Config
   whole = placed_view c table
 
-  pub is_sent : (m : Message) → redex_message c.next_message (redex p s.control) ≡ Some m → IsSent p whole t m (placed_view (record c { next_message = c.next_message + 1 }) last)
-  is_sent m given = record {
+  -- the thread goes on with a control
+  abbrev GoesOn : Control → Type 0
+  GoesOn k = threads_view last.entries ≡ set_value (nat_eq t) (threads_view table.entries) (thread_of k s.frames)
+
+  abbrev done : Control
+  done = Returned (Const UnitConst)
+
+  pub is_sent : GoesOn done → (m : Message) → redex_message c.next_message (redex p s.control) ≡ Some m → IsSent p whole t m (placed_view (record c { next_message = c.next_message + 1 }) last)
+  is_sent set m given = record {
     thread = s;
     there = there;
     message = given;
     after = ap (λ l. record (config_view c) { threads = l; next_message = c.next_message + 1 }) set;
   }
 
-  pub is_said : (line : List ℕ) → redex_line (redex p s.control) ≡ Some line → map message_view c.messages ≡ [] → (printed : List (List ℕ)) → printed ≡ c.printed ++ line ∷ []
+  pub is_made : GoesOn (Returned (Mailbox c.next_mailbox)) → is_new (redex p s.control) ≡ true → IsMade p whole t (placed_view (record c { next_mailbox = c.next_mailbox + 1 }) last)
+  is_made set given = record {
+    thread = s;
+    there = there;
+    makes = given;
+    after = ap (λ l. record (config_view c) { threads = l; next_mailbox = c.next_mailbox + 1 }) set;
+  }
+
+  pub is_freed : (k : Control) → GoesOn k → (a : ℕ) → redex_frees p (redex p s.control) ≡ Some (a, k) → IsFreed p whole t a (placed_view c last)
+  is_freed k set a given = record {
+    thread = s;
+    there = there;
+    control = k;
+    frees = given;
+    after = ap (λ l. record (config_view c) { threads = l }) set;
+  }
+
+  pub is_said : GoesOn done → (line : List ℕ) → redex_line (redex p s.control) ≡ Some line → map message_view c.messages ≡ [] → (printed : List (List ℕ)) → printed ≡ c.printed ++ line ∷ []
       → IsTaken p whole (record { thread = t; act = ActPrint }) (placed_view (record c { printed = printed }) last)
-  is_said line given none printed more =
+  is_said set line given none printed more =
       let single : Config = alone whole t s c.live in
       let left : Config = said single t s.frames line in
       record {
@@ -41,5 +67,5 @@ module _ (p : Program) (c : CodeConfig) (table last : Threads) (t : ℕ) (s : Th
         after =
             ap (λ (ms : List Message). record (config_view c) { threads = threads_view last.entries; messages = ms; printed = printed }) none
             ∙ ap (λ (ls : List (List ℕ)). record (config_view c) { threads = threads_view last.entries; messages = []; printed = ls }) more
-            ∙ ap (λ l. record left { threads = l }) (set ∙ sym (back_only t s whole.threads (returned_unit s.frames)));
+            ∙ ap (λ l. record left { threads = l }) (set ∙ sym (back_only t s whole.threads (thread_of done s.frames)));
       }

@@ -1,14 +1,11 @@
 -- A step of a thread by itself.
-use Rattle.std.specs.Prelude.{◌≡◌, ℕ, ◌+◌, Some, None, Result}
+use Rattle.std.specs.Prelude.{◌≡◌, Some, None, Result}
 use Rattle.std.specs.declared.result.Result.TheVariants.{Ok, Err}
 use Rattle.pat_model.specs.Programs.{Program}
-use Rattle.pat_model.specs.Configs.{Thread, Message, Config, thread_at, with_thread}
-use Rattle.pat_model.specs.Steps.{Step, redex, returned_unit, step}
+use Rattle.pat_model.specs.Configs.{Thread, Config, thread_at}
+use Rattle.pat_model.specs.Steps.{Step, step}
 use Rattle.pat_reduce_values.specs.declared.error.StepError.{StepError}
 use Rattle.pat_reduce_values.specs.declared.error.StepError.TheVariants.{Disabled, NoMemory}
-use Rattle.pat_reduce_threads.specs.declared.state.Message.{Message as CodeMessage}
-use Rattle.pat_reduce_threads.specs.ThreadActs.{redex_message}
-use Rattle.pat_reduce_threads.specs.ThreadViews.{message_view}
 use Rattle.pat_alone_laws.specs.Alone.{alone, put_back}
 
 -- the step is one of the thread alone, and what is left of that stands in its place
@@ -24,16 +21,3 @@ abbrev pub StepsApart : Program → (old : Config) → Step → (new : Config) �
 StepsApart p c k d (Ok u) = IsTaken p c k d
 StepsApart p c k d (Err Disabled) = ((s : Thread) → thread_at c k.thread ≡ Some s → step p (alone c k.thread s c.live) k ≡ None) × (d ≡ c)
 StepsApart p c k d (Err NoMemory) = d ≡ c
-
--- the thread sent the message, which is under the next number and pending nowhere
-pub record IsSent (p : Program) (c : Config) (t : ℕ) (m : Message) (d : Config) : Type 0 where
-  pub thread : Thread
-  pub there : thread_at c t ≡ Some thread
-  pub message : redex_message c.next_message (redex p thread.control) ≡ Some m
-  pub after : d ≡ record (with_thread c t (returned_unit thread.frames)) { next_message = c.next_message + 1 }
-
--- it sent the message, or it sends none, or memory ran out; an `Err` changes nothing
-abbrev pub SendsOut : Program → (old : Config) → (thread : ℕ) → (new : Config) → Result CodeMessage StepError → Type 0
-SendsOut p c t d (Ok m) = IsSent p c t (message_view m) d
-SendsOut p c t d (Err Disabled) = ((s : Thread) → thread_at c t ≡ Some s → redex_message c.next_message (redex p s.control) ≡ None) × (d ≡ c)
-SendsOut p c t d (Err NoMemory) = d ≡ c

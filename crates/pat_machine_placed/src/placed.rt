@@ -1,5 +1,5 @@
 // A configuration, its threads by number.
-ghost use Rattle.std.specs.Prelude.{◌≡◌, ◌==◌, ℕ, [], ◌∷◌, ◌++◌, length, map, option_copied, option_map, IfOk, OnOk, OnErr};
+ghost use Rattle.std.specs.Prelude.{◌≡◌, ◌==◌, length, option_copied, option_map, IfOk};
 ghost use Rattle.pat_model.specs.Configs.{Thread as ThreadOf, start, thread_at, with_thread};
 ghost use Rattle.pat_core.specs.Views.{program_view};
 ghost use Rattle.pat_reduce_threads.specs.ThreadViews.{control_view, thread_view};
@@ -105,20 +105,5 @@ impl Placed {
         ensures { result.now ≡ self.now.printed }
     {
         self.config.printed.as_slice()
-    }
-
-    /// A further live mailbox. An error changes nothing.
-    pub fn add_live(&mut self, mailbox: u32) -> Result<(), AllocError>
-        ensures ok { OnOk result (self.new ≡ record self.old { live = self.old.live ++ mailbox ∷ [] }) }
-        ensures err { OnErr result (self.new ≡ self.old) }
-    {
-        self.config.live.push(mailbox)
-    }
-
-    /// No mailbox is live. It takes no memory.
-    pub fn clear_live(&mut self)
-        ensures { self.new ≡ record self.old { live = [] } }
-    {
-        self.config.live.items.clear();
     }
 }

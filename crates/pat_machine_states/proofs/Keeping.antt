@@ -1,14 +1,13 @@
 -- A configuration whose messages are kept by mailbox, through the steps of a thread.
 use Rattle.std.proofs.Common.{◌≡◌, ℕ, zero, suc, ◌+◌, ◌<◌, cond, Bool, true, false, not, nat_eq, nat_lt, ⊎_elim, List, [], ◌∷◌, ◌++◌, map, length, remove, Option, Some, None, Result, Ok, Err, slice_get, slice_set, refl, sym, ap, ◌∙◌, subst, arith, append-nil}
-use Rattle.std.specs.Prelude.{option_map, option_and_then, is_some, filter}
+use Rattle.std.specs.Prelude.{◌&&◌, if◌then◌else◌, option_map, option_and_then, is_some, filter}
 use Rattle.std.specs.List.{AllByRecursion}
-use Rattle.std.proofs.lemmas.Bool.{eqb-true, ne_eqb, lt-ltb, cases_eq}
+use Rattle.std.proofs.lemmas.Bool.{eqb-true, ne_eqb, lt-ltb, cases_eq, and_parts, not-true, cond-true, cond-false}
 use Rattle.std.proofs.lemmas.List.{map-append, length-append, length-map}
-use Rattle.pat_model.specs.Values.{Value, Const, Mailbox as MailboxValue, Env, value_at}
-use Rattle.pat_model.specs.Programs.{Program, Function, Clause, Guard, function_at, is_among}
-use Rattle.pat_model.specs.Configs.{Thread, Message, Config, Control, start, start_of, thread_at, with_thread, has_pending, some_thread_refers}
+use Rattle.pat_model.specs.Programs.{Program, Function, function_at, is_among}
+use Rattle.pat_model.specs.Configs.{Thread, Message, Config, Control, start, start_of, thread_at, with_thread, has_pending, is_reached_by_none_but}
 use Rattle.pat_model.specs.Orders.{IsOrdered}
-use Rattle.pat_model.specs.Steps.{Act, ActLocal, ActNew, ActSend, ActSpawn, ActPrint, ActEnd, ActFree, ActReceive, Redex, At, Step, redex, thread_of, message_at, thread_step, step}
+use Rattle.pat_model.specs.Steps.{Act, ActNew, ActSend, ActFree, ActReceive, Redex, Step, redex, at_node, thread_of, message_at, thread_step, step}
 use Rattle.pat_model_laws.specs.Laws.{IsEnabled}
 use Rattle.pat_model_laws.proofs.Inversion.{step_of}
 use Rattle.pat_reduce_values.specs.declared.error.StepError.{StepError}
@@ -16,15 +15,14 @@ use Rattle.pat_reduce_values.specs.declared.error.StepError.TheVariants.{Disable
 use Rattle.pat_reduce_values.specs.Results.{StepGives}
 use Rattle.pat_reduce_threads.specs.declared.state.Message.{Message as CodeMessage}
 use Rattle.pat_reduce_threads.specs.ThreadViews.{message_view}
-use Rattle.pat_reduce_threads.specs.ThreadActs.{guarding, guard_at, redex_message, redex_received}
-use Rattle.pat_reduce.proofs.Shared.{sent, taken, send_step, receive_step}
-use Rattle.pat_locality_laws.specs.Wakings.{mailbox_in, guarded_at, guarded}
-use Rattle.pat_machine_placed.specs.Alone.{alone, put_back, back, back_without, is_own_act, is_beside}
-use Rattle.pat_machine_placed.specs.Laws.{Frees, Sends}
-use Rattle.pat_machine_placed.proofs.Steps.{steps_alone, beside_leaves, new_leaves}
+use Rattle.pat_reduce_threads.specs.ThreadActs.{Guarding, guard_at, is_new, redex_message, redex_received}
+use Rattle.pat_reduce.specs.Acts.{may_free, freed_by, redex_freed}
+use Rattle.pat_reduce.proofs.Shared.{made, sent, freed, taken, new_step, send_step, free_step, receive_step}
+use Rattle.pat_machine_placed.specs.Alone.{alone, back, is_beside}
+use Rattle.pat_machine_placed.specs.Laws.{Sends}
+use Rattle.pat_machine_placed.proofs.Steps.{steps_alone, beside_leaves}
 use Rattle.pat_machine_placed.proofs.Backs.{own_there}
 use Rattle.pat_machine_placed.proofs.Sending.{send_leaves}
-use Rattle.pat_machine_placed.proofs.Freeing.{frees_alone, free_leaves}
 use Rattle.pat_pending_laws.specs.Pending.{messages_of, all_of, live_of, box_at, pending_at, AreKept}
 use Rattle.pat_pending_laws.proofs.Insertions.{all_in_order}
 use Rattle.pat_pending_laws.proofs.Boxes.{pending_all}
@@ -34,9 +32,10 @@ use Rattle.pat_machine_pending.specs.Mailboxes.{Mailbox, IsLive, mailbox_at, all
 use Rattle.pat_machine_pending.specs.Boxes.{boxes_view}
 use Rattle.pat_machine_pending.specs.Deliveries.{IsDelivery}
 use Rattle.pat_machine_pending.proofs.Boxed.{pending_view, live_view, is_live, none_pending, set_view, push_view, map_get, map_remove, all_unmap, count_view}
-use Rattle.pat_machine_placed.specs.Steps.{IsTaken, StepsApart, IsSent, SendsOut}
+use Rattle.pat_machine_placed.specs.InPlace.{HasNone, frees_by, redex_frees, IsSent, SendsOut, IsMade, MakesOut, IsFreed, FreesOut}
+use Rattle.pat_machine_placed.specs.Steps.{IsTaken, StepsApart}
 use Rattle.pat_machine_states.specs.Boxes.{state_view, AreOf, IsState}
-use Rattle.pat_machine_states.specs.Stepping.{ReferToLive, mailbox_of, guarded_in}
+use Rattle.pat_machine_states.specs.Stepping.{ReferToLive}
 
 all_filter : {A : Type 0} (P : A → Type 0) (f : A → Bool) (xs : List A) → AllByRecursion P xs → AllByRecursion P (filter f xs)
 all_filter P f [] h = tt
@@ -99,15 +98,29 @@ module _ (c : Config) (latest : Option ℕ) (ms : List (Option Mailbox)) (h : Is
 
 -- ---- steps
 
--- the mailbox of a guard
-guard_value : (free : Option ℕ) (cs : List Clause) (env : Env) (o : Option Value) → mailbox_in o ≡ option_map mailbox_of (guarding free cs env o)
-guard_value free cs env None = refl
-guard_value free cs env (Some (Const k)) = refl
-guard_value free cs env (Some (MailboxValue a)) = refl
+-- what a guard frees is freed, where it may be
+frees_if : (p : Program) (c : Config) (t a : ℕ) (k : Control) (o : Option Guarding) → option_and_then (λ g. frees_by p g g.free) o ≡ Some (a, k) → option_and_then (λ g. freed_by p c t g g.free) o ≡ (if may_free c t a then Some (a, k) else None)
+frees_if p c t a k None is = absurd cc
+frees_if p c t a k (Some g) is = by_free g.free is
+  where
+    by_free : (free : Option ℕ) → frees_by p g free ≡ Some (a, k) → freed_by p c t g free ≡ (if may_free c t a then Some (a, k) else None)
+    by_free None is = absurd cc
+    by_free (Some n) is =
+        let same : (g.mailbox, at_node p n g.env) ≡ (a, k) = cc in
+        ap (λ (q : ℕ × Control). if may_free c t q.0 then Some q else None) same
 
-guard_same : (r : Redex) → guarded_at r ≡ option_map mailbox_of (guard_at r)
-guard_same (At (Guard x e free cs) env) = guard_value free cs env (value_at env x)
-guard_same _ = refl
+-- where it frees nothing, nothing is freed
+frees_none : (p : Program) (c : Config) (t : ℕ) (o : Option Guarding) → option_and_then (λ g. frees_by p g g.free) o ≡ None → option_and_then (λ g. freed_by p c t g g.free) o ≡ None
+frees_none p c t None is = refl
+frees_none p c t (Some g) is = by_free g.free is
+  where
+    by_free : (free : Option ℕ) → frees_by p g free ≡ None → freed_by p c t g free ≡ None
+    by_free None is = refl
+    by_free (Some n) is = absurd cc
+
+passes : {A B : Type 0} (f : A → B) (b : Bool) (x : A) (y : B) → option_map f (if b then Some x else None) ≡ Some y → b ≡ true
+passes f true x y is = refl
+passes f false x y is = absurd cc
 
 module _ (p : Program) (c : Config) (latest : Option ℕ) (ms : List (Option Mailbox)) (h : IsState c latest ms) where
   abbrev seen : Config
@@ -123,51 +136,32 @@ module _ (p : Program) (c : Config) (latest : Option ℕ) (ms : List (Option Mai
   left d ns same kept = subst (λ x. IsState x latest ns) (sym same) (subst (IsState c latest) (sym kept) h)
 
   -- a step that the thread alone can't take
-  none_alone : (k : Step) (o : Option Thread) → thread_at c k.thread ≡ o → is_own_act k.act ≡ true → ((s : Thread) → thread_at c k.thread ≡ Some s → step p (alone c k.thread s c.live) k ≡ None) → step p seen k ≡ None
+  none_alone : (k : Step) (o : Option Thread) → thread_at c k.thread ≡ o → is_beside k.act ≡ true → ((s : Thread) → thread_at c k.thread ≡ Some s → step p (alone c k.thread s c.live) k ≡ None) → step p seen k ≡ None
   none_alone k None at own none = ap (option_and_then (λ s. thread_step p seen k.thread s k.act)) at
   none_alone k (Some s) at own none = steps_alone p seen k.thread s k.act own at ∙ ap (option_map (back seen k.thread)) (ap (λ l. step p (alone c k.thread s l) k) (sym h.live) ∙ none s at)
 
-  pub refused : (k : Step) → is_own_act k.act ≡ true → (d : Config) (ns : List (Option Mailbox)) → ns ≡ ms → (e : StepError) → StepsApart p c k d (Err e) → StepGives (λ x. x) (step p seen k) seen (state_view d ns) (Err e)
-  refused k own d ns kept Disabled (none, same) = (none_alone k (thread_at c k.thread) refl own none, view_same d ns same kept)
-  refused k own d ns kept NoMemory same = view_same d ns same kept
+  refused : (k : Step) → is_beside k.act ≡ true → (d : Config) (e : StepError) → StepsApart p c k d (Err e) → StepGives (λ x. x) (step p seen k) seen (state_view d ms) (Err e)
+  refused k own d Disabled (none, same) = (none_alone k (thread_at c k.thread) refl own none, view_same d ms same refl)
+  refused k own d NoMemory same = view_same d ms same refl
 
   same_next : (d : Config) → d.next_message ≡ c.next_message → AllByRecursion (λ m. m.number + 1 ≡ d.next_message → latest ≡ Some m.mailbox) (messages_of boxes)
   same_next d next = subst (λ n. AllByRecursion (λ (m : Message). m.number + 1 ≡ n → latest ≡ Some m.mailbox) (messages_of boxes)) (sym next) h.boxes.last
 
-  -- the step of the thread alone, and what is left put back
-  module _ (k : Step) (own : is_own_act k.act ≡ true) (d : Config) (x : IsTaken p c k d) where
-    inner : step p (alone c k.thread x.thread []) k ≡ Some x.left
-    inner = ap (λ l. step p (alone c k.thread x.thread l) k) (sym h.live) ∙ x.gives
-
-    put : (ds : List Message) (live : List ℕ) → seen.messages ++ x.left.messages ≡ ds → seen.live ++ x.left.live ≡ live → step p seen k ≡ Some (record d { messages = ds; live = live })
-    put ds live messages lives =
-        steps_alone p seen k.thread x.thread k.act own x.there
-        ∙ ap (option_map (back seen k.thread)) inner
-        ∙ ap (λ (y : Config). Some (record y { messages = seen.messages ++ x.left.messages; live = seen.live ++ x.left.live })) (sym x.after)
-        ∙ ap (λ (l : List Message). Some (record d { messages = l; live = seen.live ++ x.left.live })) messages
-        ∙ ap (λ (l : List ℕ). Some (record d { messages = ds; live = l })) lives
-
   -- ---- beside
-
-  own_beside : (a : Act) → is_beside a ≡ true → is_own_act a ≡ true
-  own_beside ActLocal b = refl
-  own_beside ActSpawn b = refl
-  own_beside ActPrint b = refl
-  own_beside ActEnd b = refl
-  own_beside ActNew b = refl
-  own_beside ActSend b = refl
-  own_beside ActFree b = absurd cc
-  own_beside (ActReceive k) b = absurd cc
 
   beside_done : (t : ℕ) (a : Act) → is_beside a ≡ true → (d : Config) → IsTaken p c (record { thread = t; act = a }) d
       → (step p seen (record { thread = t; act = a }) ≡ Some (state_view d ms)) × IsState d latest ms
   beside_done t a beside d x =
       let k : Step = record { thread = t; act = a } in
-      let own = own_beside a beside in
-      let leaves = beside_leaves p c x.left t x.thread a beside (inner k own d x) in (
-        put k own d x (messages_of boxes) (live_of boxes)
-            (ap (λ l. messages_of boxes ++ l) leaves.messages ∙ append-nil (messages_of boxes))
-            (ap (λ l. live_of boxes ++ l) leaves.live ∙ append-nil (live_of boxes)),
+      let inner : step p (alone c t x.thread []) k ≡ Some x.left = ap (λ l. step p (alone c t x.thread l) k) (sym h.live) ∙ x.gives in
+      let leaves = beside_leaves p c x.left t x.thread a beside inner in
+      let whole : step p seen k ≡ Some (state_view d ms) =
+      steps_alone p seen t x.thread a beside x.there
+      ∙ ap (option_map (back seen t)) inner
+      ∙ ap (λ (y : Config). Some (record y { messages = messages_of boxes ++ x.left.messages; live = live_of boxes ++ x.left.live })) (sym x.after)
+      ∙ ap (λ (l : List Message). Some (record d { messages = l; live = live_of boxes ++ x.left.live })) (ap (λ l. messages_of boxes ++ l) leaves.messages ∙ append-nil (messages_of boxes))
+      ∙ ap (λ (l : List ℕ). Some (record d { messages = messages_of boxes; live = l })) (ap (λ l. live_of boxes ++ l) leaves.live ∙ append-nil (live_of boxes)) in (
+        whole,
         record {
           messages = ap (λ (y : Config). y.messages) x.after ∙ leaves.messages;
           live = ap (λ (y : Config). y.live) x.after ∙ leaves.live;
@@ -179,7 +173,7 @@ module _ (p : Program) (c : Config) (latest : Option ℕ) (ms : List (Option Mai
         },
       )
 
-  pub error_leaves : (k : Step) (d : Config) (e : StepError) → StepsApart p c k d (Err e) → d ≡ c
+  error_leaves : (k : Step) (d : Config) (e : StepError) → StepsApart p c k d (Err e) → d ≡ c
   error_leaves k d Disabled apart = apart.1
   error_leaves k d NoMemory apart = apart
 
@@ -187,7 +181,7 @@ module _ (p : Program) (c : Config) (latest : Option ℕ) (ms : List (Option Mai
       → StepGives (λ x. x) (step p seen (record { thread = t; act = a })) seen (state_view d ms) r × IsState d latest ms
   beside t a is_beside d (Ok u) apart = beside_done t a is_beside d apart
   beside t a is_beside d (Err e) apart = (
-    refused (record { thread = t; act = a }) (own_beside a is_beside) d ms refl e apart,
+    refused (record { thread = t; act = a }) is_beside d e apart,
     left d ms (error_leaves (record { thread = t; act = a }) d e apart) refl,
   )
 
@@ -196,32 +190,30 @@ module _ (p : Program) (c : Config) (latest : Option ℕ) (ms : List (Option Mai
   abbrev pub fresh : Option Mailbox
   fresh = Some (record { pending = [] })
 
-  pub new_done : (t : ℕ) (e : Config) → IsTaken p c (record { thread = t; act = ActNew }) e → (d : Config) → d ≡ record e { live = [] } → (ns : List (Option Mailbox)) → ns ≡ ms ++ fresh ∷ []
+  pub new_done : (t : ℕ) (d : Config) → IsMade p c t d → (ns : List (Option Mailbox)) → ns ≡ ms ++ fresh ∷ []
       → (step p seen (record { thread = t; act = ActNew }) ≡ Some (state_view d ns)) × IsState d latest ns
-  new_done t e x d cleared ns grown =
-      let k : Step = record { thread = t; act = ActNew } in
+  new_done t d x ns grown =
       let view : boxes_view ns ≡ boxes ++ Some [] ∷ [] = ap boxes_view grown ∙ push_view ms fresh in
       let law = makes_last boxes in
       let messages : messages_of (boxes_view ns) ≡ messages_of boxes = ap messages_of view ∙ law.messages in
-      let makes = new_leaves p c x.left t x.thread (inner k refl e x) in
-      let live : live_of boxes ++ x.left.live ≡ live_of (boxes_view ns) =
-      ap (λ l. live_of boxes ++ l) makes.live
-      ∙ ap (λ n. live_of boxes ++ n ∷ []) (sym h.boxes.numbered)
-      ∙ sym (ap live_of view ∙ law.live) in
-      let whole : step p seen k ≡ Some (state_view d ns) =
-      put k refl e x (messages_of (boxes_view ns)) (live_of (boxes_view ns)) (ap (λ l. messages_of boxes ++ l) makes.messages ∙ append-nil (messages_of boxes) ∙ sym messages) live
-      ∙ ap (λ (y : Config). Some (record y { messages = messages_of (boxes_view ns); live = live_of (boxes_view ns) })) (sym cleared) in
-      let next : d.next_message ≡ c.next_message = ap (λ (y : Config). y.next_message) cleared ∙ ap (λ (y : Config). y.next_message) x.after ∙ makes.next in (
+      let live : live_of (boxes_view ns) ≡ live_of boxes ++ c.next_mailbox ∷ [] = ap live_of view ∙ law.live ∙ ap (λ n. live_of boxes ++ n ∷ []) h.boxes.numbered in
+      let whole : step p seen (record { thread = t; act = ActNew }) ≡ Some (state_view d ns) =
+      new_step p seen t x.thread x.there
+      ∙ cond-true (is_new (redex p x.thread.control)) (Some (made seen t x.thread.frames)) None x.makes
+      ∙ ap (λ (y : Config). Some (record y { messages = messages_of boxes; live = live_of boxes ++ c.next_mailbox ∷ [] })) (sym x.after)
+      ∙ ap (λ (l : List Message). Some (record d { messages = l; live = live_of boxes ++ c.next_mailbox ∷ [] })) (sym messages)
+      ∙ ap (λ (l : List ℕ). Some (record d { messages = messages_of (boxes_view ns); live = l })) (sym live) in
+      let next : d.next_message ≡ c.next_message = ap (λ (y : Config). y.next_message) x.after in (
         whole,
         record {
-          messages = ap (λ (y : Config). y.messages) cleared ∙ ap (λ (y : Config). y.messages) x.after ∙ makes.messages;
-          live = ap (λ (y : Config). y.live) cleared;
+          messages = ap (λ (y : Config). y.messages) x.after ∙ h.messages;
+          live = ap (λ (y : Config). y.live) x.after ∙ h.live;
           boxes = record {
             numbered =
                 let size = ap length view in
                 let more = length-append boxes (Some [] ∷ []) in
                 let old = h.boxes.numbered in
-                let made = ap (λ (y : Config). y.next_mailbox) cleared ∙ ap (λ (y : Config). y.next_mailbox) x.after ∙ makes.mailboxes in
+                let made = ap (λ (y : Config). y.next_mailbox) x.after in
                 omega arith;
             kept = subst AreKept (sym view) (law.kept h.boxes.kept);
             last = subst (λ l. AllByRecursion (λ (m : Message). m.number + 1 ≡ d.next_message → latest ≡ Some m.mailbox) l) (sym messages) (same_next d next);
@@ -229,34 +221,36 @@ module _ (p : Program) (c : Config) (latest : Option ℕ) (ms : List (Option Mai
         },
       )
 
+  -- a thread that makes none
+  none_made : (t : ℕ) (o : Option Thread) → thread_at c t ≡ o → ((s : Thread) → thread_at c t ≡ Some s → is_new (redex p s.control) ≡ false) → step p seen (record { thread = t; act = ActNew }) ≡ None
+  none_made t None at none = ap (option_and_then (λ s. thread_step p seen t s ActNew)) at
+  none_made t (Some s) at none = new_step p seen t s at ∙ cond-false (is_new (redex p s.control)) (Some (made seen t s.frames)) None (none s at)
+
+  pub new_refused : (t : ℕ) (d : Config) (ns : List (Option Mailbox)) → ns ≡ ms → (e : StepError) → MakesOut p c t d (Err e) → StepGives (λ x. x) (step p seen (record { thread = t; act = ActNew })) seen (state_view d ns) (Err e) × IsState d latest ns
+  new_refused t d ns kept Disabled (none, same) = ((none_made t (thread_at c t) refl none, view_same d ns same kept), left d ns same kept)
+  new_refused t d ns kept NoMemory same = (view_same d ns same kept, left d ns same kept)
+
   -- ---- send
 
   module _ (t : ℕ) (m : CodeMessage) (d : Config) (x : IsSent p c t (message_view m) d) where
     abbrev single : Config
     single = alone c t x.thread []
 
-    sends : Sends c (sent single t x.thread.frames (message_view m))
+    sends : Sends c (message_view m)
     sends =
-        send_leaves p c (sent single t x.thread.frames (message_view m)) t x.thread x.there
+        send_leaves p c (sent single t x.thread.frames (message_view m)) t x.thread (message_view m) x.there
         (send_step p single t x.thread (own_there t x.thread) ∙ ap (option_map (sent single t x.thread.frames)) x.message)
-
-    message_is : message_view m ≡ sends.message
-    message_is = let both : message_view m ∷ [] ≡ sends.message ∷ [] = sends.messages in cc
-
-    number_is : m.number ≡ c.next_message
-    number_is = ap (λ (n : Message). n.number) message_is ∙ sends.number
+        refl
 
     module _ (ordered : IsOrdered seen) (refer : ReferToLive seen) where
-      pub target_live : is_some (box_at boxes m.mailbox) ≡ true
-      target_live =
-          let named : some_thread_refers seen m.mailbox ≡ true = ap (λ (n : Message). some_thread_refers seen n.mailbox) message_is ∙ sends.named in
-          sym (live_is_listed boxes m.mailbox) ∙ refer m.mailbox named
+      target_live : is_some (box_at boxes m.mailbox) ≡ true
+      target_live = sym (live_is_listed boxes m.mailbox) ∙ refer m.mailbox sends.named
 
       pub mailbox_live : IsLive ms m.mailbox
       mailbox_live = is_live ms m.mailbox (sym (live_view ms m.mailbox) ∙ target_live)
 
       below : AllByRecursion (λ (n : Message). n.number < m.number) (messages_of boxes)
-      below = subst (λ k. AllByRecursion (λ (n : Message). n.number < k) (messages_of boxes)) (sym number_is) ordered.messages_below
+      below = subst (λ k. AllByRecursion (λ (n : Message). n.number < k) (messages_of boxes)) (sym sends.number) ordered.messages_below
 
       pub last_there : AllByRecursion (λ (n : CodeMessage). n.number < m.number) (pending_of ms m.mailbox)
       last_there =
@@ -300,8 +294,8 @@ module _ (p : Program) (c : Config) (latest : Option ℕ) (ms : List (Option Mai
             },
           )
 
-  -- a thread that is there and sends nothing
-  none_sent : (t : ℕ) (o : Option Thread) → thread_at c t ≡ o → ((s : Thread) → thread_at c t ≡ Some s → redex_message c.next_message (redex p s.control) ≡ None) → step p seen (record { thread = t; act = ActSend }) ≡ None
+  -- a thread that sends nothing
+  none_sent : (t : ℕ) (o : Option Thread) → thread_at c t ≡ o → HasNone p c t (redex_message c.next_message) → step p seen (record { thread = t; act = ActSend }) ≡ None
   none_sent t None at none = ap (option_and_then (λ s. thread_step p seen t s ActSend)) at
   none_sent t (Some s) at none = send_step p seen t s at ∙ ap (option_map (sent seen t s.frames)) (none s at)
 
@@ -311,88 +305,74 @@ module _ (p : Program) (c : Config) (latest : Option ℕ) (ms : List (Option Mai
 
   -- ---- free
 
-  -- the mailbox that the thread there guards
-  guards_there : (t a : ℕ) (s : Thread) → guarded_in p (thread_at seen t) ≡ Some a → thread_at c t ≡ Some s → guarded p s ≡ Some a
-  guards_there t a s guards there = guard_same (redex p s.control) ∙ sym (ap (guarded_in p) there) ∙ guards
+  module _ (t : ℕ) (enabled : IsEnabled p seen (record { thread = t; act = ActFree })) where
+    module _ (a : ℕ) (d : Config) (x : IsFreed p c t a d) where
+      abbrev r : Redex
+      r = redex p x.thread.control
 
-  module _ (t a : ℕ) (enabled : IsEnabled p seen (record { thread = t; act = ActFree })) (guards : guarded_in p (thread_at seen t) ≡ Some a) where
-    abbrev frees_it : Step
-    frees_it = record { thread = t; act = ActFree }
+      tested : redex_freed p seen t r ≡ (if may_free seen t a then Some (a, x.control) else None)
+      tested = frees_if p seen t a x.control (guard_at r) x.frees
 
-    frees_as : (s : Thread) → thread_at c t ≡ Some s → Frees p seen t s a
-    frees_as s there = frees_alone p seen enabled.0 t s a there (guards_there t a s guards there) enabled.1
+      stepped : step p seen (record { thread = t; act = ActFree }) ≡ option_map (freed seen t x.thread.frames) (if may_free seen t a then Some (a, x.control) else None)
+      stepped = free_step p seen t x.thread x.there ∙ ap (option_map (freed seen t x.thread.frames)) tested
 
-    frees : (s : Thread) × (thread_at c t ≡ Some s) × Frees p seen t s a
-    frees = let o = step_of p seen frees_it enabled.0 enabled.1 in (o.thread, o.there, frees_as o.thread o.there)
+      may : may_free seen t a ≡ true
+      may = passes (freed seen t x.thread.frames) (may_free seen t a) (a, x.control) enabled.0 (sym stepped ∙ enabled.1)
 
-    pub freed_live : IsLive ms a
-    freed_live = is_live ms a (sym (live_view ms a) ∙ sym (live_is_listed boxes a) ∙ frees.2.live)
+      parts : (is_among a (live_of boxes) ≡ true) × (not (has_pending a (messages_of boxes)) ≡ true)
+      parts =
+          let both = and_parts (is_among a (live_of boxes)) (not (has_pending a (messages_of boxes)) && is_reached_by_none_but seen a t) may in
+          (both.0, (and_parts (not (has_pending a (messages_of boxes))) (is_reached_by_none_but seen a t) both.1).0)
 
-    pub freed_empty : pending_of ms a ≡ []
-    freed_empty =
-        let none : not (nat_eq (length (pending_at boxes a)) 0) ≡ false = sym (pending_is_own boxes a h.boxes.kept.own) ∙ frees.2.empty in
-        empty_length (pending_of ms a) (ap (λ l. nat_eq (length l) 0) (sym (pending_view ms a)) ∙ double_not (nat_eq (length (pending_at boxes a)) 0) none)
+      pub freed_live : IsLive ms a
+      freed_live = is_live ms a (sym (live_view ms a) ∙ sym (live_is_listed boxes a) ∙ parts.0)
 
-    -- while the mailbox is listed as live
-    module _ (listed : Config) (added : listed ≡ record c { live = c.live ++ a ∷ [] }) where
-      live_is : listed.live ≡ a ∷ []
-      live_is = ap (λ (y : Config). y.live) added ∙ ap (λ l. l ++ a ∷ []) h.live
+      pub freed_empty : pending_of ms a ≡ []
+      freed_empty =
+          let none : not (nat_eq (length (pending_at boxes a)) 0) ≡ false = sym (pending_is_own boxes a h.boxes.kept.own) ∙ not-true (has_pending a (messages_of boxes)) parts.1 in
+          empty_length (pending_of ms a) (ap (λ l. nat_eq (length l) 0) (sym (pending_view ms a)) ∙ double_not (nat_eq (length (pending_at boxes a)) 0) none)
 
-      alone_is : (s : Thread) → alone listed t s listed.live ≡ alone c t s (a ∷ [])
-      alone_is s = ap (λ (y : Config). alone y t s listed.live) added ∙ ap (alone c t s) live_is
-
-      at_listed : (s : Thread) → thread_at listed t ≡ Some s → thread_at c t ≡ Some s
-      at_listed s at = sym (ap (λ (y : Config). thread_at y t) added) ∙ at
-
-      cleared_is : (e d : Config) → e ≡ listed → d ≡ record e { live = [] } → d ≡ c
-      cleared_is e d same cleared =
-          cleared
-          ∙ ap (λ (y : Config). record y { live = [] }) (same ∙ added)
-          ∙ ap (λ (l : List ℕ). record c { live = l }) (sym h.live)
-
-      enabled_there : (e : Config) → ((s : Thread) → thread_at listed t ≡ Some s → step p (alone listed t s listed.live) frees_it ≡ None) → ⊥
-      enabled_there e none =
-          let s = frees.0 in
-          let there = ap (λ (y : Config). thread_at y t) added ∙ frees.1 in
-          let stuck : step p (alone c t s (a ∷ [])) frees_it ≡ None = ap (λ y. step p y frees_it) (sym (alone_is s)) ∙ none s there in
-          let both : Some enabled.0 ≡ None = sym enabled.1 ∙ frees.2.same ∙ ap (option_map (back_without seen t a)) stuck in
-          cc
-
-      pub free_refused : (e d : Config) (ns : List (Option Mailbox)) → ns ≡ ms → (error : StepError) → StepsApart p listed frees_it e (Err error) → d ≡ record e { live = [] }
-          → StepGives (λ x. x) (step p seen frees_it) seen (state_view d ns) (Err error) × IsState d latest ns
-      free_refused e d ns kept Disabled apart cleared = absurd (enabled_there e apart.0)
-      free_refused e d ns kept NoMemory apart cleared = (view_same d ns (cleared_is e d apart cleared) kept, left d ns (cleared_is e d apart cleared) kept)
-
-      pub free_done : (d : Config) → IsTaken p listed frees_it d → (ns : List (Option Mailbox)) → ns ≡ slice_set ms a None
-          → (step p seen frees_it ≡ Some (state_view d ns)) × IsState d latest ns
-      free_done d x ns less =
-          let there = at_listed x.thread x.there in
-          let gives : step p (alone c t x.thread (a ∷ [])) frees_it ≡ Some x.left = ap (λ y. step p y frees_it) (sym (alone_is x.thread)) ∙ x.gives in
-          let leaves = free_leaves p c x.left t x.thread a (guards_there t a x.thread guards there) gives in
-          let f = frees_as x.thread there in
-          let after : d ≡ record x.left { threads = put_back t c.threads x.left.threads } = x.after ∙ ap (λ (y : Config). record x.left { threads = put_back t y.threads x.left.threads }) added in
+      pub free_done : (ns : List (Option Mailbox)) → ns ≡ slice_set ms a None → (step p seen (record { thread = t; act = ActFree }) ≡ Some (state_view d ns)) × IsState d latest ns
+      free_done ns less =
           let view : boxes_view ns ≡ slice_set boxes a None = ap boxes_view less ∙ set_view ms a None in
           let law = frees_one boxes a (pending_view ms a ∙ ap (map message_view) freed_empty) in
           let messages : messages_of (boxes_view ns) ≡ messages_of boxes = ap messages_of view ∙ law.messages in
-          let live : live_of (boxes_view ns) ≡ filter (λ b. not (nat_eq b a)) (live_of boxes) = ap live_of view ∙ law.live in
-          let whole : step p seen frees_it ≡ Some (state_view d ns) =
-          f.same
-          ∙ ap (option_map (back_without seen t a)) gives
-          ∙ ap (λ (y : Config). Some (record y { messages = messages_of boxes ++ x.left.messages; live = filter (λ b. not (nat_eq b a)) (live_of boxes) })) (sym after)
-          ∙ ap (λ (l : List Message). Some (record d { messages = l; live = filter (λ b. not (nat_eq b a)) (live_of boxes) })) (ap (λ l. messages_of boxes ++ l) leaves.messages ∙ append-nil (messages_of boxes) ∙ sym messages)
+          let rest = filter (λ b. not (nat_eq b a)) (live_of boxes) in
+          let live : live_of (boxes_view ns) ≡ rest = ap live_of view ∙ law.live in
+          let whole : step p seen (record { thread = t; act = ActFree }) ≡ Some (state_view d ns) =
+          stepped
+          ∙ ap (option_map (freed seen t x.thread.frames)) (cond-true (may_free seen t a) (Some (a, x.control)) None may)
+          ∙ ap (λ (y : Config). Some (record y { messages = messages_of boxes; live = rest })) (sym x.after)
+          ∙ ap (λ (l : List Message). Some (record d { messages = l; live = rest })) (sym messages)
           ∙ ap (λ (l : List ℕ). Some (record d { messages = messages_of (boxes_view ns); live = l })) (sym live) in
-          let next : d.next_message ≡ c.next_message = ap (λ (y : Config). y.next_message) after ∙ leaves.next in (
+          let next : d.next_message ≡ c.next_message = ap (λ (y : Config). y.next_message) x.after in (
             whole,
             record {
-              messages = ap (λ (y : Config). y.messages) after ∙ leaves.messages;
-              live = ap (λ (y : Config). y.live) after ∙ leaves.live;
+              messages = ap (λ (y : Config). y.messages) x.after ∙ h.messages;
+              live = ap (λ (y : Config). y.live) x.after ∙ h.live;
               boxes = record {
-                numbered = ap length view ∙ length_set boxes a None ∙ h.boxes.numbered ∙ sym leaves.mailboxes ∙ sym (ap (λ (y : Config). y.next_mailbox) after);
+                numbered = ap length view ∙ length_set boxes a None ∙ h.boxes.numbered ∙ sym (ap (λ (y : Config). y.next_mailbox) x.after);
                 kept = subst AreKept (sym view) (law.kept h.boxes.kept);
                 last = subst (λ l. AllByRecursion (λ (m : Message). m.number + 1 ≡ d.next_message → latest ≡ Some m.mailbox) l) (sym messages) (same_next d next);
               };
             },
           )
+
+    -- the thread frees something
+    frees_some : HasNone p c t (redex_frees p) → ⊥
+    frees_some none =
+        let k : Step = record { thread = t; act = ActFree } in
+        let o = step_of p seen k enabled.0 enabled.1 in
+        let s = o.thread in
+        let stuck : step p seen k ≡ None =
+        free_step p seen t s o.there
+        ∙ ap (option_map (freed seen t s.frames)) (frees_none p seen t (guard_at (redex p s.control)) (none s o.there)) in
+        let both : Some enabled.0 ≡ None = sym enabled.1 ∙ stuck in
+        cc
+
+    pub free_refused : (d : Config) (ns : List (Option Mailbox)) → ns ≡ ms → (e : StepError) → FreesOut p c t d (Err e) → StepGives (λ x. x) (step p seen (record { thread = t; act = ActFree })) seen (state_view d ns) (Err e) × IsState d latest ns
+    free_refused d ns kept Disabled (none, same) = absurd (frees_some none)
+    free_refused d ns kept NoMemory same = (view_same d ns same kept, left d ns same kept)
 
   -- ---- receive
 

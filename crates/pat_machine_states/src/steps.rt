@@ -36,7 +36,7 @@ impl State {
         ensures message { IfOk result (λ m. (k : ℕ) → act_view step.now.act ≡ ActReceive k → option_map message_view m ≡ message_at self.old k) }
     {
         match step.act {
-            Act::New => no_message(self.make_mailbox(alloc, code, step.thread)),
+            Act::New => no_message(self.make_mailbox(code, step.thread)),
             Act::Send => no_message(self.send(alloc, code, step.thread)),
             Act::Free => no_message(self.free(alloc, code, step.thread)),
             Act::Receive(number) => match self.receive(alloc, code, step.thread, number) {
@@ -64,21 +64,14 @@ impl State {
     }
 
     // The thread makes a mailbox.
-    fn make_mailbox(
-        &mut self,
-        alloc: Global,
-        code: &Executable,
-        thread: u32,
-    ) -> Result<(), StepError>
+    fn make_mailbox(&mut self, code: &Executable, thread: u32) -> Result<(), StepError>
         requires room { HasRoom self.old }
         ensures { StepGives (λ c. c) (after_step (program_view code.now.program) self.old (record { thread = thread; act = ActNew })) self.old self.new result }
     {
         self.mailboxes.reserve(1)?;
         let mailbox = self.placed.mailboxes_made();
-        let act = Act::New;
-        match self.placed.step(alloc, code, &Step { thread, act }) {
+        match self.placed.make_mailbox(code, thread) {
             Ok(()) => {
-                self.placed.clear_live();
                 self.mailboxes.create(mailbox);
                 Ok(())
             }
@@ -106,27 +99,15 @@ impl State {
 
     // The thread frees the mailbox that it guards.
     fn free(&mut self, alloc: Global, code: &Executable, thread: u32) -> Result<(), StepError>
-        requires room { HasRoom self.old }
-        requires enabled { IsEnabled (program_view code.now.program) self.old (record { thread = thread; act = ActFree }) }
+        requires { IsEnabled (program_view code.now.program) self.old (record { thread = thread; act = ActFree }) }
         ensures { StepGives (λ c. c) (after_step (program_view code.now.program) self.old (record { thread = thread; act = ActFree })) self.old self.new result }
     {
-        match self.guarded(code, thread) {
-            Some(mailbox) => {
-                self.placed.add_live(mailbox)?;
-                let act = Act::Free;
-                match self.placed.step(alloc, code, &Step { thread, act }) {
-                    Ok(()) => {
-                        self.mailboxes.free(mailbox);
-                        Ok(())
-                    }
-                    Err(error) => {
-                        self.placed.clear_live();
-                        Err(error)
-                    }
-                }
+        match self.placed.free(alloc, code, thread) {
+            Ok(mailbox) => {
+                self.mailboxes.free(mailbox);
+                Ok(())
             }
-            // It stands at a guard.
-            None => unreachable!(),
+            Err(error) => Err(error),
         }
     }
 

@@ -3,7 +3,7 @@ use Rattle.pat_model.specs.Configs.{thread_at}
 use Rattle.pat_core.specs.Views.{program_view}
 use Rattle.pat_reduce_threads.specs.ThreadViews.{message_view, thread_view}
 use Rattle.pat_machine_placed.specs.Placed.{placed_view}
-use Rattle.pat_machine_placed.specs.Steps.{IsSent}
+use Rattle.pat_machine_placed.specs.InPlace.{IsSent}
 use Rattle.pat_machine_placed.proofs.InPlace.{is_sent}
 use Rattle.pat_machine_placed.proofs.placed.Placed.send.Goals as goal
 

@@ -1,58 +1,51 @@
-use Rattle.std.proofs.Common.{refl, Err, ◌≡◌, Some, sym, ap, ◌∙◌, subst}
-use Rattle.pat_model.specs.Configs.{thread_at}
+use Rattle.std.proofs.Common.{refl, Err, ◌≡◌, Some, sym, ap, subst}
 use Rattle.pat_model.specs.Steps.{ActFree, step}
 use Rattle.pat_model_laws.specs.Laws.{IsEnabled}
 use Rattle.pat_core.specs.Views.{program_view}
 use Rattle.pat_reduce_values.specs.Results.{StepGives}
 use Rattle.pat_machine_pending.specs.Mailboxes.{Contents}
 use Rattle.pat_machine_states.specs.Boxes.{state_view}
-use Rattle.pat_machine_states.specs.Stepping.{guarded_in}
 use Rattle.pat_machine_states.proofs.Keeping.{freed_live, freed_empty, free_done, free_refused}
 use Rattle.pat_machine_states.proofs.state.State.free.Goals as goal
 
-pub free-requires-clause-live : goal.free-requires-clause-live
-free-requires-clause-live c =
+pub free-requires-in-Ok-clause-live : goal.free-requires-in-Ok-clause-live
+free-requires-in-Ok-clause-live c =
     let i = c.self.inside in
     let p = program_view c.args.code.now.program in
     let t = c.args.thread in
-    let enabled = subst (λ d. IsEnabled p d (record { thread = t; act = ActFree })) (sym c.self.view_is) c.requires.enabled in
-    let guards = ap (λ d. guarded_in p (thread_at d t)) c.self.view_is ∙ sym c.in-Some.ensures in
-    freed_live p i.placed i.latest i.mailboxes.mailboxes c.self.invariant t c.in-Some.mailbox enabled guards
+    let enabled = subst (λ d. IsEnabled p d (record { thread = t; act = ActFree })) (sym c.self.view_is) c.requires in
+    freed_live p i.placed i.latest i.mailboxes.mailboxes c.self.invariant t enabled c.in-Ok.mailbox c.free.new.self c.in-Ok.ensures
 
-pub free-requires-clause-empty : goal.free-requires-clause-empty
-free-requires-clause-empty c =
+pub free-requires-in-Ok-clause-empty : goal.free-requires-in-Ok-clause-empty
+free-requires-in-Ok-clause-empty c =
     let i = c.self.inside in
     let p = program_view c.args.code.now.program in
     let t = c.args.thread in
-    let enabled = subst (λ d. IsEnabled p d (record { thread = t; act = ActFree })) (sym c.self.view_is) c.requires.enabled in
-    let guards = ap (λ d. guarded_in p (thread_at d t)) c.self.view_is ∙ sym c.in-Some.ensures in
-    freed_empty p i.placed i.latest i.mailboxes.mailboxes c.self.invariant t c.in-Some.mailbox enabled guards
+    let enabled = subst (λ d. IsEnabled p d (record { thread = t; act = ActFree })) (sym c.self.view_is) c.requires in
+    freed_empty p i.placed i.latest i.mailboxes.mailboxes c.self.invariant t enabled c.in-Ok.mailbox c.free.new.self c.in-Ok.ensures
 
-pub invariant_of-self-in-Ok : goal.invariant_of-self-in-Ok
-invariant_of-self-in-Ok c =
+pub invariant_of-self : goal.invariant_of-self
+invariant_of-self c =
     let i = c.self.inside in
     let p = program_view c.args.code.now.program in
     let t = c.args.thread in
-    let enabled = subst (λ d. IsEnabled p d (record { thread = t; act = ActFree })) (sym c.self.view_is) c.requires.enabled in
-    let guards = ap (λ d. guarded_in p (thread_at d t)) c.self.view_is ∙ sym c.in-Some.ensures in
-    (free_done p i.placed i.latest i.mailboxes.mailboxes c.self.invariant t c.in-Some.mailbox enabled guards c.add_live.new.self c.in_ok-add_live-in-Some.ensures.ok c.step.new.self c.in-Ok.ensures c.free.new.self.mailboxes (ap (λ (m : Contents). m.mailboxes) c.free.ensures)).1
+    let enabled = subst (λ d. IsEnabled p d (record { thread = t; act = ActFree })) (sym c.self.view_is) c.requires in
+    (free_done p i.placed i.latest i.mailboxes.mailboxes c.self.invariant t enabled c.in-Ok.mailbox c.free.new.self c.in-Ok.ensures c.free-in-Ok.new.self.mailboxes (ap (λ (m : Contents). m.mailboxes) c.free-in-Ok.ensures)).1
 
 pub returns-in-Ok : goal.returns-in-Ok
 returns-in-Ok c =
     let i = c.self.inside in
     let p = program_view c.args.code.now.program in
     let t = c.args.thread in
-    let enabled = subst (λ d. IsEnabled p d (record { thread = t; act = ActFree })) (sym c.self.view_is) c.requires.enabled in
-    let guards = ap (λ d. guarded_in p (thread_at d t)) c.self.view_is ∙ sym c.in-Some.ensures in
-    subst (λ d. step p d (record { thread = t; act = ActFree }) ≡ Some (state_view c.step.new.self c.free.new.self.mailboxes)) c.self.view_is
-    (free_done p i.placed i.latest i.mailboxes.mailboxes c.self.invariant t c.in-Some.mailbox enabled guards c.add_live.new.self c.in_ok-add_live-in-Some.ensures.ok c.step.new.self c.in-Ok.ensures c.free.new.self.mailboxes (ap (λ (m : Contents). m.mailboxes) c.free.ensures)).0
+    let enabled = subst (λ d. IsEnabled p d (record { thread = t; act = ActFree })) (sym c.self.view_is) c.requires in
+    subst (λ d. step p d (record { thread = t; act = ActFree }) ≡ Some (state_view c.free.new.self c.free-in-Ok.new.self.mailboxes)) c.self.view_is
+    (free_done p i.placed i.latest i.mailboxes.mailboxes c.self.invariant t enabled c.in-Ok.mailbox c.free.new.self c.in-Ok.ensures c.free-in-Ok.new.self.mailboxes (ap (λ (m : Contents). m.mailboxes) c.free-in-Ok.ensures)).0
 
 pub returns-in-Err : goal.returns-in-Err
 returns-in-Err c =
     let i = c.self.inside in
     let p = program_view c.args.code.now.program in
     let t = c.args.thread in
-    let enabled = subst (λ d. IsEnabled p d (record { thread = t; act = ActFree })) (sym c.self.view_is) c.requires.enabled in
-    let guards = ap (λ d. guarded_in p (thread_at d t)) c.self.view_is ∙ sym c.in-Some.ensures in
-    subst (λ d. StepGives (λ x. x) (step p d (record { thread = t; act = ActFree })) d (state_view c.clear_live.new.self i.mailboxes.mailboxes) (Err c.in-Err.error)) c.self.view_is
-    (free_refused p i.placed i.latest i.mailboxes.mailboxes c.self.invariant t c.in-Some.mailbox enabled guards c.add_live.new.self c.in_ok-add_live-in-Some.ensures.ok c.step.new.self c.clear_live.new.self i.mailboxes.mailboxes refl c.in-Err.error c.in-Err.ensures c.clear_live.ensures).0
+    let enabled = subst (λ d. IsEnabled p d (record { thread = t; act = ActFree })) (sym c.self.view_is) c.requires in
+    subst (λ d. StepGives (λ x. x) (step p d (record { thread = t; act = ActFree })) d (state_view c.free.new.self i.mailboxes.mailboxes) (Err c.in-Err.error)) c.self.view_is
+    (free_refused p i.placed i.latest i.mailboxes.mailboxes c.self.invariant t enabled c.free.new.self i.mailboxes.mailboxes refl c.in-Err.error c.in-Err.ensures).0
