@@ -1,13 +1,14 @@
 // A configuration, its threads by number.
-ghost use Rattle.std.specs.Prelude.{◌≡◌, ◌==◌, length, option_copied, option_map, IfOk};
+ghost use Rattle.std.specs.Prelude.{◌≡◌, ◌==◌, ◌≤◌, drop, length, map, option_copied, option_map, IfOk};
 ghost use Rattle.pat_model.specs.Configs.{Thread as ThreadOf, start, thread_at, with_thread};
 ghost use Rattle.pat_core.specs.Views.{program_view};
-ghost use Rattle.pat_reduce_threads.specs.ThreadViews.{control_view, thread_view};
+ghost use Rattle.pat_reduce_threads.specs.ThreadViews.{control_view, frame_view, thread_view};
+ghost use Rattle.pat_commits.specs.Tops.{over};
 
 use pat_machine_table::Table;
-use pat_reduce::{Config, Control, ThreadState};
+use pat_reduce::{Config, Control, Frame, ThreadState};
 use pat_reduce_values::Executable;
-use pat_sequences::{Text, let_go};
+use pat_sequences::{Base, Text, let_go};
 use std::alloc::{AllocError, Global};
 use std::marker::Model;
 
@@ -77,6 +78,15 @@ impl Placed {
         ensures { (s : ThreadOf) → thread_at self.old thread ≡ Some s → self.new ≡ with_thread self.old thread (record { control = control_view control; frames = s.frames }) }
     {
         self.table.set_control(thread, control);
+    }
+
+    /// The frames of a base, but for so many, come below those of a thread. It takes no memory.
+    pub fn cover(&mut self, alloc: Global, thread: u32, gone: u32, base: Base<Frame>)
+        requires there { (s : ThreadOf) × (thread_at self.old thread ≡ Some s) }
+        requires room { (s : ThreadOf) → thread_at self.old thread ≡ Some s → length s.frames ≤ base.1 }
+        ensures { (s : ThreadOf) → thread_at self.old thread ≡ Some s → self.new ≡ with_thread self.old thread (over s (drop gone (map frame_view base.0))) }
+    {
+        self.table.cover(alloc, thread, gone, base);
     }
 
     /// Whether no thread is there.

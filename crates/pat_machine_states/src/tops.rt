@@ -7,7 +7,7 @@ ghost use Rattle.pat_machine_threads.specs.Aside.{aside_view};
 ghost use Rattle.pat_machine_states.specs.Asides.{IsAside};
 
 use crate::State;
-use pat_machine_threads::{Aside, joined, with_frames, with_room};
+use pat_machine_threads::{Aside, with_frames, with_room};
 use pat_reduce::ThreadState;
 use pat_sequences::let_go;
 use std::alloc::{AllocError, Global};
@@ -68,12 +68,11 @@ impl State {
         requires { (s : ThreadOf) → thread_at self.old thread ≡ Some s → length s.frames ≤ kept.frames.1 }
         ensures { self.new ≡ with_below self.old thread (below gone (aside_view kept)) }
     {
-        if self.thread(thread).is_none() {
-            let_go(kept);
-            return;
-        }
         let Aside { rest, frames } = kept;
-        let top = self.swap(thread, rest);
-        let_go(self.swap(thread, joined(alloc, top, gone, frames)));
+        let_go(rest);
+        match self.placed.thread(thread) {
+            Some(_) => self.placed.cover(alloc, thread, gone, frames),
+            None => let_go(frames),
+        }
     }
 }

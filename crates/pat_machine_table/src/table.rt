@@ -1,15 +1,16 @@
 // Threads by number.
-ghost use Rattle.std.specs.Prelude.{◌≡◌, ◌==◌, ◌+◌, ◌-◌, ◌<◌, [], ◌∷◌, ◌++◌, Some, None, get_or, length, nat_eq, option_copied, option_map, slice_set, vec_len, vec_capacity, OnOk, OnErr};
+ghost use Rattle.std.specs.Prelude.{◌≡◌, ◌==◌, ◌+◌, ◌-◌, ◌<◌, ◌≤◌, [], ◌∷◌, ◌++◌, Some, None, drop, get_or, length, map, nat_eq, option_copied, option_map, slice_set, vec_len, vec_capacity, OnOk, OnErr};
 ghost use Rattle.std.specs.Map.{lookup, set_value, remove_entry, keys_of};
 ghost use Rattle.std.specs.List.{AllByRecursion};
 ghost use Rattle.pat_model.specs.Configs.{Thread as ThreadOf};
 ghost use Rattle.pat_model.specs.Orders.{AscendsFrom};
 ghost use Rattle.pat_reduce_threads.specs.declared.state.ThreadState.{ThreadState as StateOf};
-ghost use Rattle.pat_reduce_threads.specs.ThreadViews.{control_view, thread_view};
+ghost use Rattle.pat_reduce_threads.specs.ThreadViews.{control_view, frame_view, thread_view};
 ghost use Rattle.pat_reduce.specs.Views.{threads_view};
 ghost use Rattle.pat_machine_table.specs.Entries.{entries_from};
 
-use pat_reduce_threads::{Control, ThreadState};
+use pat_reduce_threads::{Control, Frame, ThreadState};
+use pat_sequences::{Base, Stack};
 use std::alloc::{AllocError, Global};
 use std::marker::Model;
 use std::mem;
@@ -140,6 +141,17 @@ impl Table {
         set_control_at(&mut self.slots, thread, control);
     }
 
+    /// The frames of a base, but for so many, come below those of a thread. It takes no memory.
+    pub fn cover(&mut self, alloc: Global, thread: u32, gone: u32, base: Base<Frame>)
+        requires there { (s : ThreadOf) × (lookup (nat_eq thread) (threads_view self.old.entries) ≡ Some s) }
+        requires room { (s : ThreadOf) → lookup (nat_eq thread) (threads_view self.old.entries) ≡ Some s → length s.frames ≤ base.1 }
+        ensures made { self.new.made ≡ self.old.made }
+        ensures spare { self.new.spare ≡ self.old.spare }
+        ensures after { (s : ThreadOf) → lookup (nat_eq thread) (threads_view self.old.entries) ≡ Some s → threads_view self.new.entries ≡ set_value (nat_eq thread) (threads_view self.old.entries) (record { control = s.control; frames = s.frames ++ drop gone (map frame_view base.0) }) }
+    {
+        cover_at(alloc, &mut self.slots, thread, gone, base);
+    }
+
     /// Takes a thread out. It takes no memory.
     pub fn remove(&mut self, thread: u32) -> ThreadState
         requires { (s : ThreadOf) × (lookup (nat_eq thread) (threads_view self.old.entries) ≡ Some s) }
@@ -192,6 +204,29 @@ fn set_control_at(slots: &mut Vec<Option<ThreadState>>, thread: u32, control: Co
 {
     match &mut slots[thread as usize] {
         Some(state) => state.control = control,
+        // The thread is there.
+        None => unreachable!(),
+    }
+}
+
+// The frames of a base, but for so many, come below those of the thread in a slot.
+fn cover_at(
+    alloc: Global,
+    slots: &mut Vec<Option<ThreadState>>,
+    thread: u32,
+    gone: u32,
+    base: Base<Frame>,
+)
+    requires there { (s : StateOf) × (get_or slots.old.items thread None ≡ Some s) }
+    requires room { (s : StateOf) → get_or slots.old.items thread None ≡ Some s → length s.frames ≤ base.1 }
+    ensures space { (vec_len slots.new ≡ vec_len slots.old) × (vec_capacity slots.new ≡ vec_capacity slots.old) }
+    ensures after { (s : StateOf) → get_or slots.old.items thread None ≡ Some s → slots.new.items ≡ slice_set slots.old.items thread (Some (record { control = s.control; frames = s.frames ++ drop gone base.0 })) }
+{
+    match &mut slots[thread as usize] {
+        Some(state) => {
+            let own = mem::replace(&mut state.frames, Stack::new(alloc));
+            state.frames = base.cover(gone as usize, own);
+        }
         // The thread is there.
         None => unreachable!(),
     }

@@ -1,8 +1,7 @@
 // The state of a thread set aside, while another stands in its place.
-ghost use Rattle.std.specs.Prelude.{◌≡◌, ◌≤◌, drop, length, map, IfOk, IfErr};
+ghost use Rattle.std.specs.Prelude.{◌≡◌, map, IfOk, IfErr};
 ghost use Rattle.pat_model.specs.Steps.{thread_of};
 ghost use Rattle.pat_reduce_threads.specs.ThreadViews.{control_view, frame_view, thread_view};
-ghost use Rattle.pat_commits.specs.Tops.{over};
 ghost use Rattle.pat_machine_threads.specs.Aside.{aside_view};
 
 use pat_reduce::{Frame, ThreadState};
@@ -28,16 +27,6 @@ pub fn with_room(alloc: Global, state: ThreadState, room: usize) -> Result<Aside
         Ok(frames) => Ok(Aside { rest, frames }),
         Err(frames) => Err(with_frames(rest, frames)),
     }
-}
-
-/// The state with the frames of a base, but for so many, below its own.
-pub fn joined(alloc: Global, top: ThreadState, gone: u32, base: Base<Frame>) -> ThreadState
-    requires { length top.frames ≤ base.1 }
-    ensures { thread_view result ≡ over (thread_view top) (drop gone (map frame_view base.0)) }
-{
-    let mut top = top;
-    let own = mem::replace(&mut top.frames, Stack::new(alloc));
-    with_frames(top, base.cover(gone as usize, own))
 }
 
 /// The state with these frames in place of its own.

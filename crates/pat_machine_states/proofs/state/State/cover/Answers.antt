@@ -1,30 +1,29 @@
-use Rattle.std.proofs.Common.{sym, ap, ◌∙◌, arith}
-use Rattle.std.proofs.lemmas.List.{length-map}
+use Rattle.std.proofs.Common.{◌≡◌, Some, sym, ap, ◌∙◌, subst}
 use Rattle.pat_model.specs.Configs.{thread_at, with_thread}
-use Rattle.pat_reduce_threads.specs.ThreadViews.{frame_view, thread_view}
-use Rattle.pat_commits.specs.Tops.{below, set_over}
-use Rattle.pat_locality_laws.proofs.Locals.{there_after, with_twice}
+use Rattle.pat_reduce_threads.specs.ThreadViews.{thread_view}
+use Rattle.pat_commits.specs.Tops.{below, over, set_over}
 use Rattle.pat_machine_threads.specs.Aside.{aside_view}
+use Rattle.pat_machine_states.specs.Boxes.{state_view, IsState}
 use Rattle.pat_machine_states.proofs.state.State.cover.Goals as goal
 
-pub joined-requires : goal.joined-requires
-joined-requires c =
-    let few = c.requires (thread_view c.swap-top.result) c.swap-top.ensures.before in
-    let len = length-map c.swap-top.result.frames frame_view in
-    omega arith
+pub cover-requires-clause-there : goal.cover-requires-clause-there
+cover-requires-clause-there c = (thread_view c.in-Some.field-0.now, sym c.in-Some.ensures)
 
-pub swap-requires : goal.swap-requires
-swap-requires c =
-    let rest = thread_view c.args.kept.rest in
-    (rest, ap (λ d. thread_at d c.args.thread) c.swap-top.ensures.after ∙ there_after c.args.self.now c.args.thread (thread_view c.swap-top.result) rest c.swap-top.ensures.before)
+pub invariant_of-self : goal.invariant_of-self
+invariant_of-self c =
+    let i = c.self.inside in
+    let after = c.cover.ensures (thread_view c.in-Some.field-0.now) (sym c.in-Some.ensures) in
+    let kept = c.self.invariant in
+    subst (λ d. IsState d i.latest i.mailboxes.mailboxes) (sym after) (record { messages = kept.messages; live = kept.live; boxes = record { numbered = kept.boxes.numbered; kept = kept.boxes.kept; last = kept.boxes.last } })
 
-pub returns : goal.returns
-returns c =
+pub returns-in-Some : goal.returns-in-Some
+returns-in-Some c =
+    let i = c.self.inside in
     let t = c.args.thread in
-    let rest = thread_view c.args.kept.rest in
-    let whole = thread_view c.joined.result in
-    c.swap.ensures.after
-    ∙ ap (λ d. with_thread d t whole) c.swap-top.ensures.after
-    ∙ with_twice c.args.self.now t rest whole
-    ∙ ap (with_thread c.args.self.now t) c.joined.ensures
-    ∙ sym (ap (set_over c.args.self.now t (below c.args.gone (aside_view c.args.kept))) c.swap-top.ensures.before)
+    let s = thread_view c.in-Some.field-0.now in
+    let there : thread_at i.placed t ≡ Some s = sym c.in-Some.ensures in
+    let rest = below c.args.gone (aside_view c.args.kept) in
+    let now : thread_at c.args.self.now t ≡ Some s = subst (λ d. thread_at d t ≡ Some s) c.self.view_is there in
+    ap (λ d. state_view d i.mailboxes.mailboxes) (c.cover.ensures s there)
+    ∙ ap (λ d. with_thread d t (over s rest)) c.self.view_is
+    ∙ sym (ap (set_over c.args.self.now t rest) now)
