@@ -1,3 +1,4 @@
 pub mod Making
 mod Standing
 mod Ending
+mod OnePeriod

@@ -20,7 +20,7 @@ pub struct Frame {
 }
 
 /// One more of the period, if it isn't empty and so much is left.
-fn with_one_more(frame: &Frame, period: &Bag) -> Option<Frame>
+pub fn with_one_more(frame: &Frame, period: &Bag) -> Option<Frame>
     requires { (t : ℕ) → word_of frame.now.left t + frame.now.number * word_of period.now t < 2 ^ 32 }
     ensures { TakesOne frame.now (word_of period.now) result }
 {

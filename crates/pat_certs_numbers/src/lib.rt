@@ -4,6 +4,7 @@
 mod failed;
 mod frames;
 mod numbers;
+mod single;
 mod tags;
 
 pub use numbers::find_numbers;

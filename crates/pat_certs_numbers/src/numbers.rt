@@ -8,6 +8,7 @@ ghost use Rattle.pat_certs_numbers.specs.Frames.{CameToNothing};
 
 use crate::failed::{has_failed, make_room};
 use crate::frames::{Frame, advance, numbers_of};
+use crate::single::single_number;
 use crate::tags::{counts_fit, tags_occur};
 use pat_bags::Bag;
 use pat_sequences::Sequence;
@@ -16,6 +17,20 @@ use std::alloc::{AllocError, Global};
 /// How often each period is to be taken, so that all together make the word: the first such numbers in the order of lists, or
 /// `None` where there are none.
 pub fn find_numbers(
+    alloc: Global,
+    periods: &[Bag],
+    word: &Bag,
+) -> Result<Option<Sequence<u32>>, AllocError>
+    ensures { IfOk result (λ found. FindsNumbers most_tags (words_of periods.now) (word_of word.now) found) }
+{
+    match periods {
+        [period] => single_number(alloc, period, word),
+        _ => search_all(alloc, periods, word),
+    }
+}
+
+/// The same by a search over the numbers of all periods.
+fn search_all(
     alloc: Global,
     periods: &[Bag],
     word: &Bag,

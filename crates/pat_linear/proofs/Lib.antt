@@ -7,3 +7,5 @@ mod Lengths
 mod Standing
 mod StarSteps
 mod Meaning
+mod ListsOn
+mod OneWord

@@ -57,3 +57,9 @@ abbrev pub Joins : ℕ → Head → Result Unit FormError → List (List LinearS
 Joins n head (Ok _) old new = (new ≡ after n head old) × IsTrue (after_is_short n head old)
 Joins n head (Err TooLarge) old new = after_is_short n head old ≡ false
 Joins n head (Err NoMemory) old new = Unit {0}
+
+-- the list is on top of the rest, or it is too large, or no memory
+abbrev pub GivesTop : Result Unit FormError → Bool → List LinearSet → List (List LinearSet) → List (List LinearSet) → Type 0
+GivesTop (Ok _) short list rest new = (new ≡ list ∷ rest) × IsTrue short
+GivesTop (Err TooLarge) short list rest new = short ≡ false
+GivesTop (Err NoMemory) short list rest new = Unit {0}

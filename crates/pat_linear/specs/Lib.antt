@@ -1,3 +1,4 @@
 pub mod Views
 pub mod Rooms
 pub mod Forms
+pub mod Flat

@@ -1,23 +1,26 @@
 // The closed form of a pattern.
-ghost use Rattle.std.specs.Prelude.{◌≡◌, ◌∷◌, [], ◌<◌, ◌≤◌, ◌++◌, ◌↔◌, length, IfOk, IsTrue};
+ghost use Rattle.std.specs.Prelude.{◌≡◌, ◌∷◌, [], ◌<◌, ◌≤◌, ◌↔◌, length, take, drop, IfOk, OnOk, IsTrue};
 ghost use Rattle.pat_words.specs.Words.{Word, one};
 ghost use Rattle.pat_words.specs.Patterns.{In};
 ghost use Rattle.pat_words.specs.Tags.{tags_below};
 ghost use Rattle.pat_patterns.specs.Views.{pattern_view};
 ghost use Rattle.pat_inclusions.specs.Counts.{most_tags};
 ghost use Rattle.pat_inclusions.specs.LinearSets.{InSets, linear_set};
-ghost use Rattle.pat_inclusions.specs.ClosedForms.{is_small, is_short, closed_form as closed_form_of, sets_of, lists_are_short};
-ghost use Rattle.pat_linear.specs.Views.{sets_view, forms_view};
-ghost use Rattle.pat_linear.specs.Forms.{GivesForm, GivesSets, Joins, CanJoin};
+ghost use Rattle.pat_inclusions.specs.ClosedForms.{only_empty as only_empty_set, is_small, is_short, closed_form as closed_form_of, products as products_of, sets_of, times_stars as times_stars_of, lists_are_short};
+ghost use Rattle.pat_linear.specs.Views.{set_view, sets_view, forms_view};
+ghost use Rattle.pat_linear.specs.Rooms.{HaveRoom};
+ghost use Rattle.pat_linear.specs.Flat.{top_of};
+ghost use Rattle.pat_linear.specs.Forms.{GivesForm, GivesSets, GivesTop, Joins, CanJoin};
 
 use crate::error::FormError;
-use crate::products::{MOST_SETS, product};
+use crate::flat::Lists;
+use crate::products::{MOST_SETS, multiply_by, products};
 use crate::set::LinearSet;
-use crate::stars::{only_empty, star};
+use crate::stars::{only_empty, star, star_of_base};
 use pat_bags::Bag;
 use pat_patterns::{Pattern, levels, size};
 use pat_postfix::{Head, postfix};
-use pat_sequences::{Sequence, Stack};
+use pat_sequences::Sequence;
 use std::alloc::{AllocError, Global};
 
 /// The most nodes that a pattern may have.
@@ -46,31 +49,29 @@ fn form_of(alloc: Global, p: &Pattern) -> Result<Sequence<LinearSet>, FormError>
     ensures { GivesSets result (lists_are_short most_tags (pattern_view p.now)) (sets_of most_tags (pattern_view p.now)) }
 {
     let mut heads = postfix(alloc, p)?;
-    let mut done = Stack::new(alloc);
+    let mut done = Lists::with_room(alloc, heads.len() / 2 + 1)?;
     while let Some(head) = heads.pop() {
         join(alloc, head, &mut done)?;
     }
-    Ok(take_form(&mut done))
+    Ok(done.into_sets())
 }
 
 /// The forms of a head's parts, which are on top, give way to that of the whole.
-fn join(alloc: Global, head: Head, done: &mut Stack<Sequence<LinearSet>>) -> Result<(), FormError>
+fn join(alloc: Global, head: Head, done: &mut Lists) -> Result<(), FormError>
     requires { CanJoin most_tags head (forms_view done.old) }
     ensures { Joins most_tags head result (forms_view done.old) (forms_view done.new) }
 {
     match head {
         Head::Zero | Head::Var(_) => {
-            done.push(Sequence::new(alloc))?;
+            done.put_none()?;
             Ok(())
         }
         Head::One => {
-            let form = only_empty(alloc)?;
-            done.push(form)?;
+            done.put_one(only_empty(alloc))?;
             Ok(())
         }
         Head::Tag(tag) => {
-            let form = tag_form(alloc, tag)?;
-            done.push(form)?;
+            done.put_one(only_tag(alloc, tag))?;
             Ok(())
         }
         Head::Sum => join_sum(done),
@@ -79,84 +80,95 @@ fn join(alloc: Global, head: Head, done: &mut Stack<Sequence<LinearSet>>) -> Res
     }
 }
 
-/// The list of the word of the tag alone.
-fn tag_form(alloc: Global, tag: u8) -> Result<Sequence<LinearSet>, AllocError>
+/// The word of the tag alone.
+fn only_tag(alloc: Global, tag: u8) -> LinearSet
     requires { tag < 32 }
-    ensures { IfOk result (λ sets. sets_view sets ≡ linear_set (one tag) [] ∷ []) }
+    ensures { set_view result ≡ linear_set (one tag) [] }
 {
-    let set = LinearSet {
+    LinearSet {
         base: Bag::one(tag),
         periods: Sequence::new(alloc),
-    };
-    Ok(Sequence::from_vec(vec![in alloc; set]?))
-}
-
-/// Takes the form on top.
-fn take_form(done: &mut Stack<Sequence<LinearSet>>) -> Sequence<LinearSet>
-    requires { 1 ≤ length (forms_view done.old) }
-    ensures { forms_view done.old ≡ sets_view result ∷ forms_view done.new }
-{
-    match done.pop() {
-        Some(top) => top,
-        None => unreachable!(),
     }
 }
 
-fn join_sum(done: &mut Stack<Sequence<LinearSet>>) -> Result<(), FormError>
+fn join_sum(done: &mut Lists) -> Result<(), FormError>
     requires { 2 ≤ length (forms_view done.old) }
     ensures { Joins most_tags Head.Sum result (forms_view done.old) (forms_view done.new) }
 {
-    let right = take_form(done);
-    let left = take_form(done);
-    let form = union(left, right)?;
-    done.push(form)?;
+    done.unite();
+    if done.top().len() > MOST_SETS {
+        return Err(FormError::TooLarge);
+    }
     Ok(())
 }
 
-/// The sets of the first list and those of the second, if they are not too many.
-fn union(
-    left: Sequence<LinearSet>,
-    right: Sequence<LinearSet>,
-) -> Result<Sequence<LinearSet>, FormError>
-    ensures { let both = sets_view left ++ sets_view right in GivesSets result (is_short both) both }
-{
-    if left.len() > MOST_SETS || right.len() > MOST_SETS - left.len() {
-        return Err(FormError::TooLarge);
-    }
-    let form = appended(left, right)?;
-    Ok(form)
-}
-
-/// The sets of the first list and those of the second.
-fn appended(
-    left: Sequence<LinearSet>,
-    right: Sequence<LinearSet>,
-) -> Result<Sequence<LinearSet>, AllocError>
-    ensures { IfOk result (λ both. both ≡ left ++ right) }
-{
-    let mut both = left;
-    let mut more = right;
-    both.items.append(&mut more.items)?;
-    Ok(both)
-}
-
-fn join_product(alloc: Global, done: &mut Stack<Sequence<LinearSet>>) -> Result<(), FormError>
+fn join_product(alloc: Global, done: &mut Lists) -> Result<(), FormError>
     requires { CanJoin most_tags Head.Prod (forms_view done.old) }
     ensures { Joins most_tags Head.Prod result (forms_view done.old) (forms_view done.new) }
 {
-    let right = take_form(done);
-    let left = take_form(done);
-    let form = product(alloc, left, right)?;
-    done.push(form)?;
+    let lower = done.unite();
+    multiply(alloc, lower, done)
+}
+
+/// The list on top gives way to the products of so many of its sets with the others. Mostly that is one with one.
+fn multiply(alloc: Global, lower: usize, done: &mut Lists) -> Result<(), FormError>
+    requires there { 1 ≤ length done.old }
+    requires lower { lower ≤ length (top_of done.old) }
+    requires room { HaveRoom (sets_view (take lower (top_of done.old))) (sets_view (drop lower (top_of done.old))) }
+    ensures { let made = products_of most_tags (sets_view (take lower (top_of done.old))) (sets_view (drop lower (top_of done.old))) in GivesTop result (is_short made) made (forms_view (drop 1 done.old)) (forms_view done.new) }
+{
+    let all = done.top();
+    if lower == 1 && all.len() == 2 {
+        multiply_two(done)?;
+        return Ok(());
+    }
+    let (left, right) = all.split_at(lower);
+    let made = products(alloc, left, right)?;
+    done.replace(made)?;
     Ok(())
 }
 
-fn join_star(alloc: Global, done: &mut Stack<Sequence<LinearSet>>) -> Result<(), FormError>
+/// The two sets of the list on top give way to their product.
+fn multiply_two(done: &mut Lists) -> Result<(), AllocError>
+    requires two { length (top_of done.old) ≡ 2 }
+    requires room { HaveRoom (sets_view (take 1 (top_of done.old))) (sets_view (drop 1 (top_of done.old))) }
+    ensures { OnOk result (forms_view done.new ≡ products_of most_tags (sets_view (take 1 (top_of done.old))) (sets_view (drop 1 (top_of done.old))) ∷ forms_view (drop 1 done.old)) }
+{
+    let right = done.pop();
+    let mut both = done.pop();
+    multiply_by(&mut both, &right)?;
+    done.push(both)
+}
+
+fn join_star(alloc: Global, done: &mut Lists) -> Result<(), FormError>
     requires { CanJoin most_tags Head.Star (forms_view done.old) }
     ensures { Joins most_tags Head.Star result (forms_view done.old) (forms_view done.new) }
 {
-    let part = take_form(done);
-    let form = star(alloc, part.as_slice())?;
-    done.push(form)?;
+    if is_one_word(done.top()) {
+        repeat_word(alloc, done)?;
+        return Ok(());
+    }
+    let form = star(alloc, done.top())?;
+    done.replace(form)?;
     Ok(())
+}
+
+/// Whether there is one set, and that without periods.
+fn is_one_word(sets: &[LinearSet]) -> bool
+    ensures { IsTrue result → (base : Word) × (sets_view sets.now ≡ linear_set base [] ∷ []) }
+{
+    match sets {
+        [set] => set.periods.is_empty(),
+        _ => false,
+    }
+}
+
+/// The one set on top, which has no periods, gives way to its star.
+fn repeat_word(alloc: Global, done: &mut Lists) -> Result<(), AllocError>
+    requires { (base : Word) × (sets_view (top_of done.old) ≡ linear_set base [] ∷ []) }
+    ensures { OnOk result (forms_view done.new ≡ times_stars_of most_tags (only_empty_set ∷ []) (sets_view (top_of done.old)) ∷ forms_view (drop 1 done.old)) }
+{
+    let set = done.pop();
+    let star = star_of_base(alloc, &set.base)?;
+    done.push(star)
 }

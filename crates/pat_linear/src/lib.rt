@@ -3,6 +3,7 @@
 
 mod comparing;
 mod error;
+mod flat;
 mod forms;
 mod products;
 mod set;

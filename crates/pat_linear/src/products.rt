@@ -28,7 +28,7 @@ fn set_product(alloc: Global, a: &LinearSet, b: &LinearSet) -> Result<LinearSet,
 }
 
 /// Makes the set the sums of a word of it and one of the other.
-fn multiply(a: &mut LinearSet, b: &LinearSet) -> Result<(), AllocError>
+pub fn multiply_by(a: &mut LinearSet, b: &LinearSet) -> Result<(), AllocError>
     requires { (t : ℕ) → t < 32 → word_of a.old.base t + word_of b.now.base t < 2 ^ 32 }
     ensures { OnOk result (set_view a.new ≡ set_product_of most_tags (set_view a.old) (set_view b.now)) }
 {
@@ -46,7 +46,7 @@ fn one_product(
     ensures { IfOk result (λ done. sets_view done ≡ products_of most_tags (sets_view sets) (set_view other.now ∷ [])) }
 {
     let mut done = sets;
-    multiply(&mut done.items[0], other)?;
+    multiply_by(&mut done.items[0], other)?;
     Ok(done)
 }
 

@@ -1,9 +1,10 @@
 // Stars of linear sets.
 ghost use Rattle.std.specs.Prelude.{◌≡◌, ◌∷◌, [], ◌^◌, IfOk};
+ghost use Rattle.pat_words.specs.Words.{no_word};
 ghost use Rattle.pat_bags.specs.Views.{word_of};
 ghost use Rattle.pat_inclusions.specs.Counts.{most_tags};
-ghost use Rattle.pat_inclusions.specs.LinearSets.{SetsWithin};
-ghost use Rattle.pat_inclusions.specs.ClosedForms.{only_empty as only_empty_set, set_star as set_star_of, star_by, times_stars as times_stars_of, stars_are_short, SetsClean};
+ghost use Rattle.pat_inclusions.specs.LinearSets.{linear_set, SetsWithin};
+ghost use Rattle.pat_inclusions.specs.ClosedForms.{only_empty as only_empty_set, add_period as add_period_of, set_star as set_star_of, times_stars as times_stars_of, stars_are_short, SetsClean};
 ghost use Rattle.pat_linear.specs.Views.{set_view, sets_view};
 ghost use Rattle.pat_linear.specs.Forms.{GivesSets};
 
@@ -15,14 +16,20 @@ use pat_bags::Bag;
 use pat_sequences::Sequence;
 use std::alloc::{AllocError, Global};
 
-/// The list of the empty word alone.
-pub fn only_empty(alloc: Global) -> Result<Sequence<LinearSet>, AllocError>
-    ensures { IfOk result (λ sets. sets_view sets ≡ only_empty_set ∷ []) }
+/// The empty word alone.
+pub fn only_empty(alloc: Global) -> LinearSet
+    ensures { set_view result ≡ only_empty_set }
 {
-    let set = LinearSet {
+    LinearSet {
         base: Bag::empty(),
         periods: Sequence::new(alloc),
-    };
+    }
+}
+
+/// The list of one set.
+fn list_of(alloc: Global, set: LinearSet) -> Result<Sequence<LinearSet>, AllocError>
+    ensures { IfOk result (λ sets. sets ≡ set ∷ []) }
+{
     Ok(Sequence::from_vec(vec![in alloc; set]?))
 }
 
@@ -31,11 +38,12 @@ fn set_star(alloc: Global, set: &LinearSet) -> Result<Sequence<LinearSet>, Alloc
     ensures { IfOk result (λ sets. sets_view sets ≡ set_star_of most_tags (set_view set.now)) }
 {
     if set.periods.is_empty() {
-        return star_of_base(alloc, &set.base);
+        let star = star_of_base(alloc, &set.base)?;
+        return list_of(alloc, star);
     }
     let mut periods = copied(alloc, set.periods.as_slice())?;
     add_period(&mut periods, &set.base)?;
-    let mut sets = only_empty(alloc)?;
+    let mut sets = list_of(alloc, only_empty(alloc))?;
     sets.push(LinearSet {
         base: set.base,
         periods,
@@ -44,16 +52,15 @@ fn set_star(alloc: Global, set: &LinearSet) -> Result<Sequence<LinearSet>, Alloc
 }
 
 /// The sums of any number of the word.
-fn star_of_base(alloc: Global, base: &Bag) -> Result<Sequence<LinearSet>, AllocError>
-    ensures { IfOk result (λ sets. sets_view sets ≡ star_by most_tags (word_of base.now) []) }
+pub fn star_of_base(alloc: Global, base: &Bag) -> Result<LinearSet, AllocError>
+    ensures { IfOk result (λ set. set_view set ≡ linear_set no_word (add_period_of most_tags [] (word_of base.now))) }
 {
     let mut periods = Sequence::new(alloc);
     add_period(&mut periods, base)?;
-    let set = LinearSet {
+    Ok(LinearSet {
         base: Bag::empty(),
         periods,
-    };
-    Ok(Sequence::from_vec(vec![in alloc; set]?))
+    })
 }
 
 /// The finite sums of words of the sets: what was made so far, times the star of each further set in turn.
@@ -62,7 +69,7 @@ pub fn star(alloc: Global, sets: &[LinearSet]) -> Result<Sequence<LinearSet>, Fo
     requires clean { SetsClean most_tags (sets_view sets.now) }
     ensures { GivesSets result (stars_are_short most_tags (only_empty_set ∷ []) (sets_view sets.now)) (times_stars_of most_tags (only_empty_set ∷ []) (sets_view sets.now)) }
 {
-    let mut made = only_empty(alloc)?;
+    let mut made = list_of(alloc, only_empty(alloc))?;
     for set in sets {
         let factor = set_star(alloc, set)?;
         made = product(alloc, made, factor)?;

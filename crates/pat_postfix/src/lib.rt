@@ -8,7 +8,7 @@ ghost use Rattle.pat_postfix.specs.Postfix.{nodes, postfix_onto, postfix_all};
 ghost use Rattle.pat_postfix.specs.Views.{pointed};
 
 use pat_patterns::Pattern;
-use pat_sequences::Stack;
+use pat_sequences::{Base, Stack};
 use std::alloc::{AllocError, Global};
 
 /// The head of a pattern: what it is, apart from its parts.
@@ -34,13 +34,23 @@ pub enum Head {
 pub fn postfix(alloc: Global, p: &Pattern) -> Result<Stack<Head>, AllocError>
     ensures { IfOk result (λ heads. heads ≡ postfix_onto (pattern_view p.now) []) }
 {
-    let mut heads = Stack::new(alloc);
-    let mut waiting = Stack::new(alloc);
+    let mut heads = with_room(alloc, 32)?;
+    let mut waiting = with_room(alloc, 16)?;
     waiting.push(p)?;
     while let Some(next) = waiting.pop() {
         push_head(next, &mut waiting, &mut heads)?;
     }
     Ok(heads)
+}
+
+/// An empty stack with room for so many items, as most patterns need.
+fn with_room<T: Drop>(alloc: Global, items: usize) -> Result<Stack<T>, AllocError>
+    ensures { IfOk result (λ stack. stack ≡ []) }
+{
+    match Base::new(Stack::new(alloc), items) {
+        Ok(base) => Ok(base.into_stack()),
+        Err(_) => Err(AllocError),
+    }
 }
 
 /// The pattern's head goes on top of the others; its parts wait, the right one on top.

@@ -8,7 +8,7 @@ use Rattle.pat_linear.proofs.forms.form_of.Goals as goal
 
 pub loop-head-init : goal.loop-head-init
 loop-head-init c =
-    begun most_tags (pattern_view c.args.p.now) c.in_ok-heads.heads (forms_view c.new-done.result) c.in_ok-heads.ensures (ap forms_view c.new-done.ensures)
+    begun most_tags (pattern_view c.args.p.now) c.in_ok-heads.heads (forms_view c.in_ok-done.done) c.in_ok-heads.ensures (ap forms_view c.in_ok-done.ensures)
 
 pub join-requires : goal.join-requires
 join-requires c =

@@ -10,7 +10,7 @@ use Rattle.pat_certs_numbers.specs.Numbers.{MakesFirst}
 use Rattle.pat_certs_numbers.specs.Frames.{left_of, Stands, CameToNothing, Advances, lists_left, numbers_of}
 use Rattle.pat_certs_numbers.proofs.Standing.{stands_fits, left_last, push_stands, nothing_here, nothing_at_all, none_came}
 use Rattle.pat_certs_numbers.proofs.Ending.{first_numbers, push_less}
-use Rattle.pat_certs_numbers.proofs.numbers.find_numbers.Goals as goal
+use Rattle.pat_certs_numbers.proofs.numbers.search_all.Goals as goal
 
 pub returns-then-is_empty : goal.returns-then-is_empty
 returns-then-is_empty c =

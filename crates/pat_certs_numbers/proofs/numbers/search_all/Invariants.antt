@@ -3,7 +3,7 @@ use Rattle.pat_bags.specs.Views.{word_of}
 use Rattle.pat_inclusions.specs.Counts.{most_tags}
 use Rattle.pat_linear.specs.Views.{words_of}
 use Rattle.pat_certs_numbers.specs.Frames.{left_of, Stands, CameToNothing, lists_left}
-use Rattle.pat_certs_numbers.proofs.numbers.find_numbers.Given as goal
+use Rattle.pat_certs_numbers.proofs.numbers.search_all.Given as goal
 
 abbrev pub invariant-loop-left : goal.invariant-loop-left
 invariant-loop-left l = record {
