@@ -3,3 +3,4 @@ pub use Rattle.pat_alone_laws.specs.Laws
 pub mod InPlace
 pub mod Placed
 pub mod Steps
+pub mod Remains

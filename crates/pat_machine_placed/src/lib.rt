@@ -5,6 +5,8 @@ mod copies;
 mod in_place;
 mod moves;
 mod placed;
+mod remains;
 mod steps;
 
 pub use placed::Placed;
+pub use remains::Remains;
