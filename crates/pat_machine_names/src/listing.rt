@@ -1,7 +1,6 @@
 // The mailboxes that a thread names.
-ghost use Rattle.std.specs.Prelude.{ℕ, ◌<◌, map, IsTrue, OnOk};
+ghost use Rattle.std.specs.Prelude.{map, OnOk};
 ghost use Rattle.pat_model.specs.WellFormed.{count_if};
-ghost use Rattle.pat_model.specs.Programs.{is_among};
 ghost use Rattle.pat_model.specs.Configs.{is_mailbox};
 ghost use Rattle.pat_reduce_threads.specs.ThreadViews.{control_view, frame_view, thread_view};
 ghost use Rattle.pat_reduce_values.specs.ValueViews.{env_view, value_view};
@@ -17,7 +16,7 @@ use std::alloc::AllocError;
 
 /// Lists at least the mailboxes that the control of a thread and so many of its frames name, behind what is listed. An error may have listed some.
 pub fn list_top(state: &ThreadState, frames: u32, named: &mut Vec<u32>) -> Result<(), AllocError>
-    ensures { OnOk result ((a : ℕ) → 0 < times_in_thread a (top_of frames (thread_view state.now)) → IsTrue (is_among a named.new.items)) }
+    ensures { OnOk result (Lists named.old.items (λ a. times_in_thread a (top_of frames (thread_view state.now))) named.new.items) }
 {
     join_laws();
     list_control(&state.control, named)?;

@@ -4,6 +4,6 @@ use Rattle.pat_machine_names.proofs.listing.list_top.Goals as goal
 
 pub returns : goal.returns
 returns c =
-    (lists_both _ _ _
+    lists_both _ _ _
     (top_names c.join_laws.ensures.frames c.args.state.now c.args.frames _ c.top_frames.ensures)
-    c.in_ok-list_control.ensures c.in_ok-list_frames.ensures).named
+    c.in_ok-list_control.ensures c.in_ok-list_frames.ensures
