@@ -12,7 +12,7 @@ use pat_core::Program;
 use pat_deriv::TextError;
 use pat_executable::Executable;
 use pat_front::{FrontError, Verdict};
-use pat_lines::{read, replay_text_of};
+use pat_lines::{Remains, read, replay_text_of};
 use pat_marked::place_of_mark;
 use pat_marked_programs::program_before;
 use pat_reduce::{Config, Entry};
@@ -101,7 +101,9 @@ fn shown(
     requires replayed { replay_of (program_view code.now.program) (map entry_view entries.now) ≡ Some (config_view config.now) }
     ensures { IfOk result (λ a. AnswersEntries (program_view code.now.program) (map entry_view entries.now) a.text.items a.status) }
 {
-    let text = replay_text_of(alloc, entries, config, standing_of(code, config))?;
+    let remains = Remains::of(alloc, config)?;
+    let printed = config.printed.as_slice();
+    let text = replay_text_of(alloc, entries, printed, &remains, standing_of(code, config))?;
     Ok(Answer {
         text,
         status: Status::Ok,

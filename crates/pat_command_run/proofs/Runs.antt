@@ -8,9 +8,8 @@ use Rattle.pat_model.specs.Steps.{Step}
 use Rattle.pat_model.specs.Runs.{Entry, IsHistory, entry_steps, entry_from, replay_from, replay, step_count}
 use Rattle.pat_core.specs.declared.program.Program.{Program as CodeProgram}
 use Rattle.pat_core.specs.Views.{program_view}
-use Rattle.pat_reduce.specs.declared.config.Config.{Config as CodeConfig}
 use Rattle.pat_reduce.specs.declared.history.Entry.{Entry as CodeEntry}
-use Rattle.pat_reduce.specs.Views.{config_view, entry_view}
+use Rattle.pat_reduce.specs.Views.{entry_view}
 use Rattle.pat_commits.specs.Machines.{StaysWithin}
 use Rattle.pat_machine.specs.declared.job.Named.{Named}
 use Rattle.pat_run.specs.Shown.{Shown, IsMachine, program_of, entries_of}
@@ -56,8 +55,8 @@ pub shown_history : (m : Shown) (h : List CodeEntry) → IsMachine m → h ≡ m
 shown_history m h facts same = subst (λ l. IsHistory (map entry_view l)) (sym same) facts.history
 
 -- a finished run shows its text and its status
-pub run_shows : (d : Detail) (program : CodeProgram) (o : RunOptions) (f : Finished) (h : List CodeEntry) (c : CodeConfig) (text : List ℕ) (s : Status) → RunGives program o f → IsMachine f.machine → h ≡ f.machine.history → config_view c ≡ f.machine.config → text ≡ told d (map entry_view h) (config_view c) (outcome_view f.outcome) → EndsWith (outcome_view f.outcome) s → RunShows (program_view program) d o text s
-run_shows d program o f h c text s gives facts same config shown ends =
+pub run_shows : (d : Detail) (program : CodeProgram) (o : RunOptions) (f : Finished) (h : List CodeEntry) (text : List ℕ) (s : Status) → RunGives program o f → IsMachine f.machine → h ≡ f.machine.history → text ≡ told d (map entry_view h) f.machine.config (outcome_view f.outcome) → EndsWith (outcome_view f.outcome) s → RunShows (program_view program) d o text s
+run_shows d program o f h text s gives facts same shown ends =
     let own = outcome_view f.outcome in
     let es = entries_of f.machine in
     let budget : f.machine.named.budget ≡ o.steps = ap (λ (n : Named). n.budget) gives.named in
@@ -72,6 +71,6 @@ run_shows d program o f h c text s gives facts same config shown ends =
         limited = subst (λ (n : Named). StaysWithin (program_view n.program) n.limit es) gives.named facts.limited;
         within = omega (arith, budget, counted);
         run = gives.run;
-        shown = shown ∙ ap (λ l. told d (map entry_view l) (config_view c) own) same ∙ ap (λ k. told d es k own) config;
+        shown = shown ∙ ap (λ l. told d (map entry_view l) f.machine.config own) same;
       },
     )

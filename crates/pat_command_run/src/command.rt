@@ -2,13 +2,15 @@
 ghost use Rattle.std.specs.Prelude.{◌≡◌, ◌<◌, ℕ, List, length, map, IfOk};
 ghost use Rattle.pat_core.specs.Views.{program_view};
 ghost use Rattle.pat_model.specs.WellFormed.{WellFormed};
+ghost use Rattle.pat_model.specs.Configs.{Config};
 ghost use Rattle.pat_model.specs.Runs.{IsHistory};
 ghost use Rattle.pat_typing.specs.Typings.{IsTypable};
-ghost use Rattle.pat_reduce.specs.Views.{config_view, entry_view};
+ghost use Rattle.pat_reduce.specs.Views.{entry_view};
 ghost use Rattle.pat_run.specs.Gives.{outcome_view};
 ghost use Rattle.pat_options.specs.Options.{IsWithin};
 ghost use Rattle.pat_input.specs.Inputs.{IsRead};
 ghost use Rattle.pat_run.specs.Runners.{IsRunner};
+ghost use Rattle.pat_lines.specs.Remains.{remains_of};
 ghost use Rattle.pat_checked.specs.Checks.{IsChecked};
 ghost use Rattle.pat_command_run.specs.Allowed as allowed;
 ghost use Rattle.pat_command_run.specs.Allowed.{AllowedRun, RunShows, EndsWith};
@@ -19,11 +21,11 @@ use pat_checked::{Checked, check_input};
 use pat_core::Program;
 use pat_derivations::Derivation;
 use pat_input::Input;
-use pat_lines::{replay_text_of, text_of};
+use pat_lines::{Remains, replay_text_of, text_of};
 use pat_options::RunOptions;
-use pat_reduce::{Config, Entry};
+use pat_reduce::Entry;
 use pat_run::{Finished, Outcome};
-use pat_sequences::let_go;
+use pat_sequences::{Text, let_go};
 use std::alloc::{AllocError, Global};
 
 /// How much of a run is told.
@@ -104,9 +106,10 @@ fn run_program<F: Fn(Accepted, RunOptions) -> Result<Finished, AllocError>>(
     ensures { IfOk result (λ a. RunShows (program_view accepted) detail options a.text.items a.status) }
 {
     let finished = run(accepted, options)?;
-    let config = finished.machine.config()?;
+    let remains = finished.machine.remains()?;
     let entries = finished.machine.history();
-    let text = told(alloc, detail, entries, &config, finished.outcome)?;
+    let printed = finished.machine.printed();
+    let text = told(alloc, detail, entries, printed, &remains, finished.outcome)?;
     Ok(Answer {
         text,
         status: status_of(finished.outcome),
@@ -118,16 +121,17 @@ fn told(
     alloc: Global,
     detail: Detail,
     entries: &[Entry],
-    config: &Config,
+    printed: &[Text],
+    remains: &Remains,
     outcome: Outcome,
 ) -> Result<Vec<u8>, AllocError>
     requires history { IsHistory (map entry_view entries.now) }
     requires few { length entries.now < 4294967296 }
-    ensures { IfOk result (λ t. t.items ≡ allowed.told detail (map entry_view entries.now) (config_view config.now) (outcome_view outcome)) }
+    ensures { (c : Config) → c.printed ≡ printed.now → remains_of c ≡ remains.now → IfOk result (λ t. t.items ≡ allowed.told detail (map entry_view entries.now) c (outcome_view outcome)) }
 {
     match detail {
-        Detail::Whole => text_of(alloc, entries, config, outcome),
-        Detail::Summary => replay_text_of(alloc, entries, config, Some(outcome)),
+        Detail::Whole => text_of(alloc, entries, printed, remains, outcome),
+        Detail::Summary => replay_text_of(alloc, entries, printed, remains, Some(outcome)),
     }
 }
 

@@ -1,2 +1,3 @@
 pub use Rattle.pat_machine.specs.Gives
+pub use Rattle.pat_machine.specs.Remains
 pub mod RunText

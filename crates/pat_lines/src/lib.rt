@@ -6,5 +6,5 @@ mod run_text;
 mod standing;
 
 pub use pat_history::read;
-pub use pat_machine::Outcome;
+pub use pat_machine::{Outcome, Remains};
 pub use run_text::{replay_text_of, text_of};

@@ -1,32 +1,35 @@
 // The text of a run, and that of a replay.
 ghost use Rattle.std.specs.Prelude.{◌≡◌, ◌<◌, ◌++◌, length, map, option_map, IfOk, OnOk};
 ghost use Rattle.std.specs.List.{flat_map};
+ghost use Rattle.pat_model.specs.Configs.{Config};
 ghost use Rattle.pat_model.specs.Runs.{IsHistory};
-ghost use Rattle.pat_reduce.specs.Views.{config_view, entry_view};
+ghost use Rattle.pat_reduce.specs.Views.{entry_view};
 ghost use Rattle.pat_machine.specs.Gives.{outcome_view};
+ghost use Rattle.pat_machine.specs.Remains.{remains_of};
 ghost use Rattle.pat_lines.specs.RunText.{output_line, output_text, run_text, replay_text};
 
 use crate::counting::count_steps;
 use crate::standing::push_standing;
-use pat_machine::Outcome;
-use pat_reduce::{Config, Entry};
+use pat_machine::{Outcome, Remains};
+use pat_reduce::Entry;
 use pat_sequences::Text;
 use std::alloc::{AllocError, Global};
 
-/// The history, the lines printed, and the outcome.
+/// The history, the lines printed, and the outcome, of a run to a configuration of which this is left.
 pub fn text_of(
     alloc: Global,
     entries: &[Entry],
-    config: &Config,
+    printed: &[Text],
+    remains: &Remains,
     outcome: Outcome,
 ) -> Result<Vec<u8>, AllocError>
     requires history { IsHistory (map entry_view entries.now) }
     requires few { length entries.now < 4294967296 }
-    ensures { IfOk result (λ t. t.items ≡ run_text (map entry_view entries.now) (config_view config.now) (outcome_view outcome)) }
+    ensures { (c : Config) → c.printed ≡ printed.now → remains_of c ≡ remains.now → IfOk result (λ t. t.items ≡ run_text (map entry_view entries.now) c (outcome_view outcome)) }
 {
     let mut text = pat_history::write(alloc, entries)?;
-    push_output(&mut text, config.printed.as_slice())?;
-    push_standing(&mut text, Some(outcome), count_steps(entries), config)?;
+    push_output(&mut text, printed)?;
+    push_standing(&mut text, Some(outcome), count_steps(entries), remains)?;
     Ok(text)
 }
 
@@ -34,15 +37,16 @@ pub fn text_of(
 pub fn replay_text_of(
     alloc: Global,
     entries: &[Entry],
-    config: &Config,
+    printed: &[Text],
+    remains: &Remains,
     standing: Option<Outcome>,
 ) -> Result<Vec<u8>, AllocError>
     requires { length entries.now < 4294967296 }
-    ensures { IfOk result (λ t. t.items ≡ replay_text (map entry_view entries.now) (config_view config.now) (option_map outcome_view standing)) }
+    ensures { (c : Config) → c.printed ≡ printed.now → remains_of c ≡ remains.now → IfOk result (λ t. t.items ≡ replay_text (map entry_view entries.now) c (option_map outcome_view standing)) }
 {
     let mut text = Vec::new(alloc);
-    push_lines(&mut text, config.printed.as_slice())?;
-    push_standing(&mut text, standing, count_steps(entries), config)?;
+    push_lines(&mut text, printed)?;
+    push_standing(&mut text, standing, count_steps(entries), remains)?;
     Ok(text)
 }
 

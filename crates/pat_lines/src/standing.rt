@@ -1,14 +1,12 @@
 // The line that says how a run ended, or how a replay stands.
 ghost use Rattle.std.specs.Prelude.{◌≡◌, ◌++◌, length, option_map, OnOk};
 ghost use Rattle.std.specs.Fmt.{decimal};
-ghost use Rattle.pat_reduce.specs.Views.{config_view, threads_view};
 ghost use Rattle.pat_machine.specs.Gives.{outcome_view};
 ghost use Rattle.pat_history_text.specs.HistoryText.{line};
 ghost use Rattle.pat_lines.specs.RunText.{left_text, numbers_text, standing_text};
 
 use pat_decimal::push_number;
-use pat_machine::Outcome;
-use pat_reduce::{Config, ThreadState};
+use pat_machine::{Outcome, Remains};
 use std::alloc::AllocError;
 
 /// The outcome after so many steps, or `open` where there is none, with a newline.
@@ -16,11 +14,11 @@ pub fn push_standing(
     text: &mut Vec<u8>,
     standing: Option<Outcome>,
     steps: u64,
-    config: &Config,
+    remains: &Remains,
 ) -> Result<(), AllocError>
-    ensures { OnOk result (text.new.items ≡ text.old.items ++ line (standing_text (option_map outcome_view standing) steps (config_view config.now))) }
+    ensures { OnOk result (text.new.items ≡ text.old.items ++ line (standing_text (option_map outcome_view standing) steps remains.now.threads remains.now.live)) }
 {
-    push_words(text, standing, steps, config)?;
+    push_words(text, standing, steps, remains)?;
     text.push(b'\n')?;
     Ok(())
 }
@@ -29,18 +27,18 @@ fn push_words(
     text: &mut Vec<u8>,
     standing: Option<Outcome>,
     steps: u64,
-    config: &Config,
+    remains: &Remains,
 ) -> Result<(), AllocError>
-    ensures { OnOk result (text.new.items ≡ text.old.items ++ standing_text (option_map outcome_view standing) steps (config_view config.now)) }
+    ensures { OnOk result (text.new.items ≡ text.old.items ++ standing_text (option_map outcome_view standing) steps remains.now.threads remains.now.live) }
 {
     match standing {
         Some(Outcome::Done) => {
             push_count(text, b"done ", steps)?;
-            push_left(text, config.live.len())
+            push_left(text, remains.live)
         }
         Some(Outcome::Waiting) => {
             push_count(text, b"waiting ", steps)?;
-            push_threads(text, config.threads.as_slice())
+            push_threads(text, remains.threads.as_slice())
         }
         Some(Outcome::Full) => push_count(text, b"full ", steps),
         Some(Outcome::Budget) => push_count(text, b"budget ", steps),
@@ -67,12 +65,12 @@ fn push_left(text: &mut Vec<u8>, count: usize) -> Result<(), AllocError>
 }
 
 // The numbers of the threads, each after a space.
-fn push_threads(text: &mut Vec<u8>, threads: &[(u32, ThreadState)]) -> Result<(), AllocError>
-    ensures { OnOk result (text.new.items ≡ text.old.items ++ numbers_text (threads_view threads.now)) }
+fn push_threads(text: &mut Vec<u8>, threads: &[u32]) -> Result<(), AllocError>
+    ensures { OnOk result (text.new.items ≡ text.old.items ++ numbers_text threads.now) }
 {
-    for entry in threads {
+    for thread in threads {
         text.push(b' ')?;
-        push_number(text, entry.0 as u64)?;
+        push_number(text, *thread as u64)?;
     }
     Ok(())
 }

@@ -13,3 +13,4 @@ mod taking;
 
 pub use job::{CommitRefused, Job, Named, Outcome, Receipt, StateRefused, TakeRefused};
 pub use machine::Machine;
+pub use pat_machine_following::Remains;

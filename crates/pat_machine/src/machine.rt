@@ -3,6 +3,7 @@ ghost use Rattle.std.specs.Prelude.{◌≡◌, ℕ, ◌<◌, ◌≤◌, IfOk, On
 ghost use Rattle.pat_reduce_threads.specs.ThreadViews.{thread_view};
 ghost use Rattle.pat_reduce.specs.Views.{config_view};
 ghost use Rattle.pat_commits.specs.Commits.{IsLocalRun};
+ghost use Rattle.pat_machine.specs.Remains.{remains_of};
 ghost use Rattle.pat_machine.specs.Shown.{program_of, IsMachine, IsNew};
 ghost use Rattle.pat_machine.specs.Gives.{TakeGives, TakeThreadGives, StateGives, CommitGives, GivesBack, OutcomeGives, all_back};
 ghost use Rattle.pat_machine.specs.Driving.{IsDriven, IsStopped};
@@ -12,6 +13,7 @@ use crate::parts::Parts;
 use pat_accepted::Accepted;
 use pat_core::Program;
 use pat_kept::Kept;
+use pat_machine_following::Remains;
 use pat_machine_threads::LocalRun;
 use pat_reduce::{Config, Entry, ThreadState};
 use pat_sequences::Text;
@@ -160,6 +162,13 @@ impl Machine {
         ensures facts { IsMachine self.now }
     {
         self.parts.state.copy(self.parts.alloc)
+    }
+
+    /// What is left of the configuration: the threads that are there, by number, and how many mailboxes are live.
+    pub fn remains(&self) -> Result<Remains, AllocError>
+        ensures { IfOk result (λ r. r ≡ remains_of self.now.config) }
+    {
+        self.parts.state.remains(self.parts.alloc)
     }
 
     /// The printed lines.

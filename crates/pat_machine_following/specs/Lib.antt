@@ -1,4 +1,5 @@
 pub use Rattle.pat_machine_shares.specs.Leaving
+pub use Rattle.pat_machine_shares.specs.Remains
 pub use Rattle.pat_machine_shares.specs.Settling
 pub use Rattle.pat_naming_laws.specs.Counting
 pub use Rattle.pat_naming_laws.specs.Naming

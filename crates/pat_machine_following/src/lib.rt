@@ -6,4 +6,4 @@ mod sending;
 mod waking;
 
 pub use following::{Stepped, follow};
-pub use pat_machine_shares::{Names, Prospect, State, Taken, list_top, share};
+pub use pat_machine_shares::{Names, Prospect, Remains, State, Taken, list_top, share};

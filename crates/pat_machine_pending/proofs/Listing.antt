@@ -1,6 +1,7 @@
 -- The live mailboxes, listed one after another.
-use Rattle.std.proofs.Common.{◌≡◌, ℕ, zero, suc, ◌+◌, Bool, List, [], ◌∷◌, ◌++◌, take, Option, Some, None, refl, sym, ap, ◌∙◌, arith, add-one}
+use Rattle.std.proofs.Common.{◌≡◌, ℕ, zero, suc, ◌+◌, Bool, List, [], ◌∷◌, ◌++◌, length, take, Option, Some, None, refl, sym, ap, ◌∙◌, arith, add-one}
 use Rattle.std.specs.Prelude.{is_some, if◌then◌else◌}
+use Rattle.std.proofs.lemmas.List.{length-append}
 use Rattle.pat_model.specs.Configs.{Message}
 use Rattle.pat_pending_laws.specs.Pending.{live_from, live_of, box_at}
 use Rattle.pat_mailboxes.specs.Mailboxes.{Mailbox, mailbox_at}
@@ -30,3 +31,13 @@ listed_more ms own more i so_far is =
     ∙ ap (λ b. live_of (take i (boxes_view ms)) ++ one_if b i) (sym (live_view ms i))
     ∙ ap (λ k. live_of (take i (boxes_view ms)) ++ one_if (is_some (box_at (boxes_view ms) i)) k) (omega arith)
     ∙ sym (ap (λ k. live_of (take k (boxes_view ms))) (add-one i) ∙ listed_from 0 (boxes_view ms) i)
+
+pub counted_more : (ms : List (Option Mailbox)) (own more i : ℕ) (b : Bool) → own ≡ length (live_of (take i (boxes_view ms))) → is_some (mailbox_at ms i) ≡ b → more ≡ own + length (one_if b i)
+    → more ≡ length (live_of (take (i + 1) (boxes_view ms)))
+counted_more ms own more i b so_far live is =
+    let before = live_of (take i (boxes_view ms)) in
+    is
+    ∙ ap (λ n. n + length (one_if b i)) so_far
+    ∙ ap (λ c. length before + length (one_if c i)) (sym live)
+    ∙ sym (length-append before (one_if (is_some (mailbox_at ms i)) i))
+    ∙ ap length (listed_more ms before (before ++ one_if (is_some (mailbox_at ms i)) i) i refl refl)

@@ -1,4 +1,4 @@
-// Copies of pending messages, and lists of live mailboxes.
+// Copies of pending messages, and the live mailboxes, as a list and counted.
 ghost use Rattle.std.specs.Prelude.{◌≡◌, [], ◌∷◌, ◌++◌, map, length, take, is_some, if◌then◌else◌, IfOk, OnOk};
 ghost use Rattle.pat_reduce_threads.specs.ThreadViews.{message_view};
 ghost use Rattle.pat_reduce_values.specs.ValueViews.{value_view};
@@ -107,4 +107,18 @@ fn list_box(mailboxes: &Mailboxes, mailbox: u32, own: &mut Sequence<u32>) -> Res
     } else {
         Ok(())
     }
+}
+
+/// How many of the first mailboxes are live.
+pub fn count_live(mailboxes: &Mailboxes, count: u32) -> usize
+    requires { count ≡ length mailboxes.now.mailboxes }
+    ensures { result ≡ length (live_of (boxes_view mailboxes.now.mailboxes)) }
+{
+    let mut live = 0;
+    for mailbox in 0..count {
+        if mailboxes.is_live(mailbox) {
+            live += 1;
+        }
+    }
+    live
 }

@@ -4,6 +4,6 @@
 mod copies;
 mod deliveries;
 
-pub use copies::{copy_pending, list_live};
+pub use copies::{copy_pending, count_live, list_live};
 pub use deliveries::{Numbered, Taken, delivery, first_message};
 pub use pat_mailboxes::Mailboxes;

@@ -1,6 +1,7 @@
 -- Threads that are copied slot after slot.
 use Rattle.std.proofs.Common.{◌≡◌, ℕ, zero, suc, ◌+◌, List, [], ◌∷◌, ◌++◌, take, get_or, Option, Some, None, refl, sym, ap, ◌∙◌, arith, add-one}
 use Rattle.std.proofs.lemmas.List.{map-append}
+use Rattle.std.specs.Map.{keys_of}
 use Rattle.pat_reduce_threads.specs.declared.state.ThreadState.{ThreadState}
 use Rattle.pat_reduce.specs.Views.{threads_view}
 use Rattle.pat_machine_table.specs.Entries.{entries_from}
@@ -23,3 +24,13 @@ copied_more slots own more i so_far is =
     ∙ ap (λ k. threads_view (entries_from 0 (take i slots)) ++ threads_view (numbered k (get_or slots i None))) (omega arith)
     ∙ sym (map-append _ (entries_from 0 (take i slots)) (numbered (0 + i) (get_or slots i None)))
     ∙ ap threads_view (sym (ap (λ k. entries_from 0 (take k slots)) (add-one i) ∙ copied_from 0 slots i))
+
+pub listed_more : (slots : List (Option ThreadState)) (own more : List ℕ) (i : ℕ) → own ≡ keys_of (threads_view (entries_from 0 (take i slots)))
+    → more ≡ own ++ keys_of (threads_view (numbered i (get_or slots i None))) → more ≡ keys_of (threads_view (entries_from 0 (take (i + 1) slots)))
+listed_more slots own more i so_far is =
+    let next = numbered i (get_or slots i None) in
+    let before = entries_from 0 (take i slots) in
+    is
+    ∙ ap (λ l. l ++ keys_of (threads_view next)) so_far
+    ∙ sym (map-append _ (threads_view before) (threads_view next))
+    ∙ ap keys_of (sym (map-append _ before next) ∙ copied_more slots before (before ++ next) i refl (map-append _ before next))

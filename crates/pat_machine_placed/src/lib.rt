@@ -4,6 +4,8 @@
 mod copies;
 mod moves;
 mod placed;
+mod remains;
 mod steps;
 
 pub use placed::Placed;
+pub use remains::Remains;

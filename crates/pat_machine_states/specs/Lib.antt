@@ -1,4 +1,5 @@
 pub use Rattle.pat_machine_names.specs.Changes
+pub use Rattle.pat_machine_placed.specs.Remains
 pub mod Opening
 pub mod Prospects
 pub mod Asides

@@ -3,11 +3,13 @@ ghost use Rattle.std.specs.Prelude.{◌≡◌, ℕ, ◌<◌, Some, None, length,
 ghost use Rattle.pat_model.specs.Configs.{Thread as ThreadOf, start, thread_at, with_thread};
 ghost use Rattle.pat_core.specs.Views.{program_view};
 ghost use Rattle.pat_reduce_threads.specs.ThreadViews.{thread_view};
+ghost use Rattle.pat_reduce.specs.Views.{config_view};
+ghost use Rattle.pat_machine_placed.specs.Remains.{remains_of};
 
 use pat_executable::Executable;
-use pat_machine_pending::Mailboxes;
-use pat_machine_placed::Placed;
-use pat_reduce::ThreadState;
+use pat_machine_pending::{Mailboxes, copy_pending, count_live, list_live};
+use pat_machine_placed::{Placed, Remains};
+use pat_reduce::{Config, ThreadState};
 use pat_sequences::Text;
 use std::alloc::{AllocError, Global};
 use std::marker::Model;
@@ -84,5 +86,23 @@ impl State {
         ensures { result.now ≡ self.now.printed }
     {
         self.placed.printed()
+    }
+
+    /// A copy of the configuration.
+    pub fn copy(&self, alloc: Global) -> Result<Config, AllocError>
+        ensures { IfOk result (λ c. config_view c ≡ self.now) }
+    {
+        let count = self.placed.mailboxes_made();
+        let messages = copy_pending(alloc, &self.mailboxes, count)?;
+        let live = list_live(alloc, &self.mailboxes, count)?;
+        self.placed.copy(alloc, messages, live)
+    }
+
+    /// What is left of the configuration.
+    pub fn remains(&self, alloc: Global) -> Result<Remains, AllocError>
+        ensures { IfOk result (λ r. r ≡ remains_of self.now) }
+    {
+        let live = count_live(&self.mailboxes, self.placed.mailboxes_made());
+        self.placed.remains(alloc, live)
     }
 }
