@@ -15,5 +15,5 @@ told-requires-clause-few g c =
 pub returns : goal.returns
 returns g c =
     let gives = subst (λ r. IfOk r (RunGives c.args.accepted c.args.options)) c.in_ok-finished.was (c.requires.runner.gives c.args.accepted c.args.options c.run.result c.run.ensures) in
-    let text = c.in_ok-text.ensures c.in_ok-finished.finished.machine.config (sym c.printed.ensures) (sym c.in_ok-remains.ensures) in
+    let text = c.in_ok-text.ensures c.in_ok-finished.finished.machine.config (sym c.printed-printed.ensures) (sym c.in_ok-remains.ensures) in
     run_shows c.args.detail c.args.accepted c.args.options c.in_ok-finished.finished c.history-entries.result.now c.in_ok-text.text.items c.status_of.result gives c.history-entries.ensures.facts c.history-entries.ensures.history text c.status_of.ensures
