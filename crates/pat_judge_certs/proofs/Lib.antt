@@ -3,3 +3,4 @@ pub mod CoverTags
 pub mod Plainly
 mod CutsShown
 mod Numbered
+mod Arms

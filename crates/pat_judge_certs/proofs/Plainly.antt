@@ -1,15 +1,12 @@
 -- Values that are patterns, looked up in a list.
-use Rattle.std.proofs.Common.{◌≡◌, ℕ, zero, suc, ◌+◌, ◌<◌, Bool, true, false, ◌&&◌, ◌||◌, List, [], ◌∷◌, Option, Some, None, length, refl, sym, ap, ap₂, ◌∙◌, subst, arith}
-use Rattle.std.specs.Prelude.{slice_get, slice_index_or, nat_lt}
+use Rattle.std.proofs.Common.{◌≡◌, ℕ, zero, suc, ◌+◌, ◌<◌, true, false, List, [], ◌∷◌, Option, Some, None, length, refl, sym, ap, ap₂, ◌∙◌, subst, arith}
+use Rattle.std.specs.Prelude.{slice_get, slice_index_or}
 use Rattle.std.proofs.lemmas.Bool.{and_parts, and_from, lt-ltb}
 use Rattle.std.proofs.lemmas.List.{length-map}
 use Rattle.std.proofs.lemmas.Option.{slice_get_within}
-use Rattle.pat_words.specs.Patterns.{Pat, Zero, One, Tag, Sum, Prod, Star, Var, sum_of, prod_of, star_of, subst_of, pat_eq}
+use Rattle.pat_words.specs.Patterns.{Pat, Zero, One, Tag, Sum, Prod, Star, Var, sum_of, prod_of, star_of, subst_of}
 use Rattle.pat_words.specs.Substitutions.{has_values}
-use Rattle.pat_inclusions.specs.Values.{VarValue, PatternForm, GridForm, VarLine, Scope, var_at, has_interface, is_formed, plain_or_var, plainly_replaced}
-use Rattle.pat_inclusions.specs.Certificates.{is_arm, is_trivial}
-use Rattle.pat_words_laws.proofs.FormLaws.{pat_eq_refl}
-use Rattle.pat_words_laws.proofs.PatternLaws.{pat_eq_same}
+use Rattle.pat_inclusions.specs.Values.{PatternForm, GridForm, VarLine, Scope, var_at, has_interface, is_formed, plain_or_var, plainly_replaced}
 use Rattle.pat_patterns.specs.declared.pattern.Pattern.{Pattern}
 use Rattle.pat_patterns.specs.Views.{pattern_view, patterns_view, value_at}
 use Rattle.pat_judge_certs.specs.Plain.{plain_value_of, plain_from, all_plain}
@@ -52,20 +49,6 @@ pub plainly : (s : Scope) (i : ℕ) (e : Pat) (plain : List Pat) → plain ≡ a
 plainly s i e plain is h =
     subst_same (value_at plain) (λ k. plain_or_var k (var_at s.vars k)) s i e h
     (λ k q. ap (λ ps. value_at ps k) is ∙ plain_same i s.vars k q)
-
--- ---- sides that are written alike
-
-arm_of_itself : (e : Pat) → is_arm e e ≡ true
-arm_of_itself Zero = pat_eq_refl Zero
-arm_of_itself One = pat_eq_refl One
-arm_of_itself (Tag m) = pat_eq_refl (Tag m)
-arm_of_itself (Prod e f) = pat_eq_refl (Prod e f)
-arm_of_itself (Star e) = pat_eq_refl (Star e)
-arm_of_itself (Var k) = pat_eq_refl (Var k)
-arm_of_itself (Sum e f) = ap (λ b. b || (is_arm (Sum e f) e || is_arm (Sum e f) f)) (pat_eq_refl (Sum e f))
-
-pub same_trivial : (s : Scope) (e f : Pat) → pat_eq e f ≡ true → true ≡ is_trivial s e f
-same_trivial s e f same = sym (ap (λ x. is_arm (plainly_replaced s e) (plainly_replaced s x)) (sym (pat_eq_same e f same)) ∙ arm_of_itself (plainly_replaced s e))
 
 -- ---- each variable of a pattern of an interface is in the list
 

@@ -1,9 +1,10 @@
 // Trivial inclusions.
 ghost use Rattle.std.specs.Prelude.{◌≡◌, ℕ, length, IsTrue, IfOk};
+ghost use Rattle.pat_words.specs.Patterns.{is_zero, subst_of};
 ghost use Rattle.pat_words.specs.Substitutions.{has_values};
 ghost use Rattle.pat_inclusions.specs.Values.{Scope, is_formed};
 ghost use Rattle.pat_inclusions.specs.Certificates.{is_arm as is_arm_of, is_trivial as is_trivial_of};
-ghost use Rattle.pat_patterns.specs.Views.{pattern_view, patterns_view};
+ghost use Rattle.pat_patterns.specs.Views.{pattern_view, patterns_view, value_at};
 ghost use Rattle.pat_derivations.specs.Views.{value_view, derivation_view};
 ghost use Rattle.pat_judge_certs.specs.Plain.{plain_value_of, all_plain};
 
@@ -22,6 +23,21 @@ fn is_arm(left: &Pattern, right: &Pattern) -> bool
             same_pattern(left, right) || (is_arm(left, first) || is_arm(left, second))
         }
         _ => same_pattern(left, right),
+    }
+}
+
+/// Whether the pattern is 0 once these values are put in.
+#[tactic(auto, using(crate::proofs::Arms::zero_sum, crate::proofs::Arms::zero_prod, crate::proofs::Arms::zero_star))]
+fn is_zero_with(pattern: &Pattern, values: &[Pattern]) -> bool
+    requires { IsTrue (has_values (length values.now) (pattern_view pattern.now)) }
+    ensures { result ≡ is_zero (subst_of (value_at (patterns_view values.now)) (pattern_view pattern.now)) }
+{
+    match pattern {
+        Pattern::Zero => true,
+        Pattern::One | Pattern::Tag(_) | Pattern::Star(_) => false,
+        Pattern::Var(number) => values[*number as usize].is_zero(),
+        Pattern::Sum(left, right) => is_zero_with(left, values) && is_zero_with(right, values),
+        Pattern::Prod(left, right) => is_zero_with(left, values) || is_zero_with(right, values),
     }
 }
 
@@ -54,7 +70,7 @@ pub fn plain_values(alloc: Global, derivation: &Derivation) -> Result<Sequence<P
 }
 
 /// Whether the left side is the right one or one of its arms, once the values that are patterns are put in. Both are patterns of
-/// an interface.
+/// an interface. Mostly it is an arm as it is written, and nothing has to be put in.
 pub fn is_trivial(
     alloc: Global,
     plain: &[Pattern],
@@ -65,7 +81,7 @@ pub fn is_trivial(
     requires right { IsTrue (has_values (length plain.now) (pattern_view right.now)) }
     ensures { IfOk result (λ yes. (s : Scope) (i : ℕ) → patterns_view plain.now ≡ all_plain s.vars → IsTrue (is_formed s i (pattern_view left.now)) → IsTrue (is_formed s i (pattern_view right.now)) → yes ≡ is_trivial_of s (pattern_view left.now) (pattern_view right.now)) }
 {
-    if same_pattern(left, right) {
+    if is_arm(left, right) && !is_zero_with(left, plain) {
         return Ok(true);
     }
     let left = subst(alloc, left, plain)?;
