@@ -1,7 +1,8 @@
 // Sizes of least trees, and where they are known.
-ghost use Rattle.std.specs.Prelude.{◌≡◌, ◌<◌, [], length, get_or, set, replicate, IfOk, OnOk, if◌then◌else◌};
+ghost use Rattle.std.specs.Prelude.{◌≡◌, [], get_or, replicate, IfOk, OnOk, if◌then◌else◌};
 ghost use Rattle.pat_grid_tables.specs.Waiting.{noted};
 
+use pat_grid_points::SparseList;
 use pat_sequences::Sequence;
 use std::alloc::{AllocError, Global};
 use std::mem;
@@ -11,7 +12,7 @@ use std::mem;
 #[derive(Drop)]
 pub struct Sizes {
     /// For each symbol an entry for each point.
-    pub entries: Sequence<u16>,
+    pub entries: SparseList<u16>,
     /// Of each symbol the numbers of the points at which it has a tree, as they were reached.
     pub reached: Sequence<Sequence<u16>>,
     /// The numbers at which an entry was lowered since the look at a symbol began.
@@ -63,14 +64,6 @@ pub fn none_reached(alloc: Global, count: usize) -> Result<Sequence<Sequence<u16
         reached.push(Sequence::new(alloc))?;
     }
     Ok(reached)
-}
-
-/// Writes an entry.
-pub fn write(entries: &mut Sequence<u16>, place: usize, size: u16)
-    requires { place < length entries.old }
-    ensures { entries.new ≡ set entries.old place size }
-{
-    entries.items[place] = size;
 }
 
 /// From now on nothing is new.

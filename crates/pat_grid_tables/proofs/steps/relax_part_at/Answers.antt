@@ -12,4 +12,4 @@ lower-requires-clause-step c =
     c.requires.takes (table_of g c.args.sizes.now.entries) (point_of b.k b.tags c.args.number) c.one_more.result
     (part_step g c.args.sizes.now.entries c.args.part c.args.number c.entry-size.result c.one_more.result
     (subst (λ x. c.args.number < x) c.requires.board.points c.requires.place.1)
-    (subst (λ es. c.entry-size.result ≡ entry_at g es c.args.part c.args.number) c.as_slice.ensures c.entry-size.ensures) c.if-size-board.false c.one_more.ensures)
+    c.entry-size.ensures c.if-size-board.false c.one_more.ensures)
