@@ -4,4 +4,4 @@ mod Closing
 mod Turns
 mod Done
 mod Waiting
-pub mod Walking
+mod Walking

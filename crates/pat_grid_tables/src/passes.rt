@@ -6,7 +6,7 @@ ghost use Rattle.pat_grid_tables.specs.Views.{setting_of, IsBoard};
 ghost use Rattle.pat_grid_tables.specs.Waiting.{HasUsers, Begins, Stands, with_waits, Looked, Passed};
 
 use crate::board::Board;
-use crate::sizes::{Sizes, forget, none_reached};
+use crate::sizes::{Sizes, empty_lists, forget};
 use crate::symbols::relax_symbol;
 use crate::users::users_of;
 use pat_grid_points::SparseList;
@@ -38,7 +38,7 @@ fn unknown_sizes(alloc: Global, board: &Board) -> Result<Sizes, AllocError>
     ensures { IfOk result (λ sizes. Begins (setting_of board.now) sizes) }
 {
     let entries = unknown_entries(alloc, board)?;
-    let reached = none_reached(alloc, board.symbols.len())?;
+    let reached = empty_lists(alloc, board.symbols.len())?;
     Ok(Sizes {
         entries,
         reached,

@@ -46,24 +46,28 @@ pub fn note_if(
     Ok(())
 }
 
-fn note(reached: &mut Sequence<Sequence<u16>>, s: usize, number: u16) -> Result<(), AllocError>
-    ensures { OnOk result (reached.new ≡ noted reached.old s number) }
+/// Notes the item in the list of symbol `s`, if that is there.
+pub fn note<T: Drop>(lists: &mut Sequence<Sequence<T>>, s: usize, item: T) -> Result<(), AllocError>
+    ensures { OnOk result (lists.new ≡ noted lists.old s item) }
 {
-    if s < reached.len() {
-        reached.items[s].push(number)?;
+    if s < lists.len() {
+        lists.items[s].push(item)?;
     }
     Ok(())
 }
 
-/// A list of no number for each symbol.
-pub fn none_reached(alloc: Global, count: usize) -> Result<Sequence<Sequence<u16>>, AllocError>
-    ensures { IfOk result (λ reached. reached ≡ replicate count []) }
+/// So many empty lists.
+pub fn empty_lists<T: Drop>(
+    alloc: Global,
+    count: usize,
+) -> Result<Sequence<Sequence<T>>, AllocError>
+    ensures { IfOk result (λ lists. lists ≡ replicate count []) }
 {
-    let mut reached = Sequence::new(alloc);
+    let mut lists = Sequence::new(alloc);
     for _ in 0..count {
-        reached.push(Sequence::new(alloc))?;
+        lists.push(Sequence::new(alloc))?;
     }
-    Ok(reached)
+    Ok(lists)
 }
 
 /// From now on nothing is new.

@@ -62,14 +62,8 @@ fn relax_part_at(
     if size > board.limit + 1 {
         return Ok(());
     }
-    lower(
-        board,
-        sizes,
-        s,
-        number,
-        one_more(board, size as u32),
-        changed,
-    )
+    let own = one_more(board, size as u32);
+    lower(board, sizes, s, number, own, changed)
 }
 
 /// Lowers the entries of symbol `s` to what its parts give at each number of the one list with each of the other.

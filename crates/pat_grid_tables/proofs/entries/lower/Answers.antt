@@ -1,4 +1,4 @@
-use Rattle.std.proofs.Common.{◌≡◌, ap, sym, ◌∙◌, ◌*◌, ◌+◌, get_or, set, arith}
+use Rattle.std.proofs.Common.{ap, sym, ◌∙◌, get_or, set, arith}
 use Rattle.std.proofs.lemmas.Bool.{ltb-false}
 use Rattle.pat_grid_tables.proofs.Relaxing.{lowered, not_lowered}
 use Rattle.pat_grid_tables.proofs.entries.lower.Goals as goal

@@ -1,6 +1,4 @@
-use Rattle.std.proofs.Common.{arith, ap}
-use Rattle.pat_grid_tables.specs.Views.{setting_of}
-use Rattle.pat_grid_tables.specs.Moves.{entry_at}
+use Rattle.std.proofs.Common.{arith}
 use Rattle.pat_grid_tables.proofs.Walking.{same_entries}
 use Rattle.pat_grid_tables.proofs.entries.unknown_until.Goals as goal
 

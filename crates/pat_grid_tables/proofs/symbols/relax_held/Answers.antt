@@ -1,9 +1,8 @@
-use Rattle.std.proofs.Common.{◌≡◌, ◌<◌, ◌≤◌, subst, arith}
+use Rattle.std.proofs.Common.{◌≡◌, ◌<◌, subst, arith}
 use Rattle.pat_bounds.specs.Numbers.{table_of}
 use Rattle.pat_grid_tables.specs.Views.{setting_of}
 use Rattle.pat_grid_tables.specs.Moves.{Moved, HeldBefore}
 use Rattle.pat_grid_tables.proofs.Walking.{held_begun, held_walked}
-use Rattle.pat_grid_tables.proofs.Waiting.{on_ok}
 use Rattle.pat_grid_tables.proofs.symbols.relax_held.Goals as goal
 
 pub loop-number-init : goal.loop-number-init
