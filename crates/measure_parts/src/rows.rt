@@ -31,8 +31,8 @@ pub enum Job {
 /// How many points the grid has.
 fn count(grid: &Grid) -> usize {
     let mut points = 0usize;
-    for held in grid.held.as_slice() {
-        if *held {
+    for number in 0..grid.held.len() {
+        if grid.held.get(number) {
             points = points.saturating_add(1);
         }
     }

@@ -2,7 +2,7 @@
 use Rattle.std.proofs.Common.{◌≡◌, ℕ, zero, suc, ◌+◌, ◌<◌, ◌≤◌, ◌⊎◌, ◌↔◌, inl, inr, ⊎_elim, Bool, true, false, List, [], ◌∷◌, ◌++◌, length, length-set, get_or, set, take, replicate, sym, ap, ◌∙◌, subst, arith}
 use Rattle.std.specs.List.{AllByRecursion}
 use Rattle.std.proofs.lemmas.Bool.{cases_lt}
-use Rattle.std.proofs.lemmas.List.{length-replicate, get_or_append_left, get_or_at, take_more}
+use Rattle.std.proofs.lemmas.List.{length-replicate, get_or-set_same, get_or-set_other, take_more}
 use Rattle.pat_words.specs.Words.{Word}
 use Rattle.pat_words.specs.Cuts.{cut_at}
 use Rattle.pat_words.specs.Tags.{HasTagsBelow}
@@ -70,34 +70,31 @@ number_room k n number w held bs m e =
 
 -- ---- tests of numbers
 
-pub record TestsTo (P : ℕ → Type 0) (held : List Bool) (m : ℕ) : Type 0 where
-  pub count : length held ≡ m
+-- a test for each of n numbers, and those before m are right
+pub record TestsTo (P : ℕ → Type 0) (n : ℕ) (held : List Bool) (m : ℕ) : Type 0 where
+  pub count : length held ≡ n
   pub right : (c : ℕ) → c < m → (get_or held c false ≡ true) ↔ P c
 
-pub tests_none : (P : ℕ → Type 0) (held : List Bool) → held ≡ [] → TestsTo P held 0
-tests_none P held e = record { count = ap length e; right = λ c l. absurd (omega arith) }
+pub tests_none : (P : ℕ → Type 0) (n : ℕ) (held : List Bool) → held ≡ replicate n false → TestsTo P n held 0
+tests_none P n held e = record { count = ap length e ∙ length-replicate n false; right = λ c l. absurd (omega arith) }
 
-pub tests_more : (P : ℕ → Type 0) (m : ℕ) (b : Bool) (old new : List Bool) → TestsTo P old m → (b ≡ true) ↔ P m → new ≡ old ++ b ∷ [] → TestsTo P new (m + 1)
-tests_more P m b old new h t e =
-    subst (λ held. TestsTo P held (m + 1)) (sym e) (record {
-      count = long old ∙ ap (λ n. n + 1) h.count;
+pub tests_more : (P : ℕ → Type 0) (n m : ℕ) (b : Bool) (old new : List Bool) → m < n → TestsTo P n old m → (b ≡ true) ↔ P m → new ≡ set old m b → TestsTo P n new (m + 1)
+tests_more P n m b old new room h t e =
+    subst (λ held. TestsTo P n held (m + 1)) (sym e) (record {
+      count = length-set old m b ∙ h.count;
       right = λ c l. ⊎_elim
-          (λ k. subst (λ x. (x ≡ true) ↔ P c) (sym (get_or_append_left old (b ∷ []) false c (let n = h.count in omega arith))) (h.right c k))
+          (λ k. subst (λ x. (x ≡ true) ↔ P c) (sym (get_or-set_other old m c b false (λ same. absurd (omega arith)))) (h.right c k))
           (λ k.
           let same : m ≡ c = omega arith in
-          subst (λ i. (get_or (old ++ b ∷ []) i false ≡ true) ↔ P i) same
-          (subst (λ x. (x ≡ true) ↔ P m) (sym (get_or_at old b [] false m h.count)) t))
+          subst (λ i. (get_or (set old m b) i false ≡ true) ↔ P i) same
+          (subst (λ x. (x ≡ true) ↔ P m) (sym (get_or-set_same old m b false (let all = h.count in omega arith))) t))
           (cases_lt c m);
     })
-  where
-    long : (xs : List Bool) → length (xs ++ b ∷ []) ≡ length xs + 1
-    long [] = omega arith
-    long (x ∷ xs) = let l = long xs in omega arith
 
 -- ---- what the calls answer
 
-pub spread_point : (k n : ℕ) (own g : Grid) (held : List Bool) (m : ℕ) → n ≡ own.tags → (g.k ≡ k) × (g.tags ≡ n) × (g.held ≡ held) → TestsTo (λ c. HasPoint own (cut_at own.k (point_of k n c))) held m → points_in k n ≤ m → (u : Word) → IsPoint k n u → HasPoint g u ↔ HasPoint own (cut_at own.k u)
-spread_point k n own g held m same is tests l u p =
+pub spread_point : (k n count : ℕ) (own g : Grid) (held : List Bool) (m : ℕ) → n ≡ own.tags → (g.k ≡ k) × (g.tags ≡ n) × (g.held ≡ held) → TestsTo (λ c. HasPoint own (cut_at own.k (point_of k n c))) count held m → points_in k n ≤ m → (u : Word) → IsPoint k n u → HasPoint g u ↔ HasPoint own (cut_at own.k u)
+spread_point k n count own g held m same is tests l u p =
     let small = number_small k n u p in
     let t = tests.right (number_of k n u) (omega arith) in
     let e : point_of k n (number_of k n u) ≡ u = number_point k n u p in

@@ -17,7 +17,7 @@ ghost use Rattle.pat_certs_grids.specs.Cutting.{IsCutMember, IsValueGrid, AreVal
 use crate::values::VarValue;
 use pat_bags::Bag;
 use pat_grid::{Grid, eval};
-use pat_grid_points::{bag_of, count_points, number_of};
+use pat_grid_points::{SparseList, bag_of, count_points, number_of};
 use pat_sequences::Sequence;
 use std::alloc::{AllocError, Global};
 
@@ -28,12 +28,12 @@ fn marked(alloc: Global, words: &[Bag], k: u32, tags: u8) -> Result<Grid, AllocE
     ensures like { IfOk result (λ g. (g.k ≡ k) × (g.tags ≡ tags)) }
     ensures points { IfOk result (λ g. (u : Word) → HasPoint g u ↔ IsCutMember k words.now u) }
 {
-    let mut held = vec![in alloc; false; count_points(k, tags)]?;
+    let mut held = SparseList::repeat(alloc, false, count_points(k, tags))?;
     for word in words {
         let number = number_of(word, k, tags);
-        held[number] = true;
+        held.set(number, true)?;
     }
-    Ok(Grid::from_held(k, tags, Sequence::from_vec(held)))
+    Ok(Grid::from_held(k, tags, held))
 }
 
 /// The grid of the points that, cut at the other grid's bound, are points of it. That bound is no greater.
@@ -42,9 +42,11 @@ fn spread(alloc: Global, own: &Grid, k: u32) -> Result<Grid, AllocError>
     ensures like { IfOk result (λ g. (g.k ≡ k) × (g.tags ≡ own.now.tags)) }
     ensures points { IfOk result (λ g. (u : Word) → IsPoint k own.now.tags u → HasPoint g u ↔ HasPoint own.now (cut_at own.now.k u)) }
 {
-    let mut held = Sequence::new(alloc);
-    for number in 0..count_points(k, own.tags) {
-        held.push(own.holds(&bag_of(number, k, own.tags)))?;
+    let points = count_points(k, own.tags);
+    let mut held = SparseList::repeat(alloc, false, points)?;
+    for number in 0..points {
+        let point = bag_of(number, k, own.tags);
+        held.set(number, own.holds(&point))?;
     }
     Ok(Grid::from_held(k, own.tags, held))
 }

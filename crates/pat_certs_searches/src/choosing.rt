@@ -9,11 +9,12 @@ ghost use Rattle.pat_certs_searches.specs.Choices.{entry_of, IsChoice, HasStep};
 
 use crate::choice::{Choice, Place};
 use crate::pairs::find_pair;
+use pat_grid_points::SparseList;
 use pat_grid_symbols::Symbol;
 use pat_grid_tables::{Board, entry};
 
 /// The root of a least tree at the place, and where its parts are.
-pub fn choose(board: &Board, entries: &[u16], place: Place) -> Choice
+pub fn choose(board: &Board, entries: &SparseList<u16>, place: Place) -> Choice
     requires board { IsBoard board.now }
     requires all { HasAllEntries (setting_of board.now) entries.now }
     requires there { place.symbol < length board.now.symbols.now }
@@ -40,7 +41,13 @@ fn symbol_at(board: &Board, s: usize) -> Symbol
     board.symbols[s]
 }
 
-fn choose_side(board: &Board, entries: &[u16], place: Place, left: usize, right: usize) -> Choice
+fn choose_side(
+    board: &Board,
+    entries: &SparseList<u16>,
+    place: Place,
+    left: usize,
+    right: usize,
+) -> Choice
     requires board { IsBoard board.now }
     requires all { HasAllEntries (setting_of board.now) entries.now }
     requires symbol { symbol_in (setting_of board.now).flat place.symbol ≡ SumSymbol left right }
@@ -63,7 +70,7 @@ fn choose_side(board: &Board, entries: &[u16], place: Place, left: usize, right:
 
 fn choose_product(
     board: &Board,
-    entries: &[u16],
+    entries: &SparseList<u16>,
     place: Place,
     first: usize,
     second: usize,
@@ -91,7 +98,7 @@ fn choose_product(
 }
 
 /// The first part's word isn't empty, so its number isn't 0.
-fn choose_star(board: &Board, entries: &[u16], place: Place, part: usize) -> Choice
+fn choose_star(board: &Board, entries: &SparseList<u16>, place: Place, part: usize) -> Choice
     requires board { IsBoard board.now }
     requires all { HasAllEntries (setting_of board.now) entries.now }
     requires symbol { symbol_in (setting_of board.now).flat place.symbol ≡ StarSymbol part }
@@ -114,7 +121,7 @@ fn choose_star(board: &Board, entries: &[u16], place: Place, part: usize) -> Cho
     }
 }
 
-fn choose_lower(board: &Board, entries: &[u16], place: Place, variable: usize) -> Choice
+fn choose_lower(board: &Board, entries: &SparseList<u16>, place: Place, variable: usize) -> Choice
     requires board { IsBoard board.now }
     requires all { HasAllEntries (setting_of board.now) entries.now }
     requires symbol { symbol_in (setting_of board.now).flat place.symbol ≡ LowerSymbol variable }

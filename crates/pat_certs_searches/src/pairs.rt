@@ -4,14 +4,14 @@ ghost use Rattle.pat_bounds.specs.Numbers.{HasAllEntries};
 ghost use Rattle.pat_grid_tables.specs.Views.{setting_of, IsBoard};
 ghost use Rattle.pat_certs_searches.specs.Choices.{ArePair};
 
-use pat_grid_points::sum_of;
+use pat_grid_points::{SparseList, sum_of};
 use pat_grid_tables::{Board, entry};
 
 /// Numbers of points of both parts that add up to the point, with entries that make one of the size; the first is `from` at
 /// least.
 pub fn find_pair(
     board: &Board,
-    entries: &[u16],
+    entries: &SparseList<u16>,
     parts: (usize, usize),
     from: usize,
     number: usize,
@@ -33,7 +33,7 @@ pub fn find_pair(
 /// The number of a point of the second part, which goes with that of the first.
 fn find_second(
     board: &Board,
-    entries: &[u16],
+    entries: &SparseList<u16>,
     parts: (usize, usize),
     first: usize,
     number: usize,
@@ -59,7 +59,7 @@ fn find_second(
 /// Whether the points add up to that with the number, and the entries make one of the size.
 fn are_pair(
     board: &Board,
-    entries: &[u16],
+    entries: &SparseList<u16>,
     parts: (usize, usize),
     first: usize,
     second: usize,

@@ -1,5 +1,5 @@
 // What a table that is done says of a search.
-ghost use Rattle.std.specs.Prelude.{◌≡◌, ◌≤◌, ℕ, IfSome, IfNone, IfOk, IsTrue, ◌↔◌};
+ghost use Rattle.std.specs.Prelude.{◌≡◌, ◌+◌, ◌≤◌, ℕ, IfSome, IfNone, IfOk, IsTrue, ◌↔◌};
 ghost use Rattle.pat_bounds.specs.Numbers.{HasAllEntries};
 ghost use Rattle.pat_certs_trees.specs.Views.{search_view};
 ghost use Rattle.pat_grid_tables.specs.Views.{setting_of, IsBoard};
@@ -10,14 +10,15 @@ use crate::choice::Place;
 use crate::rebuilding::rebuild;
 use pat_bags::Bag;
 use pat_certs_trees::{Refutation, Search};
-use pat_grid_tables::{Board, entry};
+use pat_grid_points::SparseList;
+use pat_grid_tables::{Board, entry, next_known};
 use std::alloc::{AllocError, Global};
 
 /// The answer for the left and the right side whose symbols have these numbers.
 pub fn read_answer(
     alloc: Global,
     board: &Board,
-    entries: &[u16],
+    entries: &SparseList<u16>,
     left: usize,
     right: usize,
 ) -> Result<Search, AllocError>
@@ -44,22 +45,25 @@ pub fn read_answer(
 /// The number of a point at which the left side has a tree of this size at most, and the right side has none.
 fn find_missing(
     board: &Board,
-    entries: &[u16],
+    entries: &SparseList<u16>,
     left: usize,
     right: usize,
     most: u16,
 ) -> Option<usize>
     requires board { IsBoard board.now }
     requires all { HasAllEntries (setting_of board.now) entries.now }
+    requires most { most ≤ board.now.limit + 1 }
     ensures some { IfSome result (λ number. IsMissing (setting_of board.now) entries.now left right most number) }
     ensures none { IfNone result ((c : ℕ) → IsMissing (setting_of board.now) entries.now left right most c → ⊥) }
 {
-    for number in 0..board.points {
+    let mut number = next_known(board, entries, left, 0);
+    while number < board.points {
         let one = entry(board, entries, left, number);
         let other = entry(board, entries, right, number);
         if one <= most && other > board.limit + 1 {
             return Some(number);
         }
+        number = next_known(board, entries, left, number + 1);
     }
     None
 }

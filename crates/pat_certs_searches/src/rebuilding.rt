@@ -10,6 +10,7 @@ use crate::choice::{Choice, Place};
 use crate::choosing::choose;
 use pat_bags::Bag;
 use pat_certs_trees::Bound;
+use pat_grid_points::SparseList;
 use pat_grid_tables::Board;
 use std::alloc::{AllocError, Global};
 
@@ -17,7 +18,7 @@ use std::alloc::{AllocError, Global};
 pub fn rebuild(
     alloc: Global,
     board: &Board,
-    entries: &[u16],
+    entries: &SparseList<u16>,
     place: Place,
     word: &mut Bag,
 ) -> Result<Bound, AllocError>

@@ -59,6 +59,6 @@ pub fn refute(
         given: &[],
     };
     let entries = least_sizes(alloc, &board)?;
-    let answer = read_answer(alloc, &board, entries.as_slice(), one, other)?;
+    let answer = read_answer(alloc, &board, &entries, one, other)?;
     Ok(answer)
 }

@@ -1,8 +1,8 @@
 -- Rows, one entry and one symbol after another.
-use Rattle.std.proofs.Common.{◌≡◌, ℕ, zero, suc, ◌+◌, ◌<◌, ◌↔◌, Bool, true, false, List, [], ◌∷◌, ◌++◌, length, length-set, get_or, set, replicate, take, Some, refl, sym, ap, ◌∙◌, subst, arith, ⊎_elim}
-use Rattle.std.specs.Prelude.{slice_get, nat_le}
-use Rattle.std.proofs.lemmas.Bool.{cases_lt, leb-true, le-leb}
-use Rattle.std.proofs.lemmas.List.{get_or-set_same, get_or-set_other, length-replicate, take_more}
+use Rattle.std.proofs.Common.{◌≡◌, ℕ, zero, suc, ◌+◌, ◌<◌, ◌≤◌, ◌↔◌, Bool, true, false, List, [], ◌∷◌, ◌++◌, length, length-set, get_or, set, replicate, take, Some, refl, sym, ap, ◌∙◌, subst, arith, ⊎_elim}
+use Rattle.std.specs.Prelude.{slice_get}
+use Rattle.std.proofs.lemmas.Bool.{cases_lt, cases_eq}
+use Rattle.std.proofs.lemmas.List.{get_or-set_same, get_or-set_other, get_or-replicate, get_or_past, length-replicate, take_more}
 use Rattle.pat_bounds.specs.Tables.{IsKnown}
 use Rattle.pat_grid_points.specs.declared.grid.Grid.{Grid}
 use Rattle.pat_grid_tables.specs.declared.board.Board.{Board}
@@ -10,28 +10,52 @@ use Rattle.pat_grid_tables.specs.Views.{setting_of}
 use Rattle.pat_grid_tables.specs.Moves.{entry_at}
 use Rattle.pat_grid.specs.Rows.{TestsBefore, IsRow, AreRows}
 
--- a test for each number, and those before m are right
+-- a test for each number: those before m are right, and from m on nothing is there
 pub record Tested (b : Board) (entries : List ℕ) (s : ℕ) (held : List Bool) (m : ℕ) : Type 0 where
   pub count : length held ≡ b.points
   pub right : TestsBefore b entries s held m
+  pub free : (c : ℕ) → m ≤ c → get_or held c false ≡ false
 
-pub tested_none : (b : Board) (entries : List ℕ) (s : ℕ) (held : List Bool) → held ≡ replicate b.points false → Tested b entries s held 0
-tested_none b entries s held e = record {
-  count = ap length e ∙ length-replicate b.points false;
-  right = λ c l. absurd (omega arith);
-}
+none_at : (n c : ℕ) → get_or (replicate n false) c false ≡ false
+none_at n c =
+    ⊎_elim (λ l. get_or-replicate n c false false l)
+    (λ l. get_or_past (replicate n false) c false (subst (λ j. j ≤ c) (sym (length-replicate n false)) l))
+    (cases_lt c n)
 
-pub tested_more : (b : Board) (entries : List ℕ) (s size m : ℕ) (old : List Bool) → m < b.points → Tested b entries s old m → size ≡ entry_at (setting_of b) entries s m → Tested b entries s (set old m (nat_le size (b.limit + 1))) (m + 1)
-tested_more b entries s size m old room h is = record {
-  count = length-set old m (nat_le size (b.limit + 1)) ∙ h.count;
-  right = λ c l. ⊎_elim
-      (λ k. subst (λ t. (t ≡ true) ↔ IsKnown b.limit (entry_at (setting_of b) entries s c)) (sym (get_or-set_other old m c (nat_le size (b.limit + 1)) false (λ e. omega arith))) (h.right c k))
-      (λ k.
-      let same : m ≡ c = omega arith in
-      subst (λ i. (get_or (set old m (nat_le size (b.limit + 1))) i false ≡ true) ↔ IsKnown b.limit (entry_at (setting_of b) entries s i)) same
-      (subst (λ t. (t ≡ true) ↔ IsKnown b.limit (entry_at (setting_of b) entries s m)) (sym (get_or-set_same old m (nat_le size (b.limit + 1)) false (let n = h.count in omega arith)))
-      (λ t. (let l2 = leb-true size (b.limit + 1) t in omega arith), λ k2. le-leb size (b.limit + 1) (omega arith))))
-      (cases_lt c m);
+pub tested_begun : (b : Board) (entries : List ℕ) (s to : ℕ) (held : List Bool) → held ≡ replicate b.points false → ((c : ℕ) → 0 ≤ c → c < to → IsKnown b.limit (entry_at (setting_of b) entries s c) → ⊥) → Tested b entries s held to
+tested_begun b entries s to held e none =
+    subst (λ hs. Tested b entries s hs to) (sym e) (record {
+      count = length-replicate b.points false;
+      right = λ c l. (λ t. let n = none_at b.points c in absurd (cc), λ known. absurd (none c (omega arith) l known));
+      free = λ c l. none_at b.points c;
+    })
+
+pub tested_walked : (b : Board) (entries : List ℕ) (s m to : ℕ) (old new : List Bool) → m < b.points → Tested b entries s old m → IsKnown b.limit (entry_at (setting_of b) entries s m) → new ≡ set old m true → m + 1 ≤ to → ((c : ℕ) → m + 1 ≤ c → c < to → IsKnown b.limit (entry_at (setting_of b) entries s c) → ⊥) → Tested b entries s new to
+tested_walked b entries s m to old new room h known e past none =
+    subst (λ hs. Tested b entries s hs to) (sym e) (record {
+      count = length-set old m true ∙ h.count;
+      right = λ c l. ⊎_elim
+          (λ same. subst (Right) (sym same) (λ t. known, λ k. get_or-set_same old m true false (let n = h.count in omega arith)))
+          (λ d. subst (λ x. (x ≡ true) ↔ IsKnown b.limit (entry_at (setting_of b) entries s c)) (sym (get_or-set_other old m c true false d))
+          (⊎_elim
+          (λ below. h.right c below)
+          (λ above. (
+            λ t. let f = h.free c above in absurd (cc),
+            λ k. absurd (none c (omega arith) l k),
+          ))
+          (cases_lt c m)))
+          (cases_eq c m);
+      free = λ c l. get_or-set_other old m c true false (λ same. absurd (omega arith)) ∙ h.free c (omega arith);
+    })
+  where
+    Right : ℕ → Type 0
+    Right c = (get_or (set old m true) c false ≡ true) ↔ IsKnown b.limit (entry_at (setting_of b) entries s c)
+
+pub tested_row : (b : Board) (entries : List ℕ) (s m : ℕ) (held : List Bool) (g : Grid) → b.points ≤ m → Tested b entries s held m → (g.k ≡ b.k) × (g.tags ≡ b.tags) × (g.held ≡ held) → IsRow b entries s g
+tested_row b entries s m held g past h is = record {
+  bound = is.0;
+  tags = is.1;
+  tests = subst (λ hs. TestsBefore b entries s hs b.points) (sym is.2) (λ c l. h.right c (omega arith));
 }
 
 pub rows_more : (b : Board) (entries : List ℕ) (s : ℕ) (g : Grid) (numbers : List ℕ) (grids : List Grid) → AreRows b entries numbers grids → IsRow b entries s g → AreRows b entries (numbers ++ s ∷ []) (grids ++ g ∷ [])

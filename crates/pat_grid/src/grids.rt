@@ -43,7 +43,7 @@ pub fn eval(alloc: Global, p: &Pattern, env: &[Grid], k: u32, tags: u8) -> Resul
         given: env,
     };
     let entries = least_sizes(alloc, &board)?;
-    let grid = row(alloc, &board, entries.as_slice(), root)?;
+    let grid = row(alloc, &board, &entries, root)?;
     Ok(grid)
 }
 
@@ -73,6 +73,6 @@ pub fn least(
         given: &[],
     };
     let entries = least_sizes(alloc, &board)?;
-    let grids = rows(alloc, &board, entries.as_slice(), board.roots)?;
+    let grids = rows(alloc, &board, &entries, board.roots)?;
     Ok(grids)
 }

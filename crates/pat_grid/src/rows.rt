@@ -4,30 +4,36 @@ ghost use Rattle.pat_bounds.specs.Numbers.{HasAllEntries};
 ghost use Rattle.pat_grid_tables.specs.Views.{setting_of, IsBoard};
 ghost use Rattle.pat_grid.specs.Rows.{IsRow, AreRows};
 
-use pat_grid_points::Grid;
-use pat_grid_tables::{Board, entry};
+use pat_grid_points::{Grid, SparseList};
+use pat_grid_tables::{Board, next_known};
 use pat_sequences::Sequence;
 use std::alloc::{AllocError, Global};
 
 /// The points at which the symbol has a tree.
-pub fn row(alloc: Global, board: &Board, entries: &[u16], s: usize) -> Result<Grid, AllocError>
+pub fn row(
+    alloc: Global,
+    board: &Board,
+    entries: &SparseList<u16>,
+    s: usize,
+) -> Result<Grid, AllocError>
     requires board { IsBoard board.now }
     requires all { HasAllEntries (setting_of board.now) entries.now }
     ensures { IfOk result (IsRow board.now entries.now s) }
 {
-    let mut held = vec![in alloc; false; board.points]?;
-    for number in 0..board.points {
-        let size = entry(board, entries, s, number);
-        held[number] = size <= board.limit + 1;
+    let mut held = SparseList::repeat(alloc, false, board.points)?;
+    let mut number = next_known(board, entries, s, 0);
+    while number < board.points {
+        held.set(number, true)?;
+        number = next_known(board, entries, s, number + 1);
     }
-    Ok(Grid::from_held(board.k, board.tags, Sequence::from_vec(held)))
+    Ok(Grid::from_held(board.k, board.tags, held))
 }
 
 /// Those of each symbol of a list.
 pub fn rows(
     alloc: Global,
     board: &Board,
-    entries: &[u16],
+    entries: &SparseList<u16>,
     numbers: &[usize],
 ) -> Result<Sequence<Grid>, AllocError>
     requires board { IsBoard board.now }

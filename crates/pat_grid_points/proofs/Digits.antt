@@ -124,7 +124,7 @@ summed_room k v w n a z f above =
 
 -- ---- the loop over the digits of a number
 
-zero_at : (n t : ℕ) → get_or {A = ℕ} (replicate n 0) t 0 ≡ 0
+pub zero_at : (n t : ℕ) → get_or {A = ℕ} (replicate n 0) t 0 ≡ 0
 zero_at n t =
     ⊎_elim (λ l. get_or-replicate n t 0 0 l)
     (λ l. get_or_past (replicate n 0) t 0 (subst (λ i. i ≤ t) (sym (length-replicate n 0)) l))

@@ -1,5 +1,5 @@
 -- Sets of points as lists of tests.
-use Rattle.std.proofs.Common.{◌≡◌, ℕ, suc, ◌+◌, ◌<◌, ◌≤◌, Bool, true, false, List, [], ◌∷◌, ◌++◌, ◌↔◌, map, length, get_or, set, drop, replicate, inl, inr, ⊎_elim, ◌⊎◌, sym, ap, ◌∙◌, subst, arith, append_assoc, append-nil}
+use Rattle.std.proofs.Common.{◌≡◌, ℕ, zero, suc, ◌+◌, ◌-◌, ◌<◌, ◌≤◌, Bool, true, false, List, [], ◌∷◌, ◌++◌, ◌↔◌, map, length, get_or, set, drop, replicate, inl, inr, ⊎_elim, ◌⊎◌, sym, ap, ◌∙◌, subst, arith, append_assoc, append-nil}
 use Rattle.pat_words.specs.Words.{Word}
 use Rattle.pat_words.specs.Cuts.{cut_at}
 use Rattle.std.proofs.lemmas.Bool.{cases_eq, cases_lt}
@@ -63,31 +63,36 @@ number_out k n c held l h p =
 
 -- ---- a list of the points
 
--- the points from number c on: that of c, if it is there, and the others
-pub held_turn : (k n c : ℕ) (held : List Bool) (old new : List Word) → c < length held → new ≡ old ++ held_from k n c (get_or held c false ∷ []) → new ++ held_from k n (c + 1) (drop (c + 1) held) ≡ old ++ held_from k n c (drop c held)
-held_turn k n c held old new l e =
-    let rest = drop (c + 1) held in
-    ap (λ x. x ++ held_from k n (c + 1) rest) e
-    ∙ append_assoc old (held_from k n c (get_or held c false ∷ [])) (held_from k n (c + 1) rest)
-    ∙ ap (λ x. old ++ x) (apart (get_or held c false) rest)
-    ∙ ap (λ x. old ++ held_from k n c x) (sym (drop_more held c false l))
-  where
-    next : (c : ℕ) → c + 1 ≡ suc c
-    next c = omega arith
+-- nothing is there before the next number that is held
+held_skip : (k n c m : ℕ) (held : List Bool) → c + m ≤ length held → ((d : ℕ) → c ≤ d → d < c + m → get_or held d false ≡ false) → held_from k n c (drop c held) ≡ held_from k n (c + m) (drop (c + m) held)
+held_skip k n c zero held l none = ap (λ i. held_from k n i (drop i held)) (let e : c ≡ c + 0 = omega arith in e)
+held_skip k n c (suc m) held l none =
+    ap (held_from k n c) (drop_more held c false (omega arith))
+    ∙ ap (λ b. held_from k n c (b ∷ drop (c + 1) held)) (none c (omega arith) (omega arith))
+    ∙ ap (λ i. held_from k n i (drop (c + 1) held)) (let e : suc c ≡ c + 1 = omega arith in e)
+    ∙ held_skip k n (c + 1) m held (omega arith) (λ d a b. none d (omega arith) (omega arith))
+    ∙ ap (λ i. held_from k n i (drop i held)) (let e : c + 1 + m ≡ c + suc m = omega arith in e)
 
-    apart : (b : Bool) (rest : List Bool) → held_from k n c (b ∷ []) ++ held_from k n (c + 1) rest ≡ held_from k n c (b ∷ rest)
-    apart true rest = ap (λ i. point_of k n c ∷ held_from k n i rest) (next c)
-    apart false rest = ap (λ i. held_from k n i rest) (next c)
+pub held_next : (k n c to : ℕ) (held : List Bool) → c ≤ to → to ≤ length held → ((d : ℕ) → c ≤ d → d < to → get_or held d false ≡ false) → held_from k n c (drop c held) ≡ held_from k n to (drop to held)
+held_next k n c to held l within none =
+    let e : c + (to - c) ≡ to = omega arith in
+    held_skip k n c (to - c) held (omega arith) (λ d a b. none d a (omega arith))
+    ∙ ap (λ i. held_from k n i (drop i held)) e
+
+-- the points from number c on: that of c, which is there, and the others
+pub held_turn : (k n c to : ℕ) (held : List Bool) (old new : List Bag) (b : Bag) → c < length held → get_or held c false ≡ true → new ≡ old ++ b ∷ [] → word_of b ≡ point_of k n c → c + 1 ≤ to → to ≤ length held → ((d : ℕ) → c + 1 ≤ d → d < to → get_or held d false ≡ false) → map word_of new ++ held_from k n to (drop to held) ≡ map word_of old ++ held_from k n c (drop c held)
+held_turn k n c to held old new b l h e w past within none =
+    ap (λ bags. map word_of bags ++ held_from k n to (drop to held)) e
+    ∙ ap (λ ws. ws ++ held_from k n to (drop to held)) (map-append word_of old (b ∷ []))
+    ∙ append_assoc (map word_of old) (word_of b ∷ []) (held_from k n to (drop to held))
+    ∙ ap (λ u. map word_of old ++ u ∷ held_from k n to (drop to held)) w
+    ∙ ap (λ us. map word_of old ++ point_of k n c ∷ us) (sym (held_next k n (c + 1) to held past within none))
+    ∙ ap (λ i. map word_of old ++ point_of k n c ∷ held_from k n i (drop (c + 1) held)) (let s : c + 1 ≡ suc c = omega arith in s)
+    ∙ ap (λ t. map word_of old ++ held_from k n c (t ∷ drop (c + 1) held)) (sym h)
+    ∙ ap (λ x. map word_of old ++ held_from k n c x) (sym (drop_more held c false l))
 
 pub held_all : (k n c : ℕ) (held : List Bool) (words : List Word) → length held ≤ c → words ++ held_from k n c (drop c held) ≡ words
 held_all k n c held words l = ap (λ x. words ++ held_from k n c x) (drop_all c held l) ∙ append-nil words
-
-pub pushed : (k n c : ℕ) (held : Bool) (old new : List Bag) (b : Bag) → held ≡ true → new ≡ old ++ b ∷ [] → word_of b ≡ point_of k n c → map word_of new ≡ map word_of old ++ held_from k n c (held ∷ [])
-pushed k n c held old new b h e w =
-    ap (map word_of) e
-    ∙ map-append word_of old (b ∷ [])
-    ∙ ap (λ u. map word_of old ++ u ∷ []) w
-    ∙ ap (λ x. map word_of old ++ held_from k n c (x ∷ [])) (sym h)
 
 -- ---- what the calls answer
 

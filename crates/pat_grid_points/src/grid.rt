@@ -3,7 +3,7 @@ ghost use Rattle.std.specs.Prelude.{◌≡◌, length, IsTrue};
 ghost use Rattle.pat_inclusions.specs.Points.{grid_fits};
 ghost use Rattle.pat_bounds.specs.Numbers.{points_in};
 
-use pat_sequences::Sequence;
+use crate::sparse::SparseList;
 
 /// A set of points: words of the first `tags` tags whose counts are at most `k`.
 #[derive(Drop)]
@@ -13,7 +13,7 @@ pub struct Grid {
     /// The number of tags.
     pub tags: u8,
     /// Of each number, whether the point with the number is in the set.
-    pub held: Sequence<bool>,
+    pub held: SparseList<bool>,
     ghost fits: { IsTrue (grid_fits k tags) },
     ghost counted: { length held ≡ points_in k tags },
 }

@@ -11,9 +11,12 @@ mod grid;
 mod making;
 mod numbers;
 mod reading;
+mod sparse;
 
 pub use grid::Grid;
 pub use numbers::{bag_of, count_points, number_of, sum_of};
+pub use reading::next_held;
+pub use sparse::SparseList;
 
 /// The points of a grid, listed, are just those that it has.
 pub fn points_law()

@@ -7,7 +7,7 @@ ghost use Rattle.pat_grid_points.specs.Views.{HasPoint};
 
 use crate::grid::Grid;
 use crate::numbers::count_points;
-use pat_sequences::Sequence;
+use crate::sparse::SparseList;
 use std::alloc::{AllocError, Global};
 
 impl Grid {
@@ -17,16 +17,12 @@ impl Grid {
         ensures like { IfOk result (λ g. (g.k ≡ k) × (g.tags ≡ tags)) }
         ensures points { IfOk result (λ g. (u : Word) → HasPoint g u → ⊥) }
     {
-        let held = vec![in alloc; false; count_points(k, tags)]?;
-        Ok(Grid {
-            k,
-            tags,
-            held: Sequence::from_vec(held),
-        })
+        let held = SparseList::repeat(alloc, false, count_points(k, tags))?;
+        Ok(Grid { k, tags, held })
     }
 
     /// The grid of the points whose number's entry says so.
-    pub fn from_held(k: u32, tags: u8, held: Sequence<bool>) -> Grid
+    pub fn from_held(k: u32, tags: u8, held: SparseList<bool>) -> Grid
         requires fits { IsTrue (grid_fits k tags) }
         requires counted { length held ≡ points_in k tags }
         ensures { (result.k ≡ k) × (result.tags ≡ tags) × (result.held ≡ held) }

@@ -1,13 +1,14 @@
 // What a grid has.
-ghost use Rattle.std.specs.Prelude.{◌≡◌, ◌↔◌, IsTrue, IfSome, IfNone, IfOk, OnOk, map, ◌++◌, ◌∷◌, []};
+ghost use Rattle.std.specs.Prelude.{◌≡◌, ◌↔◌, ◌<◌, ◌≤◌, ℕ, true, false, length, get_or, IsTrue, IfSome, IfNone, IfOk, map};
 ghost use Rattle.pat_words.specs.Words.{Word};
 ghost use Rattle.pat_words.specs.Cuts.{cut_at};
 ghost use Rattle.pat_bags.specs.Views.{word_of};
-ghost use Rattle.pat_inclusions.specs.Points.{grid_fits, points_fit};
-ghost use Rattle.pat_grid_points.specs.Views.{HasPoint, points_of, held_from, IsLike};
+ghost use Rattle.pat_inclusions.specs.Points.{points_fit};
+ghost use Rattle.pat_grid_points.specs.Views.{HasPoint, points_of, IsLike};
 
 use crate::grid::Grid;
 use crate::numbers::{bag_of, number_of};
+use crate::sparse::SparseList;
 use pat_bags::Bag;
 use pat_bounds_laws::number_laws;
 use pat_sequences::Sequence;
@@ -21,8 +22,7 @@ impl Grid {
         let mut cut = *word;
         cut.cut(self.k);
         let number = number_of(word, self.k, self.tags);
-        let held = self.held.as_slice();
-        held[number] && bag_of(number, self.k, self.tags).is_same(&cut)
+        self.held.get(number) && bag_of(number, self.k, self.tags).is_same(&cut)
     }
 
     /// A point of this grid that isn't one of the other, if there is one. The grids are of the same number of tags and the
@@ -32,12 +32,12 @@ impl Grid {
         ensures some { IfSome result (λ b. HasPoint self.now (word_of b) × (HasPoint other.now (word_of b) → ⊥)) }
         ensures none { IfNone result ((u : Word) → HasPoint self.now u → HasPoint other.now u) }
     {
-        let held = self.held.as_slice();
-        let others = other.held.as_slice();
-        for number in 0..held.len() {
-            if held[number] && !others[number] {
+        let mut number = next_held(&self.held, 0);
+        while number < self.held.len() {
+            if !other.held.get(number) {
                 return Some(bag_of(number, self.k, self.tags));
             }
+            number = next_held(&self.held, number + 1);
         }
         None
     }
@@ -49,27 +49,29 @@ impl Grid {
     {
         number_laws();
         let mut bags = Sequence::new(alloc);
-        let held = self.held.as_slice();
-        for number in 0..held.len() {
-            push_held(held[number], number, self.k, self.tags, &mut bags)?;
+        let mut number = next_held(&self.held, 0);
+        while number < self.held.len() {
+            bags.push(bag_of(number, self.k, self.tags))?;
+            number = next_held(&self.held, number + 1);
         }
         Ok(bags)
     }
 }
 
-/// Appends the point with the number, if it is there.
-fn push_held(
-    held: bool,
-    number: usize,
-    k: u32,
-    tags: u8,
-    bags: &mut Sequence<Bag>,
-) -> Result<(), AllocError>
-    requires { IsTrue (grid_fits k tags) }
-    ensures { OnOk result (map word_of bags.new ≡ map word_of bags.old ++ held_from k tags number (held ∷ [])) }
+/// The first number from this one on that is held; where there is none, the number of all.
+pub fn next_held(held: &SparseList<bool>, from: usize) -> usize
+    requires { from ≤ length held.now }
+    ensures from { from ≤ result }
+    ensures within { result ≤ length held.now }
+    ensures before { (c : ℕ) → from ≤ c → c < result → get_or held.now c false ≡ false }
+    ensures there { result < length held.now → get_or held.now result false ≡ true }
 {
-    if held {
-        bags.push(bag_of(number, k, tags))?;
+    let mut number = from;
+    while number < held.len() {
+        if held.get(number) {
+            return number;
+        }
+        number = held.same_until(number);
     }
-    Ok(())
+    number
 }

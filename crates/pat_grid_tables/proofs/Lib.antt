@@ -4,3 +4,4 @@ mod Closing
 mod Turns
 mod Done
 mod Waiting
+mod Walking

@@ -31,9 +31,9 @@ pub record HasUsersBefore (g : Setting) (m : ℕ) (users : List (List ℕ)) : Ty
 abbrev pub HasUsers : Setting → List (List ℕ) → Type 0
 HasUsers g users = HasUsersBefore g (length g.flat.symbols) users
 
--- the number s is noted among those of symbol a, if there is such a symbol
-abbrev pub noted : List (List ℕ) → ℕ → ℕ → List (List ℕ)
-noted users a s = set users a (get_or users a [] ++ (s ∷ []))
+-- the item is noted in the list of symbol a, if there is such a symbol
+abbrev pub noted : {A : Type 0} → List (List A) → ℕ → A → List (List A)
+noted lists a item = set lists a (get_or lists a [] ++ (item ∷ []))
 
 -- the number s is noted for symbols that are all its parts, if they are there
 pub record Notes (g : Setting) (s : ℕ) (old new : List (List ℕ)) : Type 0 where

@@ -6,16 +6,17 @@ ghost use Rattle.pat_grid_tables.specs.Views.{setting_of, IsBoard};
 ghost use Rattle.pat_grid_tables.specs.Waiting.{HasUsers, Begins, Stands, with_waits, Looked, Passed};
 
 use crate::board::Board;
-use crate::sizes::{Sizes, forget, none_reached};
+use crate::sizes::{Sizes, empty_lists, forget};
 use crate::symbols::relax_symbol;
 use crate::users::users_of;
+use pat_grid_points::SparseList;
 use pat_sequences::Sequence;
 use std::alloc::{AllocError, Global};
 
 /// The sizes of least trees, up to the limit: a list of the board's points for each symbol. An entry one above the limit
 /// says that there is a tree, but only larger ones; an entry two above it, that there is none. A symbol is looked at again
 /// only where one that it is made of has changed.
-pub fn least_sizes(alloc: Global, board: &Board) -> Result<Sequence<u16>, AllocError>
+pub fn least_sizes(alloc: Global, board: &Board) -> Result<SparseList<u16>, AllocError>
     requires { IsBoard board.now }
     ensures all { IfOk result (λ entries. HasAllEntries (setting_of board.now) entries) }
     ensures done { IfOk result (λ entries. IsDone (setting_of board.now) (table_of (setting_of board.now) entries)) }
@@ -37,7 +38,7 @@ fn unknown_sizes(alloc: Global, board: &Board) -> Result<Sizes, AllocError>
     ensures { IfOk result (λ sizes. Begins (setting_of board.now) sizes) }
 {
     let entries = unknown_entries(alloc, board)?;
-    let reached = none_reached(alloc, board.symbols.len())?;
+    let reached = empty_lists(alloc, board.symbols.len())?;
     Ok(Sizes {
         entries,
         reached,
@@ -46,14 +47,14 @@ fn unknown_sizes(alloc: Global, board: &Board) -> Result<Sizes, AllocError>
 }
 
 /// An entry of no tree for each symbol and point.
-fn unknown_entries(alloc: Global, board: &Board) -> Result<Sequence<u16>, AllocError>
+fn unknown_entries(alloc: Global, board: &Board) -> Result<SparseList<u16>, AllocError>
     requires { IsBoard board.now }
     ensures { IfOk result (λ entries. entries ≡ replicate (length board.now.symbols.now * board.now.points) (board.now.limit + 2)) }
 {
     match board.symbols.len().checked_mul(board.points) {
         Some(count) => {
-            let entries = vec![in alloc; board.limit + 2; count]?;
-            Ok(Sequence::from_vec(entries))
+            let entries = SparseList::repeat(alloc, board.limit + 2, count)?;
+            Ok(entries)
         }
         None => Err(AllocError),
     }

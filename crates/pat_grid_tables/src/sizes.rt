@@ -1,7 +1,8 @@
 // Sizes of least trees, and where they are known.
-ghost use Rattle.std.specs.Prelude.{◌≡◌, ◌<◌, [], length, get_or, set, replicate, IfOk, OnOk, if◌then◌else◌};
+ghost use Rattle.std.specs.Prelude.{◌≡◌, [], get_or, replicate, IfOk, OnOk, if◌then◌else◌};
 ghost use Rattle.pat_grid_tables.specs.Waiting.{noted};
 
+use pat_grid_points::SparseList;
 use pat_sequences::Sequence;
 use std::alloc::{AllocError, Global};
 use std::mem;
@@ -11,7 +12,7 @@ use std::mem;
 #[derive(Drop)]
 pub struct Sizes {
     /// For each symbol an entry for each point.
-    pub entries: Sequence<u16>,
+    pub entries: SparseList<u16>,
     /// Of each symbol the numbers of the points at which it has a tree, as they were reached.
     pub reached: Sequence<Sequence<u16>>,
     /// The numbers at which an entry was lowered since the look at a symbol began.
@@ -45,32 +46,28 @@ pub fn note_if(
     Ok(())
 }
 
-fn note(reached: &mut Sequence<Sequence<u16>>, s: usize, number: u16) -> Result<(), AllocError>
-    ensures { OnOk result (reached.new ≡ noted reached.old s number) }
+/// Notes the item in the list of symbol `s`, if that is there.
+pub fn note<T: Drop>(lists: &mut Sequence<Sequence<T>>, s: usize, item: T) -> Result<(), AllocError>
+    ensures { OnOk result (lists.new ≡ noted lists.old s item) }
 {
-    if s < reached.len() {
-        reached.items[s].push(number)?;
+    if s < lists.len() {
+        lists.items[s].push(item)?;
     }
     Ok(())
 }
 
-/// A list of no number for each symbol.
-pub fn none_reached(alloc: Global, count: usize) -> Result<Sequence<Sequence<u16>>, AllocError>
-    ensures { IfOk result (λ reached. reached ≡ replicate count []) }
+/// So many empty lists.
+pub fn empty_lists<T: Drop>(
+    alloc: Global,
+    count: usize,
+) -> Result<Sequence<Sequence<T>>, AllocError>
+    ensures { IfOk result (λ lists. lists ≡ replicate count []) }
 {
-    let mut reached = Sequence::new(alloc);
+    let mut lists = Sequence::new(alloc);
     for _ in 0..count {
-        reached.push(Sequence::new(alloc))?;
+        lists.push(Sequence::new(alloc))?;
     }
-    Ok(reached)
-}
-
-/// Writes an entry.
-pub fn write(entries: &mut Sequence<u16>, place: usize, size: u16)
-    requires { place < length entries.old }
-    ensures { entries.new ≡ set entries.old place size }
-{
-    entries.items[place] = size;
+    Ok(lists)
 }
 
 /// From now on nothing is new.

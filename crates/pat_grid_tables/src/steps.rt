@@ -58,18 +58,12 @@ fn relax_part_at(
     requires takes { TakesPart (setting_of board.now) s part }
     ensures { let g = setting_of board.now in OnOk result (Moved g s (part ≡ s → ⊥) (PartAt g s part number) sizes.old changed.old sizes.new changed.new) }
 {
-    let size = entry(board, sizes.entries.as_slice(), part, number);
+    let size = entry(board, &sizes.entries, part, number);
     if size > board.limit + 1 {
         return Ok(());
     }
-    lower(
-        board,
-        sizes,
-        s,
-        number,
-        one_more(board, size as u32),
-        changed,
-    )
+    let own = one_more(board, size as u32);
+    lower(board, sizes, s, number, own, changed)
 }
 
 /// Lowers the entries of symbol `s` to what its parts give at each number of the one list with each of the other.
@@ -135,9 +129,8 @@ fn relax_pair(
     requires takes { TakesParts (setting_of board.now) s parts.0 parts.1 first }
     ensures { let g = setting_of board.now in OnOk result (Moved g s (AreOthers parts.0 parts.1 s) (PairAt g s parts.0 parts.1 first second) sizes.old changed.old sizes.new changed.new) }
 {
-    let entries = sizes.entries.as_slice();
-    let one = entry(board, entries, parts.0, first);
-    let other = entry(board, entries, parts.1, second);
+    let one = entry(board, &sizes.entries, parts.0, first);
+    let other = entry(board, &sizes.entries, parts.1, second);
     if one > board.limit + 1 || other > board.limit + 1 {
         return Ok(());
     }

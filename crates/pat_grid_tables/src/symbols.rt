@@ -5,7 +5,7 @@ ghost use Rattle.pat_bounds.specs.Tables.{Table, Step};
 ghost use Rattle.pat_bounds.specs.Numbers.{HasAllEntries, point_of};
 ghost use Rattle.pat_grid_symbols.specs.Views.{symbol_view};
 ghost use Rattle.pat_grid_tables.specs.Views.{setting_of, IsBoard};
-ghost use Rattle.pat_grid_tables.specs.Moves.{entry_at, IsPlace, HasLists, Moved, ClosedAt, TakesParts, WholeRow, HeldAt, HeldBefore};
+ghost use Rattle.pat_grid_tables.specs.Moves.{entry_at, IsPlace, HasLists, Moved, ClosedAt, TakesParts, WholeRow, HeldBefore};
 ghost use Rattle.pat_grid_tables.specs.Waiting.{IsNoPart};
 
 use crate::board::Board;
@@ -14,7 +14,7 @@ use crate::listing::known;
 use crate::sizes::{Sizes, take};
 use crate::steps::{relax_part, relax_parts, relax_row};
 use pat_bags::Bag;
-use pat_grid_points::number_of;
+use pat_grid_points::{SparseList, next_held, number_of};
 use pat_grid_symbols::Symbol;
 use std::alloc::{AllocError, Global};
 
@@ -252,8 +252,8 @@ fn relax_given(
     ensures { OnOk result (Moved (setting_of board.now) s (IsNoPart (setting_of board.now) s) (ClosedAt (setting_of board.now) s) sizes.old changed.old sizes.new changed.new) }
 {
     if variable < board.given.len() {
-        let held = board.given[variable].held.as_slice();
-        relax_held(board, sizes, s, held, changed)
+        let given = &board.given[variable];
+        relax_held(board, sizes, s, &given.held, changed)
     } else {
         Ok(())
     }
@@ -264,7 +264,7 @@ fn relax_held(
     board: &Board,
     sizes: &mut Sizes,
     s: usize,
-    held: &[bool],
+    held: &SparseList<bool>,
     changed: &mut bool,
 ) -> Result<(), AllocError>
     requires board { IsBoard board.now }
@@ -274,28 +274,10 @@ fn relax_held(
     requires takes { (table : Table) (c : ℕ) → c < board.now.points → get_or held.now c false ≡ true → Step (setting_of board.now) table s (point_of board.now.k board.now.tags c) 1 }
     ensures { OnOk result (Moved (setting_of board.now) s (Unit {0}) (HeldBefore (setting_of board.now) s held.now board.now.points) sizes.old changed.old sizes.new changed.new) }
 {
-    for number in 0..board.points {
-        relax_held_at(board, sizes, s, held[number], number, changed)?;
+    let mut number = next_held(held, 0);
+    while number < board.points {
+        lower(board, sizes, s, number, 1, changed)?;
+        number = next_held(held, number + 1);
     }
     Ok(())
-}
-
-fn relax_held_at(
-    board: &Board,
-    sizes: &mut Sizes,
-    s: usize,
-    held: bool,
-    number: usize,
-    changed: &mut bool,
-) -> Result<(), AllocError>
-    requires board { IsBoard board.now }
-    requires all { HasAllEntries (setting_of board.now) sizes.old.entries }
-    requires place { IsPlace board.now s number }
-    requires takes { (table : Table) → held ≡ true → Step (setting_of board.now) table s (point_of board.now.k board.now.tags number) 1 }
-    ensures { OnOk result (Moved (setting_of board.now) s (Unit {0}) (HeldAt (setting_of board.now) s held number) sizes.old changed.old sizes.new changed.new) }
-{
-    if !held {
-        return Ok(());
-    }
-    lower(board, sizes, s, number, 1, changed)
 }

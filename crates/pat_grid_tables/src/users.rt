@@ -1,9 +1,10 @@
 // Which symbols are made of which.
 ghost use Rattle.std.specs.Prelude.{◌≡◌, ◌<◌, ◌⊎◌, [], length, replicate, ℕ, IfOk, OnOk};
 ghost use Rattle.pat_grid_tables.specs.Views.{setting_of};
-ghost use Rattle.pat_grid_tables.specs.Waiting.{IsPart, HasUsers, Notes, noted};
+ghost use Rattle.pat_grid_tables.specs.Waiting.{IsPart, HasUsers, Notes};
 
 use crate::board::Board;
+use crate::sizes::{empty_lists, note};
 use crate::symbols::{root_of, symbol_at};
 use pat_grid_symbols::Symbol;
 use pat_sequences::Sequence;
@@ -13,20 +14,9 @@ use std::alloc::{AllocError, Global};
 pub fn users_of(alloc: Global, board: &Board) -> Result<Sequence<Sequence<usize>>, AllocError>
     ensures { IfOk result (λ users. HasUsers (setting_of board.now) users) }
 {
-    let mut users = no_users(alloc, board.symbols.len())?;
+    let mut users = empty_lists(alloc, board.symbols.len())?;
     for s in 0..board.symbols.len() {
         note_parts(board, s, &mut users)?;
-    }
-    Ok(users)
-}
-
-/// So many empty lists.
-fn no_users(alloc: Global, count: usize) -> Result<Sequence<Sequence<usize>>, AllocError>
-    ensures { IfOk result (λ users. users ≡ replicate count []) }
-{
-    let mut users = Sequence::new(alloc);
-    for _ in 0..count {
-        users.push(Sequence::new(alloc))?;
     }
     Ok(users)
 }
@@ -58,14 +48,4 @@ fn parts_of(board: &Board, s: usize) -> (usize, usize)
         Symbol::Star(part) => (part, s),
         Symbol::Lower(variable) => (root_of(board, variable as usize), none),
     }
-}
-
-/// Notes the symbol `s` for one part, if that is there.
-fn note(users: &mut Sequence<Sequence<usize>>, part: usize, s: usize) -> Result<(), AllocError>
-    ensures { OnOk result (users.new ≡ noted users.old part s) }
-{
-    if part < users.len() {
-        users.items[part].push(s)?;
-    }
-    Ok(())
 }

@@ -23,7 +23,7 @@ use crate::findings::{Findings, note};
 use crate::laying::lay_each;
 use pat_bounds_laws::closed_laws;
 use pat_certs_searches::read_answer;
-use pat_grid_points::count_points;
+use pat_grid_points::{SparseList, count_points};
 use pat_grid_symbols::lay_out_all;
 use pat_grid_tables::{Board, least_sizes};
 use pat_infer_problems::Constraint;
@@ -130,7 +130,7 @@ pub fn search_batch(
     read_each(
         alloc,
         &board,
-        entries.as_slice(),
+        &entries,
         sides.as_slice(),
         numbers,
         from,
@@ -142,7 +142,7 @@ pub fn search_batch(
 fn read_each(
     alloc: Global,
     board: &Board,
-    entries: &[u16],
+    entries: &SparseList<u16>,
     sides: &[Option<(usize, usize)>],
     numbers: &[usize],
     from: usize,
@@ -164,7 +164,7 @@ fn read_each(
 fn read_one(
     alloc: Global,
     board: &Board,
-    entries: &[u16],
+    entries: &SparseList<u16>,
     side: Option<(usize, usize)>,
     number: usize,
     findings: Findings,

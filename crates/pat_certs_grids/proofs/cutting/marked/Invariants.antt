@@ -3,4 +3,4 @@ use Rattle.pat_certs_grids.proofs.Marking.{Marked}
 use Rattle.pat_certs_grids.proofs.cutting.marked.Given as goal
 
 abbrev pub invariant-loop-word : goal.invariant-loop-word
-invariant-loop-word l = Marked l.k l.tags l.held.items (take l.word-index l.words)
+invariant-loop-word l = Marked l.k l.tags l.held (take l.word-index l.words)

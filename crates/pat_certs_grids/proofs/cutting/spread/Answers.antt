@@ -9,12 +9,13 @@ use Rattle.pat_certs_grids.proofs.cutting.spread.Goals as goal
 pub loop-number-preserved : goal.loop-number-preserved
 loop-number-preserved c =
     let own = c.args.own.now in
-    tests_more (λ i. HasPoint own (cut_at own.k (point_of c.args.k own.tags i))) c.loop-number.number c.holds.result c.loop-number.held c.push.new.self c.loop-number.invariant
-    (subst (λ (w : Word). (c.holds.result ≡ true) ↔ HasPoint own (cut_at own.k w)) c.bag_of.ensures c.holds.ensures)
-    c.in_ok-push.ensures.ok
+    tests_more (λ i. HasPoint own (cut_at own.k (point_of c.args.k own.tags i))) c.count_points-points.result c.loop-number.number c.holds.result c.loop-number.held c.set.new.self c.loop-number-test.true c.loop-number.invariant
+    (subst (λ (w : Word). (c.holds.result ≡ true) ↔ HasPoint own (cut_at own.k w)) c.bag_of-point.ensures c.holds.ensures)
+    c.in_ok-set.ensures.ok
 
 pub returns-clause-points : goal.returns-clause-points
 returns-clause-points c =
     let own = c.args.own.now in
-    let count = c.count_points-number-end.ensures in
-    spread_point c.args.k own.tags own c.from_held.result c.loop-number.held c.loop-number.number refl c.from_held.ensures c.loop-number.invariant (omega arith)
+    let count = c.count_points-points.ensures in
+    let past = c.loop-number-test.false in
+    spread_point c.args.k own.tags c.count_points-points.result own c.from_held.result c.loop-number.held c.loop-number.number refl c.from_held.ensures c.loop-number.invariant (omega arith)

@@ -6,4 +6,4 @@ use Rattle.pat_certs_grids.proofs.cutting.spread.Given as goal
 
 abbrev pub invariant-loop-number : goal.invariant-loop-number
 invariant-loop-number l =
-    TestsTo (λ c. HasPoint l.own (cut_at l.own.k (point_of l.k l.own.tags c))) l.held l.number
+    TestsTo (λ c. HasPoint l.own (cut_at l.own.k (point_of l.k l.own.tags c))) l.points l.held l.number

@@ -19,10 +19,10 @@ returns c =
     let left = pattern_view c.args.left.now in
     let right = pattern_view c.args.right.now in
     let first = c.in_ok-one.ensures.symbols ∙ ap (λ ys. laid LowerSymbol ys left) c.in_ok-lay_out_all.ensures.symbols in
-    search_right _ (patterns_view c.args.system.now) left right c.in_ok-entries.entries c.as_slice-3.result.now c.in_ok-one.one c.in_ok-other.other (search_view c.in_ok-answer.answer) c.closed_laws.ensures.search c.in_ok-entries.ensures.done c.requires.flat c.requires.degree
+    search_right _ (patterns_view c.args.system.now) left right c.in_ok-entries.entries c.in_ok-entries.entries c.in_ok-one.one c.in_ok-other.other (search_view c.in_ok-answer.answer) c.closed_laws.ensures.search c.in_ok-entries.ensures.done c.requires.flat c.requires.degree
     (ap symbols_view c.as_slice.ensures ∙ c.in_ok-other.ensures.symbols ∙ ap (λ ys. laid LowerSymbol ys right) first)
     (c.as_slice-2.ensures ∙ c.in_ok-lay_out_all.ensures.roots)
     (c.in_ok-one.ensures.last ∙ ap (λ ys. last_of (laid LowerSymbol ys left)) c.in_ok-lay_out_all.ensures.symbols)
     (c.in_ok-other.ensures.last ∙ ap (λ ys. last_of (laid LowerSymbol ys right)) first)
     c.in_ok-answer.ensures
-    c.as_slice-3.ensures
+    refl

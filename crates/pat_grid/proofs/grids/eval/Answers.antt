@@ -15,6 +15,6 @@ least_sizes-requires c =
 pub returns-clause-points : goal.returns-clause-points
 returns-clause-points c =
     let e = pattern_view c.args.p.now in
-    eval_point _ e c.in_ok-entries.entries c.as_slice-2.result.now c.in_ok-root.root c.in_ok-grid.grid c.in_ok-grid.ensures c.as_slice-2.ensures c.count_points.ensures c.in_ok-entries.ensures.done
+    eval_point _ e c.in_ok-entries.entries c.in_ok-entries.entries c.in_ok-root.root c.in_ok-grid.grid c.in_ok-grid.ensures refl c.count_points.ensures c.in_ok-entries.ensures.done
     (ap symbols_view c.as_slice.ensures ∙ c.in_ok-root.ensures.symbols ∙ ap (λ ys. laid GivenSymbol (symbols_view ys) e) c.new-symbols.ensures)
     (c.in_ok-root.ensures.last ∙ ap (λ ys. last_of (laid GivenSymbol (symbols_view ys) e)) c.new-symbols.ensures)

@@ -11,13 +11,13 @@ least_sizes-requires c =
 
 pub returns-clause-count : goal.returns-clause-count
 returns-clause-count c =
-    least_count _ c.as_slice-3.result.now c.in_ok-grids.grids c.args.system.now c.in_ok-grids.ensures (c.as_slice-2.ensures ∙ c.in_ok-lay_out_all.ensures.roots)
+    least_count _ c.in_ok-entries.entries c.in_ok-grids.grids c.args.system.now c.in_ok-grids.ensures (c.as_slice-2.ensures ∙ c.in_ok-lay_out_all.ensures.roots)
 
 pub returns-clause-like : goal.returns-clause-like
-returns-clause-like c = least_like _ c.as_slice-3.result.now c.in_ok-grids.grids c.in_ok-grids.ensures
+returns-clause-like c = least_like _ c.in_ok-entries.entries c.in_ok-grids.grids c.in_ok-grids.ensures
 
 pub returns-clause-points : goal.returns-clause-points
 returns-clause-points c =
-    least_point _ (patterns_view c.args.system.now) c.in_ok-entries.entries c.as_slice-3.result.now c.in_ok-grids.grids c.in_ok-grids.ensures c.as_slice-3.ensures c.count_points.ensures c.in_ok-entries.ensures.done
+    least_point _ (patterns_view c.args.system.now) c.in_ok-entries.entries c.in_ok-entries.entries c.in_ok-grids.grids c.in_ok-grids.ensures refl c.count_points.ensures c.in_ok-entries.ensures.done
     (ap symbols_view c.as_slice.ensures ∙ c.in_ok-lay_out_all.ensures.symbols)
     (c.as_slice-2.ensures ∙ c.in_ok-lay_out_all.ensures.roots)

@@ -1,8 +1,7 @@
-use Rattle.std.proofs.Common.{◌≡◌, ◌<◌, subst, arith}
+use Rattle.std.proofs.Common.{◌<◌, subst, arith}
 use Rattle.pat_bounds.specs.Numbers.{point_of, table_of}
 use Rattle.pat_grid_points.proofs.Digits.{summed_below}
 use Rattle.pat_grid_tables.specs.Views.{setting_of}
-use Rattle.pat_grid_tables.specs.Moves.{entry_at}
 use Rattle.pat_grid_tables.proofs.Relaxing.{pair_step, pair_at}
 use Rattle.pat_grid_tables.proofs.Waiting.{on_ok}
 use Rattle.pat_grid_tables.proofs.steps.relax_pair.Goals as goal
@@ -23,8 +22,8 @@ lower-requires-clause-step c =
     (pair_step g c.args.sizes.now.entries c.args.parts.0 c.args.parts.1 c.args.first c.args.second c.entry-one.result c.entry-other.result c.sum_of-number.result c.one_more-size.result
     (subst (λ x. c.args.first < x) c.requires.board.points c.requires.place.1)
     (subst (λ x. c.args.second < x) c.requires.board.points c.requires.second)
-    (subst (λ es. c.entry-one.result ≡ entry_at g es c.args.parts.0 c.args.first) c.as_slice-entries.ensures c.entry-one.ensures)
-    (subst (λ es. c.entry-other.result ≡ entry_at g es c.args.parts.1 c.args.second) c.as_slice-entries.ensures c.entry-other.ensures)
+    c.entry-one.ensures
+    c.entry-other.ensures
     c.if-one-board.false c.if-other-board.false c.sum_of-number.ensures c.one_more-size.ensures)
 
 pub returns : goal.returns
@@ -35,7 +34,7 @@ returns c =
     (λ m. pair_at g c.args.s c.args.parts.0 c.args.parts.1 c.args.first c.args.second c.entry-one.result c.entry-other.result c.sum_of-number.result c.one_more-size.result c.args.sizes.now c.lower.new.sizes c.args.changed.now c.lower.new.changed
     (subst (λ x. c.args.first < x) c.requires.board.points c.requires.place.1)
     (subst (λ x. c.args.second < x) c.requires.board.points c.requires.second)
-    (subst (λ es. c.entry-one.result ≡ entry_at g es c.args.parts.0 c.args.first) c.as_slice-entries.ensures c.entry-one.ensures)
-    (subst (λ es. c.entry-other.result ≡ entry_at g es c.args.parts.1 c.args.second) c.as_slice-entries.ensures c.entry-other.ensures)
+    c.entry-one.ensures
+    c.entry-other.ensures
     c.sum_of-number.ensures c.one_more-size.ensures m)
     c.lower.ensures

@@ -1,3 +1,4 @@
+use Rattle.std.proofs.Common.{◌≡◌, ◌<◌, ◌≤◌, ◌-◌, true, false, get_or}
 use Rattle.pat_grid_tables.specs.Views.{setting_of}
 use Rattle.pat_grid_tables.specs.Moves.{Moved, HeldBefore}
 use Rattle.pat_grid_tables.proofs.symbols.relax_held.Given as goal
@@ -5,4 +6,9 @@ use Rattle.pat_grid_tables.proofs.symbols.relax_held.Given as goal
 abbrev pub invariant-loop-number : goal.invariant-loop-number
 invariant-loop-number l =
     let g = setting_of l.board in
-    Moved g l.s (Unit {0}) (HeldBefore g l.s l.held l.number) l.initial.sizes l.initial.changed l.sizes l.changed
+    (l.number ≤ l.board.points)
+    × (l.number < l.board.points → get_or l.held l.number false ≡ true)
+    × Moved g l.s (Unit {0}) (HeldBefore g l.s l.held l.number) l.initial.sizes l.initial.changed l.sizes l.changed
+
+abbrev pub decreases-loop-number : goal.decreases-loop-number
+decreases-loop-number l = l.board.points - l.number

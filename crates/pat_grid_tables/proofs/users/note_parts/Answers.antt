@@ -8,6 +8,6 @@ pub returns : goal.returns
 returns c =
     let g = setting_of c.args.board.now in
     let parts = c.parts_of-parts.result in
-    on_ok c.note-2.result (c.note-2.new.users ≡ noted c.note.new.users parts.1 c.args.s) (Notes g c.args.s c.args.users.now c.note-2.new.users)
-    (λ e. notes_two g c.args.s c.args.users.now parts.0 parts.1 c.note.new.users c.note-2.new.users c.parts_of-parts.ensures c.in_ok-note.ensures e)
+    on_ok c.note-2.result (c.note-2.new.lists ≡ noted c.note.new.lists parts.1 c.args.s) (Notes g c.args.s c.args.users.now c.note-2.new.lists)
+    (λ e. notes_two g c.args.s c.args.users.now parts.0 parts.1 c.note.new.lists c.note-2.new.lists c.parts_of-parts.ensures c.in_ok-note.ensures e)
     c.note-2.ensures

@@ -27,7 +27,7 @@ pub read_each-requires-clause-within : goal.read_each-requires-clause-within
 read_each-requires-clause-within c =
     let zs = sides_list c.args.constraints.now in
     let place = place_in c.args.variables.now in
-    let e = batch_count (renamed place) (symbols_view c.lay_out_all.new.symbols) zs c.args.numbers.now c.args.from c.args.to c.as_slice-4.result.now c.requires.from c.requires.to (c.as_slice-4.ensures ∙ c.in_ok-sides.ensures.places) in
+    let e = batch_count (renamed place) (symbols_view c.lay_out_all.new.symbols) zs c.args.numbers.now c.args.from c.args.to c.as_slice-3.result.now c.requires.from c.requires.to (c.as_slice-3.ensures ∙ c.in_ok-sides.ensures.places) in
     let hi = c.requires.to in
     omega (arith, e, hi)
 
@@ -42,13 +42,13 @@ returns c =
     let cs = picked zs (take (to - from) (drop from ns)) in
     let system = patterns_view c.args.system.now in
     let lower = bounds_of system in
-    let sides = c.as_slice-4.result.now in
-    let placed = c.as_slice-4.ensures ∙ c.in_ok-sides.ensures.places in
+    let sides = c.as_slice-3.result.now in
+    let placed = c.as_slice-3.ensures ∙ c.in_ok-sides.ensures.places in
     let ready =
-    batch_ready _ system place zs ns from to c.in_ok-entries.entries c.as_slice-3.result.now c.closed_laws.ensures.search c.in_ok-entries.ensures.done refl c.requires.from c.requires.to
+    batch_ready _ system place zs ns from to c.in_ok-entries.entries c.in_ok-entries.entries c.closed_laws.ensures.search c.in_ok-entries.ensures.done refl c.requires.from c.requires.to
     (ap symbols_view c.as_slice.ensures ∙ c.in_ok-sides.ensures.symbols ∙ ap (λ m. laid_sides ren m cs) c.in_ok-lay_out_all.ensures.symbols)
     (c.as_slice-2.ensures ∙ c.in_ok-lay_out_all.ensures.roots)
-    c.as_slice-3.ensures c.requires.sides sides
+    refl c.requires.sides sides
     (placed ∙ ap (λ m. all_places ren m cs) c.in_ok-lay_out_all.ensures.symbols) in
     subst (λ m. IfOk c.read_each.result (λ f. AreFound lower ren (picked zs ns) ns m (findings_view f)))
     (batch_count ren (symbols_view c.lay_out_all.new.symbols) zs ns from to sides c.requires.from c.requires.to placed)

@@ -1,14 +1,15 @@
-use Rattle.std.proofs.Common.{◌≡◌, ◌<◌, length, true, get_or, false, subst}
+use Rattle.std.proofs.Common.{◌≡◌, ◌<◌, ◌∙◌, false, get_or, length, arith}
 use Rattle.pat_bags.specs.Views.{word_of}
 use Rattle.pat_grid_points.proofs.Sets.{missing_at}
 use Rattle.pat_grid_points.proofs.grid.Grid.missing.Goals as goal
 
-pub returns-then-not-others-number-clause-some : goal.returns-then-not-others-number-clause-some
-returns-then-not-others-number-clause-some c =
+pub returns-then-not-get-clause-some : goal.returns-then-not-get-clause-some
+returns-then-not-get-clause-some c =
     let s = c.args.self.now in
     let o = c.args.other.now in
-    missing_at s.k s.tags o.k o.tags c.loop-number.number s.held o.held (word_of c.bag_of.result) c.requires s.counted
-    (subst (λ x. c.loop-number.number < length x) c.as_slice-held.ensures c.loop-number-test.true)
-    (subst (λ x. get_or x c.loop-number.number false ≡ true) c.as_slice-held.ensures c.if-held-number.true)
-    (subst (λ x. get_or x c.loop-number.number false ≡ false) c.as_slice-others.ensures c.if-not-others-number.true)
-    c.bag_of.ensures
+    let number = c.loop-number.number in
+    let below = c.loop-number-test.true in
+    let count = c.len.ensures in
+    let l : number < length s.held = omega arith in
+    let out : get_or o.held number false ≡ false = c.get.ensures false ∙ c.if-not-get.true in
+    missing_at s.k s.tags o.k o.tags number s.held o.held (word_of c.bag_of.result) c.requires s.counted l (c.loop-number.invariant.1 l) out c.bag_of.ensures

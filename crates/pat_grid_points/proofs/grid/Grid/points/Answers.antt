@@ -1,13 +1,42 @@
-use Rattle.std.proofs.Common.{◌≡◌, ◌≤◌, ◌∙◌, sym, subst, map, length, arith}
+use Rattle.std.proofs.Common.{◌≡◌, ◌<◌, ◌≤◌, ◌∙◌, ◌++◌, ap, sym, map, length, drop, arith}
 use Rattle.pat_bags.specs.Views.{word_of}
-use Rattle.pat_grid_points.proofs.Sets.{held_all}
+use Rattle.pat_grid_points.specs.Views.{held_from}
+use Rattle.pat_grid_points.proofs.Sets.{held_all, held_next, held_turn}
 use Rattle.pat_grid_points.proofs.Listed.{listed_fit}
 use Rattle.pat_grid_points.proofs.grid.Grid.points.Goals as goal
+
+pub loop-number-init : goal.loop-number-init
+loop-number-init c =
+    let s = c.args.self.now in
+    let first = c.next_held-number.result in
+    let next = c.next_held-number.ensures in (
+      next.within,
+      next.there,
+      ap (λ bags. map word_of bags ++ held_from s.k s.tags first (drop first s.held)) c.new-bags.ensures
+          ∙ sym (held_next s.k s.tags 0 first s.held (omega arith) next.within next.before),
+    )
+
+pub loop-number-preserved : goal.loop-number-preserved
+loop-number-preserved c =
+    let s = c.args.self.now in
+    let number = c.loop-number.number in
+    let to = c.next_held-number-in-loop-number.result in
+    let next = c.next_held-number-in-loop-number.ensures in
+    let below = c.loop-number-test.true in
+    let count = c.len.ensures in
+    let l : number < length s.held = omega arith in (
+      next.within,
+      next.there,
+      held_turn s.k s.tags number to s.held c.loop-number.bags c.push.new.self c.bag_of.result l (c.loop-number.invariant.1 l) c.in_ok-push.ensures.ok c.bag_of.ensures next.from next.within next.before
+          ∙ c.loop-number.invariant.2,
+    )
 
 pub returns-clause-ascend : goal.returns-clause-ascend
 returns-clause-ascend c =
     let s = c.args.self.now in
+    let number = c.loop-number.number in
     let past = c.loop-number-test.false in
-    let none : length c.as_slice-held.result.now ≤ c.loop-number.number = omega arith in
-    let all = held_all s.k s.tags c.loop-number.number s.held (map word_of c.loop-number.bags) (subst (λ x. length x ≤ c.loop-number.number) c.as_slice-held.ensures none) in
-    listed_fit c.number_laws.ensures.order s.k s.tags s.held c.loop-number.bags s.fits s.counted (sym all ∙ c.loop-number.invariant)
+    let count = c.len.ensures in
+    let none : length s.held ≤ number = omega arith in
+    let all = held_all s.k s.tags number s.held (map word_of c.loop-number.bags) none in
+    listed_fit c.number_laws.ensures.order s.k s.tags s.held c.loop-number.bags s.fits s.counted (sym all ∙ c.loop-number.invariant.2)
