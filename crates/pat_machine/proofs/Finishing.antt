@@ -4,20 +4,29 @@ use Rattle.std.specs.Prelude.{◌↔◌}
 use Rattle.std.proofs.lemmas.Bool.{eqb-true, eqb-false}
 use Rattle.std.proofs.lemmas.List.{map-append}
 use Rattle.pat_model.specs.Programs.{Program}
-use Rattle.pat_model.specs.Configs.{Config}
-use Rattle.pat_model.specs.Runs.{Entry, entry_steps}
+use Rattle.pat_model.specs.Configs.{Thread, Message, Config, thread_at, thread_refers, with_thread}
+use Rattle.pat_model.specs.Steps.{Act, ActReceive, message_at}
+use Rattle.pat_core.specs.Views.{program_view}
+use Rattle.pat_model.specs.Runs.{Entry, entry_steps, run_from, shared_step}
 use Rattle.pat_reduce.specs.declared.history.Entry.{Entry as CodeEntry}
 use Rattle.pat_reduce.specs.Views.{entry_view}
 use Rattle.pat_commits.specs.Opens.{IsStill}
 use Rattle.pat_commits.specs.Commits.{IsCommit, noted}
-use Rattle.pat_commits.specs.Lendings.{Out, allowance_of, committed_out}
+use Rattle.pat_commits.specs.Lendings.{Out, allowance_of, allowances, committed_out}
 use Rattle.pat_commits.specs.Machines.{MachineInvariant}
+use Rattle.pat_commits.specs.Tops.{below, over}
 use Rattle.pat_commit_laws.proofs.Idle.{idle_still, step_open}
-use Rattle.pat_commit_laws.proofs.Runs.{commit_stands}
+use Rattle.pat_commit_laws.proofs.Runs.{commit_shared, commit_stands}
 use Rattle.pat_machine_threads.specs.declared.settling.Settled.{Settled}
 use Rattle.pat_machine_following.specs.Settling.{IsSettled, half_way, Finishes}
-use Rattle.pat_machine_following.proofs.Settled.{commit_of}
+use Rattle.pat_machine_following.specs.Counting.{AreCounted}
+use Rattle.pat_machine_following.proofs.Settled.{run_of, commit_of}
+use Rattle.pat_machine_following.proofs.Listed.{listed_from_top}
+use Rattle.pat_machine_waits.specs.Noted.{AreNoted}
+use Rattle.pat_machine.specs.declared.job.Job.{Job}
+use Rattle.pat_machine.specs.declared.parts.Parts.{Parts}
 use Rattle.pat_machine.specs.Shown.{steps_in, noted_in, place_of}
+use Rattle.pat_machine.specs.Entering.{ListsTop, WentFrom}
 
 -- what a machine keeps stands after the end of a commit, whoever takes it
 pub stands_after : (p : Program) (budget limit allowance : ℕ) (c d : Config) (es : List Entry) (left : ℕ) (out : Out) (t : ℕ) (s : Settled) (e : Entry) → MachineInvariant p budget limit c es left out → allowance_of out t ≡ Some allowance → (h : IsSettled p c t allowance s) → e.thread ≡ t → e.local_steps ≡ s.steps
@@ -50,3 +59,39 @@ idle_so p allowance limit c d es e i t j some is thread = (
       is ∙ no_steps es e (nat_eq (steps_in e) 0) refl
       (λ more. let b = step_open p allowance limit c d (entry_view e) j some more in subst (λ u. IsStill p c limit u) (sym thread) still b.0 b.1),
 )
+
+-- ---- a commit that is to be entered
+
+abbrev pub entry_of : (worker : ℕ) → Job → (steps : ℕ) → Option Act → Entry
+entry_of worker j steps a = record { worker = worker; thread = j.thread; local_steps = steps; shared = a }
+
+-- the end of a commit leads from the settled state on
+pub commit_run : (p : Program) (allowance limit : ℕ) (c d : Config) (e : Entry) (j : IsCommit p allowance limit c e d) → run_from p (with_thread c e.thread j.middle) (shared_step e.thread e.shared) ≡ Some d
+commit_run p allowance limit c d e j = run_of p allowance limit (with_thread c e.thread j.middle) d e.thread e.local_steps e.shared (record { shared = j.shared; spent = j.spent }) j.local.within
+
+same_kept : (o : Option Thread) (x y : Thread) → o ≡ Some x → o ≡ Some y → x ≡ y
+same_kept o x y at is =
+    let both : Some x ≡ Some y = sym at ∙ is in
+    cc
+
+-- names of the old top are listed, so each that the thread let go is
+pub went_after : (m : Parts) (c : Config) (worker : ℕ) (j : Job) (steps newcomer gone : ℕ) (kept end : Thread) (a : Option Act) (received : Option Message)
+    → MachineInvariant (program_view m.code.program) m.budget m.limit c (map entry_view m.history.items) m.left m.out.items → m.lent ≡ allowances m.out.items
+    → AreNoted (program_view m.code.program) c m.waits.awake.numbers.items m.waits.senders.numbers.items m.waits.sleepers.items → allowance_of m.out.items j.thread ≡ Some j.allowance → newcomer ≡ c.next_thread
+    → IsCommit (program_view m.code.program) j.allowance m.limit c (entry_of worker j steps a) m.state → thread_at c j.thread ≡ Some kept
+    → run_from (program_view m.code.program) (with_thread c j.thread (over end (below gone kept))) (shared_step j.thread a) ≡ Some m.state → AreCounted m.names.times.items m.state → ListsTop c j.thread gone m.named.items
+    → ((k : ℕ) → a ≡ Some (ActReceive k) → received ≡ message_at c k) → WentFrom m c worker j steps newcomer a received
+went_after m c worker j steps newcomer gone kept end a received stands lent noted out next commit there run counted lists brought =
+    let p = program_view m.code.program in
+    let listed = listed_from_top p c m.state j.thread gone kept end a m.named.items there (commit_shared p j.allowance m.limit c m.state (entry_of worker j steps a) commit) run (λ b some. lists kept b there some) in
+    record {
+      stands = stands;
+      lent = lent;
+      noted = noted;
+      out = out;
+      commit = commit;
+      next = next;
+      counted = counted;
+      listed = λ b had gone. listed b (subst (λ x. thread_refers b x ≡ true) (same_kept (thread_at c j.thread) commit.kept kept commit.there there) had) gone;
+      brought = brought;
+    }

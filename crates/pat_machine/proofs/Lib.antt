@@ -3,3 +3,4 @@ mod Ending
 mod Finishing
 mod Naming
 mod Rounds
+mod Guards

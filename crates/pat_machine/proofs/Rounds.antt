@@ -16,7 +16,7 @@ use Rattle.pat_machine.specs.declared.job.Receipt.{Receipt}
 use Rattle.pat_machine.specs.Shown.{Shown, program_of, entries_of, steps_in, noted_in}
 use Rattle.pat_machine.specs.Parted.{shown, IsKept}
 use Rattle.pat_machine.specs.Gives.{IsLent, Lends, TakeGives, Committed, GivesBack, all_back}
-use Rattle.pat_machine.specs.Driving.{Rounds, AreInOrder, GoesOnBy}
+use Rattle.pat_machine.specs.Driving.{Rounds, AreInOrder, GoesOnBy, GoesOn}
 use Rattle.pat_commit_laws.proofs.Ready.{ready_there}
 
 -- a job that leaves is out
@@ -64,7 +64,7 @@ module _ (old m0 m1 m2 : Shown) (worker : ℕ) (j : Job) (r : Receipt) (rs : Lis
   placed : (r.index ≡ Some (length m1.history)) × (0 < steps_in r.entry) × (noted_in m1.history r.entry ≡ m1.history ++ r.entry ∷ [])
   placed = some_place m1.history r.entry r.index (nat_eq (steps_in r.entry) 0) refl done.index has_step
 
-  pub round_none_out : NoneOut m2.out
+  round_none_out : NoneOut m2.out
   round_none_out u = go (allowance_of m2.out u) refl
     where
       go : (o : Option ℕ) → allowance_of m2.out u ≡ o → o ≡ None
@@ -87,7 +87,7 @@ module _ (old m0 m1 m2 : Shown) (worker : ℕ) (j : Job) (r : Receipt) (rs : Lis
       let some : 0 < steps_in r.entry = placed.1 in
       omega arith
 
-  pub round_goes_on : GoesOnBy old worker rs m0 → GoesOnBy old worker (rs ++ r ∷ []) m2
+  round_goes_on : GoesOnBy old worker rs m0 → GoesOnBy old worker (rs ++ r ∷ []) m2
   round_goes_on g =
       let grown : m2.history ≡ m1.history ++ r.entry ∷ [] = ap (λ (x : Shown). x.history) done.changes ∙ placed.2 in
       let front : m1.history ≡ old.history ++ map (λ r. r.entry) rs = same_history ∙ g.history in
@@ -105,7 +105,7 @@ module _ (old m0 m1 m2 : Shown) (worker : ℕ) (j : Job) (r : Receipt) (rs : Lis
       }
 
 -- one more round
-pub rounds_more : (old m0 m1 m2 : Shown) (worker : ℕ) (j : Job) (rs : List Receipt) (r : Receipt) → Rounds old worker rs m0 → TakeGives m0 (Some j) m1 → Committed m1 worker j r m2 → Rounds old worker (rs ++ r ∷ []) m2
+rounds_more : (old m0 m1 m2 : Shown) (worker : ℕ) (j : Job) (rs : List Receipt) (r : Receipt) → Rounds old worker rs m0 → TakeGives m0 (Some j) m1 → Committed m1 worker j r m2 → Rounds old worker (rs ++ r ∷ []) m2
 rounds_more old m0 m1 m2 worker j [] r rounds taken done = (m2, record { job = j; lent = m1; taken = subst (λ m. TakeGives m (Some j) m1) rounds taken; committed = done }, refl)
 rounds_more old m0 m1 m2 worker j (x ∷ rs) r (m, first, rounds) taken done = (m, first, rounds_more m m0 m1 m2 worker j rs r rounds taken done)
 
@@ -120,13 +120,28 @@ goes_on_back old m0 m1 m2 worker j rs g lends lent back =
     }
 
 -- at first no job is out, and no receipt is there
-pub all_back_none : (m new : Shown) → new ≡ all_back m → NoneOut new.out
+all_back_none : (m new : Shown) → new ≡ all_back m → NoneOut new.out
 all_back_none m new is u = ap (λ (x : Shown). allowance_of x.out u) is ∙ none_in (length m.out) u
 
-pub all_back_goes_on : (m new : Shown) (worker : ℕ) (rs : List Receipt) → new ≡ all_back m → rs ≡ [] → GoesOnBy m worker rs new
+all_back_goes_on : (m new : Shown) (worker : ℕ) (rs : List Receipt) → new ≡ all_back m → rs ≡ [] → GoesOnBy m worker rs new
 all_back_goes_on m new worker rs is none =
     subst (λ l. GoesOnBy m worker l new) (sym none) (record {
       named = ap (λ (x : Shown). x.named) is;
       history = ap (λ (x : Shown). x.history) is ∙ sym (Rattle.std.proofs.lemmas.List.append-nil m.history);
       places = tt;
     })
+
+pub all_back_go_on : (m new : Shown) (worker : ℕ) (rs : List Receipt) → new ≡ all_back m → rs ≡ [] → GoesOn m worker rs new
+all_back_go_on m new worker rs is none = record {
+  rounds = subst (λ l. Rounds (all_back m) worker l new) (sym none) is;
+  goes_on = all_back_goes_on m new worker rs is none;
+  none_out = all_back_none m new is;
+}
+
+-- and one more round
+pub round_more : (old m0 m1 m2 : Shown) (worker : ℕ) (j : Job) (r : Receipt) (rs : List Receipt) → GoesOn old worker rs m0 → TakeGives m0 (Some j) m1 → Committed m1 worker j r m2 → GoesOn old worker (rs ++ r ∷ []) m2
+round_more old m0 m1 m2 worker j r rs g taken done = record {
+  rounds = rounds_more (all_back old) m0 m1 m2 worker j rs r g.rounds taken done;
+  goes_on = round_goes_on old m0 m1 m2 worker j r rs g.none_out taken.1 done g.goes_on;
+  none_out = round_none_out old m0 m1 m2 worker j r rs g.none_out taken.1 done;
+}

@@ -29,6 +29,12 @@ pub record GoesOnBy (old : Shown) (worker : ℕ) (rs : List Receipt) (new : Show
   pub history : new.history ≡ old.history ++ map (λ r. r.entry) rs
   pub places : AreInOrder (length old.history) worker rs
 
+-- rounds followed since all jobs were taken back, and none is out
+pub record GoesOn (old : Shown) (worker : ℕ) (rs : List Receipt) (new : Shown) : Type 0 where
+  pub rounds : Rounds (all_back old) worker rs new
+  pub goes_on : GoesOnBy old worker rs new
+  pub none_out : NoneOut new.out
+
 -- all jobs are back, rounds follow, and nothing can be taken any more
 pub record IsDriven (old : Shown) (worker : ℕ) (rs : List Receipt) (new : Shown) : Type 0 where
   pub rounds : Rounds (all_back old) worker rs new
@@ -46,9 +52,3 @@ pub record IsStopped (old : Shown) (worker : ℕ) (new : Shown) : Type 0 where
   pub lent : Shown
   pub taken : TakeGives middle (Some job) lent
   pub back : GivesBack lent job new
-
--- the job was committed, and its receipt stands behind the others
-pub record IsServed (old : Shown) (worker : ℕ) (j : Job) (rs : List Receipt) (new : Shown) (now : List Receipt) : Type 0 where
-  pub receipt : Receipt
-  pub committed : Committed old worker j receipt new
-  pub pushed : now ≡ rs ++ receipt ∷ []

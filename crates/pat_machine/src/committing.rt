@@ -1,23 +1,22 @@
 // Commits.
-ghost use Rattle.std.specs.Prelude.{◌≡◌, ℕ, ◌<◌, Some, None, IfOk, OnOk, OnErr, IfErr, IsTrue};
-ghost use Rattle.pat_model.specs.Programs.{is_among};
-ghost use Rattle.pat_model.specs.Configs.{Thread as ThreadOf, thread_at};
+ghost use Rattle.std.specs.Prelude.{◌≡◌, ◌<◌, Some, None, IfOk, OnOk, OnErr, IfErr, IsTrue, vec_len, vec_capacity};
+ghost use Rattle.pat_model.specs.Configs.{Config as ConfigOf};
 ghost use Rattle.pat_core.specs.Views.{program_view};
 ghost use Rattle.pat_reduce_threads.specs.ThreadViews.{thread_view};
 ghost use Rattle.pat_commits.specs.Commits.{IsLocalRun};
-ghost use Rattle.pat_commits.specs.Tops.{top_of};
-ghost use Rattle.pat_machine_following.specs.Naming.{times_in_thread};
-ghost use Rattle.pat_machine_following.specs.Settling.{IsSettled};
+ghost use Rattle.pat_machine_following.specs.Taking.{taken_act, taken_message};
+ghost use Rattle.pat_machine_following.specs.Settling.{IsSettled, StandsStill};
 ghost use Rattle.pat_machine.specs.Parted.{shown, IsKept};
+ghost use Rattle.pat_machine.specs.Entering.{CanEnter, ListsTop, WentFrom};
 ghost use Rattle.pat_machine.specs.Gives.{IsLent, Committed, CommitGives};
 
 use crate::entry::{note, steps_of, take_back};
 use crate::job::{CommitRefused, Job, Receipt};
-use crate::noting::{act_of, note_threads};
 use crate::parts::Parts;
-use pat_machine_following::{State, list_top, share};
+use pat_machine_following::{State, Taken, act_of, list_top, note_threads, share, share_in_place};
 use pat_machine_threads::{LocalRun, Settled, is_top, settle_top};
 use pat_reduce::Entry;
+use pat_reduce_threads::guard_of;
 use pat_sequences::let_go;
 use std::alloc::{AllocError, Global};
 
@@ -63,8 +62,33 @@ impl Parts {
         }
     }
 
-    /// Local steps taken inside, from the top of the kept state.
-    pub fn run_inside(&self, job: Job) -> Result<Settled, AllocError>
+    /// Commits a job that is out, with its local steps taken inside. An error changes nothing.
+    pub fn commit_inside(&mut self, worker: u32, job: Job) -> Result<Receipt, AllocError>
+        requires kept { IsKept self.old }
+        requires lent { IsLent (shown self.old) job }
+        ensures kept { IsKept self.new }
+        ensures ok { IfOk result (λ r. Committed (shown self.old) worker job r (shown self.new)) }
+        ensures err { OnErr result (shown self.new ≡ shown self.old) }
+    {
+        if self.stands_at_guard(job.thread) {
+            return self.finish_in_place(worker, job);
+        }
+        let settled = self.run_inside(job)?;
+        self.finish(worker, job, settled)
+    }
+
+    // Whether the thread stands at a guard: then it has no local step.
+    fn stands_at_guard(&self, thread: u32) -> bool
+        ensures { IsTrue result → StandsStill (program_view self.now.code.program) self.now.state thread }
+    {
+        match self.state.thread(thread) {
+            Some(kept) => guard_of(&self.code, &kept.control).is_some(),
+            None => false,
+        }
+    }
+
+    // Local steps taken inside, from the top of the kept state.
+    fn run_inside(&self, job: Job) -> Result<Settled, AllocError>
         requires kept { IsKept self.now }
         requires lent { IsLent (shown self.now) job }
         ensures { IfOk result (IsSettled (program_view self.now.code.program) self.now.state job.thread job.allowance) }
@@ -76,8 +100,8 @@ impl Parts {
         }
     }
 
-    /// Ends a commit after the local steps. An error changes nothing.
-    pub fn finish(&mut self, worker: u32, job: Job, settled: Settled) -> Result<Receipt, AllocError>
+    // Ends a commit after the local steps. An error changes nothing.
+    fn finish(&mut self, worker: u32, job: Job, settled: Settled) -> Result<Receipt, AllocError>
         requires kept { IsKept self.old }
         requires lent { IsLent (shown self.old) job }
         requires settled { IsSettled (program_view self.old.code.program) self.old.state job.thread job.allowance settled }
@@ -85,11 +109,7 @@ impl Parts {
         ensures ok { IfOk result (λ r. Committed (shown self.old) worker job r (shown self.new)) }
         ensures err { OnErr result (shown self.new ≡ shown self.old) }
     {
-        self.history.reserve(1)?;
-        self.out.reserve(1)?;
-        self.waits.reserve()?;
-        self.names.reserve()?;
-        list_named(&self.state, job.thread, settled.gone, &mut self.named)?;
+        self.prepare(job.thread, settled.gone)?;
         let newcomer = self.state.threads_made();
         let steps = settled.steps;
         let taken = share(
@@ -102,6 +122,61 @@ impl Parts {
             job.allowance,
             settled,
         )?;
+        Ok(self.enter(worker, job, steps, newcomer, &taken))
+    }
+
+    // Commits a job whose thread has no local step, where it stands. An error changes nothing.
+    fn finish_in_place(&mut self, worker: u32, job: Job) -> Result<Receipt, AllocError>
+        requires kept { IsKept self.old }
+        requires lent { IsLent (shown self.old) job }
+        requires still { StandsStill (program_view self.old.code.program) self.old.state job.thread }
+        ensures kept { IsKept self.new }
+        ensures ok { IfOk result (λ r. Committed (shown self.old) worker job r (shown self.new)) }
+        ensures err { OnErr result (shown self.new ≡ shown self.old) }
+    {
+        self.prepare(job.thread, 0)?;
+        let newcomer = self.state.threads_made();
+        let taken = share_in_place(
+            self.alloc,
+            &self.code,
+            &mut self.state,
+            &mut self.names,
+            self.limit,
+            job.thread,
+        )?;
+        Ok(self.enter(worker, job, 0, newcomer, &taken))
+    }
+
+    // Room for what the end of a commit may add, and a list of what the top of the thread names. An error changes nothing.
+    fn prepare(&mut self, thread: u32, frames: u32) -> Result<(), AllocError>
+        requires { IsKept self.old }
+        ensures kept { IsKept self.new }
+        ensures same { shown self.new ≡ shown self.old }
+        ensures room { OnOk result (CanEnter self.new) }
+        ensures place { OnOk result (vec_len self.new.names.times < vec_capacity self.new.names.times) }
+        ensures listed { OnOk result (ListsTop self.new.state thread frames self.new.named.items) }
+    {
+        self.history.reserve(1)?;
+        self.out.reserve(1)?;
+        self.waits.reserve()?;
+        self.names.reserve()?;
+        list_named(&self.state, thread, frames, &mut self.named)
+    }
+
+    // Enters a commit whose steps were taken.
+    fn enter(
+        &mut self,
+        worker: u32,
+        job: Job,
+        steps: u32,
+        newcomer: u32,
+        taken: &Option<Taken>,
+    ) -> Receipt
+        requires room { CanEnter self.old }
+        requires went { (c : ConfigOf) × WentFrom self.old c worker job steps newcomer (taken_act taken.now) (taken_message taken.now) }
+        ensures kept { IsKept self.new }
+        ensures committed { (c : ConfigOf) → WentFrom self.old c worker job steps newcomer (taken_act taken.now) (taken_message taken.now) → Committed (record (shown self.old) { config = c }) worker job result (shown self.new) }
+    {
         note_threads(
             &mut self.waits,
             &self.code,
@@ -110,9 +185,9 @@ impl Parts {
             job.thread,
             newcomer,
             self.named.as_slice(),
-            &taken,
+            taken,
         );
-        let shared = act_of(&taken);
+        let shared = act_of(taken);
         let entry = Entry {
             worker,
             thread: job.thread,
@@ -123,22 +198,17 @@ impl Parts {
         self.left += job.allowance as u64 - steps_of(&entry);
         self.lent -= job.allowance as u64;
         let index = note(&mut self.history, entry);
-        Ok(Receipt { index, entry })
+        Receipt { index, entry }
     }
 }
 
 // Lists the mailboxes that the top of a thread names, and no others.
-fn list_named(
-    state: &State,
-    thread: u32,
-    frames: u32,
-    named: &mut Vec<u32>,
-) -> Result<(), AllocError>
-    ensures { OnOk result ((s : ThreadOf) (a : ℕ) → thread_at state.now thread ≡ Some s → 0 < times_in_thread a (top_of frames s) → IsTrue (is_among a named.new.items)) }
+fn list_named(state: &State, thread: u32, most: u32, to: &mut Vec<u32>) -> Result<(), AllocError>
+    ensures { OnOk result (ListsTop state.now thread most to.new.items) }
 {
-    named.clear();
+    to.clear();
     match state.thread(thread) {
-        Some(kept) => list_top(kept, frames, named),
+        Some(kept) => list_top(kept, most, to),
         None => Ok(()),
     }
 }

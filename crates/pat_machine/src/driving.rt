@@ -1,8 +1,9 @@
 // A machine that is driven to its outcome on one thread.
-ghost use Rattle.std.specs.Prelude.{◌≡◌, ◌++◌, ◌∷◌, [], ◌<◌, IfOk, OnOk, OnErr, Some};
+ghost use Rattle.std.specs.Prelude.{◌≡◌, List, IfOk, OnOk, OnErr};
+ghost use Rattle.pat_machine.specs.declared.job.Receipt.{Receipt as ReceiptOf};
 ghost use Rattle.pat_machine.specs.Parted.{shown, IsKept};
-ghost use Rattle.pat_machine.specs.Gives.{IsLent, GivesBack};
-ghost use Rattle.pat_machine.specs.Driving.{IsDriven, IsStopped, IsServed};
+ghost use Rattle.pat_machine.specs.Gives.{IsLent, Committed, GivesBack};
+ghost use Rattle.pat_machine.specs.Driving.{IsDriven, IsStopped};
 
 use crate::job::{Job, Receipt};
 use crate::parts::Parts;
@@ -19,50 +20,44 @@ impl Parts {
         self.give_back_all();
         let mut receipts = Vec::new(self.alloc);
         while let Some(job) = self.take() {
-            self.serve(worker, job, &mut receipts)?;
+            if receipts.reserve(1).is_err() {
+                self.give_back(job);
+                return Err(AllocError);
+            }
+            let receipt = self.serve(worker, job)?;
+            receipts.push_reserved(receipt);
         }
         Ok(receipts)
     }
 
+    /// Takes all jobs back, and serves one job after another, up to the outcome. Receipts aren't kept.
+    pub fn run(&mut self, worker: u32) -> Result<(), AllocError>
+        requires { IsKept self.old }
+        ensures kept { IsKept self.new }
+        ensures ok { OnOk result ((rs : List ReceiptOf) × IsDriven (shown self.old) worker rs (shown self.new)) }
+        ensures err { OnErr result (IsStopped (shown self.old) worker (shown self.new)) }
+    {
+        self.give_back_all();
+        while let Some(job) = self.take() {
+            let _receipt = self.serve(worker, job)?;
+        }
+        Ok(())
+    }
+
     // Commits a job that is out, with its local steps taken inside; or takes it back.
-    fn serve(
-        &mut self,
-        worker: u32,
-        job: Job,
-        receipts: &mut Vec<Receipt>,
-    ) -> Result<(), AllocError>
+    fn serve(&mut self, worker: u32, job: Job) -> Result<Receipt, AllocError>
         requires kept { IsKept self.old }
         requires lent { IsLent (shown self.old) job }
         ensures kept { IsKept self.new }
-        ensures ok { OnOk result (IsServed (shown self.old) worker job receipts.old.items (shown self.new) receipts.new.items) }
+        ensures ok { IfOk result (λ r. Committed (shown self.old) worker job r (shown self.new)) }
         ensures err { OnErr result (GivesBack (shown self.old) job (shown self.new)) }
     {
-        match self.try_serve(worker, job, receipts) {
-            Ok(()) => Ok(()),
+        match self.commit_inside(worker, job) {
+            Ok(receipt) => Ok(receipt),
             Err(AllocError) => {
                 self.give_back(job);
                 Err(AllocError)
             }
         }
-    }
-
-    // An error changes nothing of the machine.
-    fn try_serve(
-        &mut self,
-        worker: u32,
-        job: Job,
-        receipts: &mut Vec<Receipt>,
-    ) -> Result<(), AllocError>
-        requires kept { IsKept self.old }
-        requires lent { IsLent (shown self.old) job }
-        ensures kept { IsKept self.new }
-        ensures ok { OnOk result (IsServed (shown self.old) worker job receipts.old.items (shown self.new) receipts.new.items) }
-        ensures err { OnErr result (shown self.new ≡ shown self.old) }
-    {
-        receipts.reserve(1)?;
-        let settled = self.run_inside(job)?;
-        let receipt = self.finish(worker, job, settled)?;
-        receipts.push_reserved(receipt);
-        Ok(())
     }
 }

@@ -6,7 +6,6 @@ mod driving;
 mod entry;
 mod job;
 mod machine;
-mod noting;
 mod outcome;
 mod parts;
 mod taking;

@@ -1,5 +1,5 @@
 // The machine.
-ghost use Rattle.std.specs.Prelude.{◌≡◌, ℕ, ◌<◌, ◌≤◌, IfOk, OnErr};
+ghost use Rattle.std.specs.Prelude.{◌≡◌, ℕ, ◌<◌, ◌≤◌, List, IfOk, OnOk, OnErr};
 ghost use Rattle.pat_reduce_threads.specs.ThreadViews.{thread_view};
 ghost use Rattle.pat_reduce.specs.Views.{config_view};
 ghost use Rattle.pat_commits.specs.Commits.{IsLocalRun};
@@ -7,6 +7,7 @@ ghost use Rattle.pat_machine.specs.Remains.{remains_of};
 ghost use Rattle.pat_machine.specs.Shown.{program_of, IsMachine, IsNew};
 ghost use Rattle.pat_machine.specs.Gives.{TakeGives, TakeThreadGives, StateGives, CommitGives, GivesBack, OutcomeGives, all_back};
 ghost use Rattle.pat_machine.specs.Driving.{IsDriven, IsStopped};
+ghost use Rattle.pat_machine.specs.declared.job.Receipt.{Receipt as ReceiptOf};
 
 use crate::job::{CommitRefused, Job, Named, Outcome, Receipt, StateRefused, TakeRefused};
 use crate::parts::Parts;
@@ -139,6 +140,14 @@ impl Machine {
         ensures err { OnErr result (IsStopped self.old worker self.new) }
     {
         self.parts.drive(worker)
+    }
+
+    /// Takes all jobs back, and serves one job after another, up to the outcome. It keeps no receipts.
+    pub fn run(&mut self, worker: u32) -> Result<(), AllocError>
+        ensures ok { OnOk result ((rs : List ReceiptOf) × IsDriven self.old worker rs self.new) }
+        ensures err { OnErr result (IsStopped self.old worker self.new) }
+    {
+        self.parts.run(worker)
     }
 
     /// The program.

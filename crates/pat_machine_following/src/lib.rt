@@ -2,8 +2,11 @@
 #![tactic(auto)]
 
 mod following;
+mod noting;
 mod sending;
 mod waking;
 
-pub use following::{Stepped, follow};
-pub use pat_machine_shares::{Names, Prospect, Remains, State, Taken, list_top, share};
+pub use noting::{act_of, note_threads};
+pub use pat_machine_shares::{
+    Names, Prospect, Remains, State, Taken, list_top, share, share_in_place,
+};

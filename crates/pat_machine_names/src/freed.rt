@@ -1,36 +1,37 @@
 // What counts say of the mailbox that a thread may free.
-ghost use Rattle.std.specs.Prelude.{◌≡◌, option_map};
-ghost use Rattle.pat_core.specs.Views.{program_view};
-ghost use Rattle.pat_reduce_threads.specs.ThreadViews.{control_view, thread_view};
+ghost use Rattle.std.specs.Prelude.{◌≡◌};
+ghost use Rattle.pat_reduce_threads.specs.ThreadViews.{control_view};
 ghost use Rattle.pat_reduce_values.specs.ValueViews.{env_view};
 ghost use Rattle.pat_naming_laws.specs.Naming.{times_in_control, times_in_env};
-ghost use Rattle.pat_naming_laws.specs.Counting.{count_at, freed, is_named_by_control, is_unnamed};
+ghost use Rattle.pat_naming_laws.specs.Counting.{count_at};
+ghost use Rattle.pat_machine_names.specs.Telling.{names_alone};
 
 use crate::Names;
-use pat_reduce_threads::{Control, GuardRef, ThreadState, guard_of};
-use pat_reduce_values::{Executable, Value};
+use pat_reduce_threads::Control;
+use pat_reduce_values::Value;
+
+/// Counts that tell whether nothing but a thread reaches the mailbox that it may free.
+#[derive(Clone, Copy)]
+pub enum Counted<'a> {
+    /// Each name is counted.
+    All(&'a Names),
+    /// All but those of the thread's top are.
+    Others(&'a Names),
+}
+
+impl Counted<'_> {
+    /// Whether nothing but the thread with this control names the mailbox.
+    pub fn names_alone(&self, control: &Control, mailbox: u32) -> bool
+        ensures { result ≡ names_alone self.now (control_view control.now) mailbox }
+    {
+        match self {
+            Counted::All(names) => names.at(mailbox) == times_in_control(control, mailbox),
+            Counted::Others(names) => names.at(mailbox) == 0,
+        }
+    }
+}
 
 impl Names {
-    /// Whether the thread's control alone names the mailbox that it may free, if it stands at a guard with a clause for that.
-    pub fn is_named_by_control(&self, code: &Executable, state: &ThreadState) -> bool
-        ensures { result ≡ is_named_by_control (program_view code.now.program) self.now.times.items (thread_view state.now) }
-    {
-        match freed(code, state) {
-            Some(mailbox) => self.at(mailbox) == times_in_control(&state.control, mailbox),
-            None => false,
-        }
-    }
-
-    /// Whether nothing that is counted names it.
-    pub fn is_unnamed(&self, code: &Executable, state: &ThreadState) -> bool
-        ensures { result ≡ is_unnamed (program_view code.now.program) self.now.times.items (thread_view state.now) }
-    {
-        match freed(code, state) {
-            Some(mailbox) => self.at(mailbox) == 0,
-            None => false,
-        }
-    }
-
     // How often the mailbox is named.
     fn at(&self, mailbox: u32) -> u64
         ensures { result ≡ count_at self.now.times.items mailbox }
@@ -39,22 +40,6 @@ impl Names {
             Some(times) => u64::from(*times),
             None => 0,
         }
-    }
-}
-
-// The mailbox that the thread frees as soon as it may.
-fn freed(code: &Executable, state: &ThreadState) -> Option<u32>
-    ensures { result ≡ freed (program_view code.now.program) (thread_view state.now) }
-{
-    match guard_of(code, &state.control) {
-        Some(
-            GuardRef {
-                mailbox,
-                free: Some(_),
-                ..
-            },
-        ) => Some(mailbox),
-        _ => None,
     }
 }
 

@@ -6,5 +6,6 @@ mod freed;
 mod listing;
 mod names;
 
+pub use freed::Counted;
 pub use listing::list_top;
 pub use names::Names;

@@ -1,19 +1,26 @@
 -- What is left to be counted once the local steps and the shared step were taken.
-use Rattle.std.proofs.Common.{◌≡◌, ℕ, ◌+◌, ◌<◌, ◌≤◌, List, [], length, Option, Some, None, refl, sym, ap, ◌∙◌, arith}
+use Rattle.std.proofs.Common.{◌≡◌, ℕ, ◌+◌, ◌<◌, ◌≤◌, List, [], length, Option, Some, None, refl, sym, ap, ◌∙◌, subst, arith}
 use Rattle.pat_model.specs.Programs.{Program}
+use Rattle.pat_model.specs.WellFormed.{WellFormed}
 use Rattle.pat_model.specs.Configs.{Returned, Thread, Message, Config, thread_at, with_thread}
 use Rattle.pat_model.specs.Orders.{IsOrdered}
 use Rattle.pat_model.specs.Steps.{Act, ActLocal, ActNew, ActSend, ActSpawn, ActPrint, ActEnd, ActFree, ActReceive, message_at, thread_of}
 use Rattle.pat_model.specs.Values.{Const, UnitConst}
 use Rattle.pat_model.specs.Runs.{IsSharedOrNone, run_from, shared_step}
 use Rattle.pat_model_laws.proofs.Threads.{set_all}
+use Rattle.pat_commits.specs.Commits.{Shares}
+use Rattle.pat_commits.specs.Machines.{IsTypedBySome}
 use Rattle.pat_commits.specs.Tops.{top_of, below, over}
 use Rattle.pat_naming_laws.specs.Naming.{times_in_thread, times_in}
-use Rattle.pat_naming_laws.specs.Counting.{AreCountedBut, times_if_message, times_gone, times_come}
+use Rattle.pat_naming_laws.specs.Counting.{AreCountedBut, TellsAlone, is_unnamed, times_if_message, times_gone, times_come}
+use Rattle.pat_naming_laws.proofs.Freed.{counts_tell_without_top}
 use Rattle.pat_naming_laws.proofs.Changed.{exchanged_top}
 use Rattle.pat_naming_laws.proofs.Committed.{commit_counts}
 use Rattle.pat_machine_shares.specs.Leaving.{IsLeft, made_by, times_received, times_put}
+use Rattle.pat_machine_states.proofs.Locals.{with_same}
+use Rattle.pat_machine_shares.specs.Settling.{StandsStill}
 use Rattle.pat_machine_shares.proofs.Acts.{after}
+use Rattle.pat_machine_shares.proofs.Settled.{shared_in_place}
 
 -- the top of a thread names no more than all that there is
 pub top_within : (c : Config) (a t n : ℕ) (s : Thread) → thread_at c t ≡ Some s → times_in_thread a (top_of n s) ≤ times_in a c
@@ -69,3 +76,19 @@ left_of p c d ns t n kept end act m ordered there shared counted run received =
           omega arith;
       found = after_it.found;
     }
+
+-- ---- a thread that has no local step, where it stands
+
+pub told_in_place : (p : Program) (c : Config) (ns : List ℕ) (t : ℕ) (s : Thread) → WellFormed p → IsOrdered c → thread_at c t ≡ Some s → IsTypedBySome p c → AreCountedBut (λ a. times_in_thread a (top_of 0 s)) ns c
+    → TellsAlone p c t s (is_unnamed p ns s)
+told_in_place p c ns t s w ordered there typed counted =
+    let same = with_same c t s there in
+    subst (λ d. TellsAlone p d t s (is_unnamed p ns s)) same
+    (counts_tell_without_top p c ns t 0 s (top_of 0 s) w ordered there (subst (IsTypedBySome p) (sym same) typed) counted)
+
+pub left_in_place : (p : Program) (limit : ℕ) (c d : Config) (ns : List ℕ) (t : ℕ) (h : StandsStill p c t) (act : Option Act) (m : Option Message) → IsOrdered c → AreCountedBut (λ a. times_in_thread a (top_of 0 h.kept)) ns c → Shares p limit c t act d
+    → ((k : ℕ) → act ≡ Some (ActReceive k) → m ≡ message_at c k) → IsLeft t 0 c.next_thread act m ns d
+left_in_place p limit c d ns t h act m ordered counted f received =
+    left_of p c d ns t 0 h.kept (top_of 0 h.kept) act m ordered h.there (shared_in_place p c t h limit d act f) counted
+    (subst (λ x. run_from p x (shared_step t act) ≡ Some d) (sym (with_same c t h.kept h.there)) f.taken)
+    received

@@ -8,9 +8,10 @@ use Rattle.pat_model.specs.Steps.{Act}
 use Rattle.pat_model.specs.Runs.{Entry, IsSharedOrNone, run_from, shared_step}
 use Rattle.pat_commits.specs.Commits.{IsLocalRun, Shares, IsCommit}
 use Rattle.pat_machine_threads.proofs.Runs.{commit_shared}
+use Rattle.pat_machine_states.proofs.Locals.{with_same}
 use Rattle.pat_machine_threads.specs.declared.settling.Settled.{Settled}
 use Rattle.pat_machine_threads.specs.Settling.{IsRunOnTop, settled_thread}
-use Rattle.pat_machine_shares.specs.Settling.{IsSettled, half_way, Finishes}
+use Rattle.pat_machine_shares.specs.Settling.{IsSettled, StandsStill, half_way, Finishes}
 
 -- the end leads from the settled state on
 pub run_of : (p : Program) (allowance limit : ℕ) (half d : Config) (t k : ℕ) (a : Option Act) → Finishes p allowance limit half t k a d → k ≤ allowance → run_from p half (shared_step t a) ≡ Some d
@@ -54,3 +55,20 @@ module _ (p : Program) (c : Config) (t allowance : ℕ) (s : Settled) (h : IsSet
   shared_or_none limit a d f =
       let e : Entry = record { worker = 0; thread = t; local_steps = s.steps; shared = a } in
       commit_shared p allowance limit c d e (commit_of limit d e refl refl f)
+
+-- a shared step of a thread that has no local step, and no step before it
+module _ (p : Program) (c : Config) (t : ℕ) (h : StandsStill p c t) where
+  -- they are a commit
+  pub commit_in_place : (worker allowance limit : ℕ) (d : Config) (a : Option Act) → 0 < allowance → Shares p limit c t a d → IsCommit p allowance limit c (record { worker = worker; thread = t; local_steps = 0; shared = a }) d
+  commit_in_place worker allowance limit d a some f = record {
+    kept = h.kept;
+    middle = h.kept;
+    there = h.there;
+    local = record { taken = refl; within = omega arith; whole = λ less. h.still };
+    shared = λ less. subst (λ x. Shares p limit x t a d) (sym (with_same c t h.kept h.there)) f;
+    spent = λ all. absurd (omega arith);
+  }
+
+  -- so it is no local one
+  pub shared_in_place : (limit : ℕ) (d : Config) (a : Option Act) → Shares p limit c t a d → IsSharedOrNone a
+  shared_in_place limit d a f = commit_shared p 1 limit c d (record { worker = 0; thread = t; local_steps = 0; shared = a }) (commit_in_place 0 1 limit d a (omega arith) f)

@@ -2,7 +2,7 @@
 use Rattle.std.specs.Prelude.{◌≡◌, ℕ, ◌<◌, Option, Some, None}
 use Rattle.pat_model.specs.Programs.{Program}
 use Rattle.pat_model.specs.Configs.{Thread, Config, thread_at, with_thread}
-use Rattle.pat_model.specs.Steps.{Act}
+use Rattle.pat_model.specs.Steps.{Act, local_step}
 use Rattle.pat_commits.specs.Commits.{Shares}
 use Rattle.pat_machine_threads.specs.declared.settling.Settled.{Settled}
 use Rattle.pat_machine_threads.specs.Settling.{IsRunOnTop, settled_thread}
@@ -21,3 +21,9 @@ half_way c t kept s = with_thread c t (settled_thread kept s)
 pub record Finishes (p : Program) (allowance limit : ℕ) (half : Config) (t k : ℕ) (a : Option Act) (d : Config) : Type 0 where
   pub shared : k < allowance → Shares p limit half t a d
   pub spent : k ≡ allowance → (a ≡ None) × (d ≡ half)
+
+-- thread t is there, and has no local step
+pub record StandsStill (p : Program) (c : Config) (t : ℕ) : Type 0 where
+  pub kept : Thread
+  pub there : thread_at c t ≡ Some kept
+  pub still : local_step p kept ≡ None

@@ -2,7 +2,9 @@
 ghost use Rattle.std.specs.Prelude.{◌≡◌, ℕ, ◌+◌, ◌<◌, ◌≤◌, [], length, Some, option_map, vec_len, vec_capacity};
 ghost use Rattle.pat_model.specs.Configs.{Thread as ThreadOf, thread_at};
 ghost use Rattle.pat_reduce_threads.specs.ThreadViews.{message_view};
-ghost use Rattle.pat_naming_laws.specs.Counting.{AreCounted, count_at, last_message, times_if_message, times_if_thread, times_if_top};
+ghost use Rattle.pat_commits.specs.Tops.{top_of};
+ghost use Rattle.pat_naming_laws.specs.Naming.{times_in_thread};
+ghost use Rattle.pat_naming_laws.specs.Counting.{AreCounted, AreCountedBut, count_at, last_message, times_if_message, times_if_thread, times_if_top};
 ghost use Rattle.pat_machine_states.specs.Changes.{HasPlaces, Counts, Forgets};
 ghost use Rattle.pat_machine_states.specs.Taking.{taken_act, taken_message};
 ghost use Rattle.pat_machine_shares.specs.Leaving.{CanBeCounted, IsFound, IsLeft, IsSentLast, made_by, times_put, times_received};
@@ -38,6 +40,21 @@ pub fn count_thread(state: &State, names: &mut Names, thread: u32, frames: u32)
     match state.thread(thread) {
         Some(own) => names.count_top(own, frames),
         None => {}
+    }
+}
+
+/// Counts what the top of a thread names no longer.
+pub fn leave_thread(state: &State, names: &mut Names, thread: u32, frames: u32)
+    requires there { (s : ThreadOf) × (thread_at state.now thread ≡ Some s) }
+    requires counted { AreCounted names.old.times.items state.now }
+    ensures counted { (s : ThreadOf) → thread_at state.now thread ≡ Some s → AreCountedBut (λ a. times_in_thread a (top_of frames s)) names.new.times.items state.now }
+    ensures room { vec_capacity names.old.times ≤ vec_capacity names.new.times }
+    ensures len { vec_len names.new.times ≡ vec_len names.old.times }
+{
+    match state.thread(thread) {
+        Some(own) => names.forget_top(own, frames),
+        // The thread is there.
+        None => unreachable!(),
     }
 }
 

@@ -5,4 +5,4 @@ mod counting;
 mod sharing;
 
 pub use pat_machine_states::{Names, Prospect, Remains, State, Taken, list_top};
-pub use sharing::share;
+pub use sharing::{share, share_in_place};

@@ -6,18 +6,17 @@ ghost use Rattle.pat_model.specs.Orders.{IsOrdered};
 ghost use Rattle.pat_model.specs.Steps.{Act as ActOf, ActReceive, message_at};
 ghost use Rattle.pat_core.specs.Views.{program_view};
 ghost use Rattle.pat_reduce_threads.specs.ThreadViews.{thread_view};
+ghost use Rattle.pat_commits.specs.Commits.{Shares};
 ghost use Rattle.pat_commits.specs.Machines.{HasRoom, IsTypedBySome};
-ghost use Rattle.pat_commits.specs.Tops.{top_of};
-ghost use Rattle.pat_naming_laws.specs.Naming.{times_in_thread};
-ghost use Rattle.pat_naming_laws.specs.Counting.{AreCounted, AreCountedBut, TellsAlone, is_unnamed};
+ghost use Rattle.pat_naming_laws.specs.Counting.{AreCounted, TellsAlone, is_unnamed};
 ghost use Rattle.pat_machine_threads.specs.Settling.{settled_thread};
 ghost use Rattle.pat_machine_states.specs.Taking.{taken_act, taken_message};
-ghost use Rattle.pat_machine_shares.specs.Settling.{IsSettled, half_way, Finishes};
+ghost use Rattle.pat_machine_shares.specs.Settling.{IsSettled, StandsStill, half_way, Finishes};
 ghost use Rattle.pat_machine_shares.specs.Leaving.{CanBeCounted};
 
-use crate::counting::{count_end, count_thread};
+use crate::counting::{count_end, count_thread, leave_thread};
 use pat_executable::Executable;
-use pat_machine_states::{Names, State, Taken};
+use pat_machine_states::{Counted, Names, State, Taken};
 use pat_machine_threads::Settled;
 use std::alloc::{AllocError, Global};
 
@@ -51,8 +50,8 @@ pub fn share(
     let frames = settled.end.frames.len() as u32;
     let gone = settled.gone;
     let newcomer = state.threads_made();
-    let alone = leave_out(code, state, names, thread, &settled);
-    match finish(alloc, code, state, limit, thread, allowance, alone, settled) {
+    leave_thread(state, names, thread, gone);
+    match finish(alloc, code, state, names, limit, thread, allowance, settled) {
         Ok(taken) => {
             count_end(state, names, thread, frames, newcomer, &taken);
             Ok(taken)
@@ -64,27 +63,42 @@ pub fn share(
     }
 }
 
-// Counts the old top of the thread no longer, and says whether nothing else names the mailbox that it may free in the end.
-fn leave_out(
+/// Takes the open shared step of a thread that has no local step, where it stands: no more than its control changes. Names
+/// stay counted; there is room for one more mailbox. An error changes nothing of the configuration.
+pub fn share_in_place(
+    alloc: Global,
     code: &Executable,
-    state: &State,
+    state: &mut State,
     names: &mut Names,
+    limit: u32,
     thread: u32,
-    settled: &Settled,
-) -> bool
-    requires there { (s : ThreadOf) × (thread_at state.now thread ≡ Some s) }
-    requires counted { AreCounted names.old.times.items state.now }
-    ensures alone { result ≡ is_unnamed (program_view code.now.program) names.new.times.items (thread_view settled.now.end) }
-    ensures counted { (s : ThreadOf) → thread_at state.now thread ≡ Some s → AreCountedBut (λ a. times_in_thread a (top_of settled.now.gone s)) names.new.times.items state.now }
-    ensures room { vec_capacity names.old.times ≤ vec_capacity names.new.times }
-    ensures len { vec_len names.new.times ≡ vec_len names.old.times }
+) -> Result<Option<Taken>, AllocError>
+    requires well { WellFormed (program_view code.now.program) }
+    requires ordered { IsOrdered state.old }
+    requires room { HasRoom state.old }
+    requires still { StandsStill (program_view code.now.program) state.old thread }
+    requires typed { IsTypedBySome (program_view code.now.program) state.old }
+    requires place { vec_len names.old.times < vec_capacity names.old.times }
+    requires counted { AreCounted names.old.times.items state.old }
+    requires before { CanBeCounted state.old }
+    requires after { (a : Option ActOf) (d : ConfigOf) → Shares (program_view code.now.program) limit state.old thread a d → CanBeCounted d }
+    ensures ok { IfOk result (λ o. Shares (program_view code.now.program) limit state.old thread (taken_act o) state.new) }
+    ensures message { IfOk result (λ o. (k : ℕ) → taken_act o ≡ Some (ActReceive k) → taken_message o ≡ message_at state.old k) }
+    ensures err { OnErr result (state.new ≡ state.old) }
+    ensures counted { AreCounted names.new.times.items state.new }
 {
-    match state.thread(thread) {
-        Some(kept) => names.forget_top(kept, settled.gone),
-        // The thread is there.
-        None => unreachable!(),
+    let newcomer = state.threads_made();
+    leave_thread(state, names, thread, 0);
+    match state.take_open(alloc, code, limit, thread, Counted::Others(names)) {
+        Ok(taken) => {
+            count_end(state, names, thread, 0, newcomer, &taken);
+            Ok(taken)
+        }
+        Err(AllocError) => {
+            count_thread(state, names, thread, 0);
+            Err(AllocError)
+        }
     }
-    names.is_unnamed(code, &settled.end)
 }
 
 // The local steps' end, and the shared step. An error changes nothing.
@@ -92,23 +106,24 @@ fn finish(
     alloc: Global,
     code: &Executable,
     state: &mut State,
+    names: &Names,
     limit: u32,
     thread: u32,
     allowance: u32,
-    alone: bool,
     settled: Settled,
 ) -> Result<Option<Taken>, AllocError>
     requires room { HasRoom state.old }
     requires settled { IsSettled (program_view code.now.program) state.old thread allowance settled }
     requires typed { (s : ThreadOf) → thread_at state.old thread ≡ Some s → IsTypedBySome (program_view code.now.program) (half_way state.old thread s settled) }
-    requires alone { (s : ThreadOf) → thread_at state.old thread ≡ Some s → TellsAlone (program_view code.now.program) (half_way state.old thread s settled) thread (settled_thread s settled) alone }
+    requires alone { (s : ThreadOf) → thread_at state.old thread ≡ Some s → TellsAlone (program_view code.now.program) (half_way state.old thread s settled) thread (settled_thread s settled) (is_unnamed (program_view code.now.program) names.now.times.items (thread_view settled.end)) }
     ensures ok { IfOk result (λ o. (s : ThreadOf) → thread_at state.old thread ≡ Some s → Finishes (program_view code.now.program) allowance limit (half_way state.old thread s settled) thread settled.steps (taken_act o) state.new) }
     ensures message { IfOk result (λ o. (k : ℕ) → taken_act o ≡ Some (ActReceive k) → taken_message o ≡ message_at state.old k) }
     ensures err { OnErr result (state.new ≡ state.old) }
 {
     let Settled { end, gone, steps } = settled;
     if steps < allowance {
-        return state.share(alloc, code, limit, thread, gone, end, alone);
+        let counted = Counted::Others(names);
+        return state.share(alloc, code, limit, thread, gone, end, counted);
     }
     state.put(alloc, thread, gone, end)?;
     Ok(None)

@@ -9,7 +9,6 @@ use Rattle.pat_model.specs.Values.{Value, Const, Mailbox, Env, value_at}
 use Rattle.pat_model.specs.Programs.{Program, Guard, Clause}
 use Rattle.pat_model.specs.Configs.{Thread, Message, Config, thread_at}
 use Rattle.pat_model.specs.Steps.{Redex, At, redex, ActReceive, at_node, clause_for, received, step}
-use Rattle.pat_model.specs.Runs.{can_step_thread}
 use Rattle.pat_model.specs.Faults.{IsIn}
 use Rattle.pat_model_laws.specs.Laws.{IsEnabled}
 use Rattle.pat_model_laws.proofs.Ascending.{found_by_number}
@@ -17,6 +16,8 @@ use Rattle.pat_locality_laws.proofs.Opens.{some_of}
 use Rattle.pat_reduce_threads.specs.declared.state.Message.{Message as CodeMessage}
 use Rattle.pat_reduce_threads.specs.ThreadViews.{message_view}
 use Rattle.pat_reduce_threads.specs.ThreadActs.{Guarding, guarding, guard_at, message_in, clause_takes, takes, received_by, received_of, redex_received}
+use Rattle.pat_reduce.specs.Acts.{EnabledAct, act_at, guard_act, plain_act}
+use Rattle.pat_reduce.proofs.Candidates.{act_found}
 use Rattle.pat_reduce.proofs.Shared.{taken, receive_step}
 use Rattle.pat_pending_laws.specs.Pending.{Ascend, messages_of}
 use Rattle.pat_pending_laws.proofs.LookUps.{own_are_pending}
@@ -24,7 +25,7 @@ use Rattle.pat_machine_pending.specs.Mailboxes.{Mailbox as Box, pending_at as pe
 use Rattle.pat_machine_pending.specs.Boxes.{boxes_view}
 use Rattle.pat_machine_pending.proofs.Boxed.{pending_view, map_get}
 use Rattle.pat_machine_states.specs.Boxes.{state_view, IsLatest, IsState}
-use Rattle.pat_machine_states.specs.Stepping.{guarded_in, mailbox_of}
+use Rattle.pat_machine_states.specs.Stepping.{mailbox_of}
 use Rattle.pat_machine_states.proofs.Reaching.{some_map}
 use Rattle.pat_locality_laws.specs.Wakings.{mailbox_in, guarded_at, IsWaiting}
 
@@ -39,12 +40,15 @@ guarded_guard (At (Guard x e free cs) env) = on_value free (value_at env x) cs e
 guarded_guard _ = refl
 
 -- a thread at a guard that can't step waits there
-pub waits : (p : Program) (c : Config) (t a : ℕ) → guarded_in p (thread_at c t) ≡ Some a → can_step_thread p c t ≡ false → IsWaiting p c t a
-waits p c t a guards still = go (thread_at c t) refl guards
-  where
-    go : (o : Option Thread) → thread_at c t ≡ o → guarded_in p o ≡ Some a → IsWaiting p c t a
-    go None is h = absurd cc
-    go (Some s) is h = record { thread = s; there = is; awaits = guarded_guard (redex p s.control) ∙ h; still = still }
+pub waits : (p : Program) (c : Config) (t : ℕ) (s : Thread) (g : Guarding) → thread_at c t ≡ Some s → guard_at (redex p s.control) ≡ Some g → guard_act c t g ≡ None → IsWaiting p c t g.mailbox
+waits p c t s g there at none = record {
+  thread = s;
+  there = there;
+  awaits = guarded_guard (redex p s.control) ∙ ap (option_map mailbox_of) at;
+  still =
+      subst (EnabledAct p c t) none
+      (subst (λ o. EnabledAct p c t (act_at c t o (plain_act p (redex p s.control) s.frames))) at (act_found p c t s there));
+}
 
 last_of : {A : Type 0} (P : A → Type 0) (xs : List A) (x : A) → AllByRecursion P (xs ++ x ∷ []) → P x
 last_of P [] x h = h.0

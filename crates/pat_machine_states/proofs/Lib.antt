@@ -1,3 +1,6 @@
+-- for others: lemmas on threads that are put in their places
+pub use Rattle.pat_locality_laws.proofs.Locals
+-- the crate's own
 mod Opened
 mod Prospected
 mod Awaiting

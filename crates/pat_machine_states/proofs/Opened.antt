@@ -26,6 +26,11 @@ absent p c t none = false_from_ne_true (can_step_thread p c t) (λ can.
 pub least_named : (p : Program) (c : Config) (t : ℕ) (o : Option Act) → IsLeast p c t o → ReceivesLeast p c t o
 least_named p c t o least k m is e = subst (IsLeast p c t) is least m e
 
+-- whether there is an enabled act says whether the thread can step
+pub enabled_tells : (p : Program) (c : Config) (t : ℕ) (o : Option Act) → EnabledAct p c t o → is_some o ≡ can_step_thread p c t
+enabled_tells p c t None h = sym h
+enabled_tells p c t (Some a) h = sym h.1
+
 module _ (p : Program) (c : Config) (limit t : ℕ) where
   enabled_of : (o : Option Act) (b : Act) → EnabledAct p c t o → o ≡ Some b → IsEnabled p c (record { thread = t; act = b })
   enabled_of None b h is = cc

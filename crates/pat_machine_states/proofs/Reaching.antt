@@ -15,7 +15,10 @@ use Rattle.pat_reduce_threads.specs.ThreadActs.{Guarding, guarding, guard_at}
 use Rattle.pat_reduce.specs.Acts.{may_free, freed_by, act_if, free_act}
 use Rattle.pat_reduce.proofs.Shared.{freed as left_by, free_step}
 use Rattle.pat_locality_laws.specs.Wakings.{mailbox_in}
-use Rattle.pat_machine_names.specs.Counting.{freed_at, TellsAlone}
+use Rattle.pat_machine_names.specs.declared.freed.Counted.{Counted}
+use Rattle.pat_machine_names.specs.declared.freed.Counted.TheVariants.{All, Others}
+use Rattle.pat_machine_names.specs.Counting.{freed, freed_at, TellsAlone, is_named_just}
+use Rattle.pat_machine_names.specs.Telling.{names_alone, says_alone}
 use Rattle.pat_machine_states.specs.Alone.{GuardsAlone, StandsAlone}
 
 -- the mailbox, where there is a clause for freeing it
@@ -42,9 +45,16 @@ freed_guard (At (Guard x e (Some n) cs) env) = freed_value n (value_at env x) cs
 freed_guard (At (Guard x e None cs) env) = freed_none (value_at env x) cs env
 freed_guard _ = refl
 
+-- the counts say of the mailbox what they say of the thread
+says_names : (p : Program) (k : Counted) (s : Thread) (a : ℕ) → freed p s ≡ Some a → says_alone p k s ≡ names_alone k s.control a
+says_names p (All names) s a h = ap (is_named_just names.now.times.items _) h
+says_names p (Others names) s a h = ap (is_named_just names.now.times.items _) h
+
 -- what is known of the thread's mailbox is known of the guard's
-pub tells_guard : (p : Program) (c : Config) (t : ℕ) (s : Thread) (alone : Bool) (g : Guarding) → guard_at (redex p s.control) ≡ Some g → TellsAlone p c t s alone → GuardsAlone c t g alone
-tells_guard p c t s alone g at tells = λ n is. tells g.mailbox (freed_guard (redex p s.control) ∙ ap freed_of at ∙ ap (λ o. with_free o g.mailbox) is)
+pub tells_guard : (p : Program) (c : Config) (t : ℕ) (s : Thread) (k : Counted) (g : Guarding) → guard_at (redex p s.control) ≡ Some g → TellsAlone p c t s (says_alone p k s) → GuardsAlone c t g (names_alone k s.control g.mailbox)
+tells_guard p c t s k g at tells = λ n is live empty.
+    let frees : freed p s ≡ Some g.mailbox = freed_guard (redex p s.control) ∙ ap freed_of at ∙ ap (λ o. with_free o g.mailbox) is in
+    tells g.mailbox frees live empty ∙ says_names p k s g.mailbox frees
 
 -- ---- the free
 
@@ -93,9 +103,10 @@ tells_on_top p c t top rest alone tells = λ a frees live empty.
     ap (λ b. not b && not (list_any (message_refers a) c.messages)) (others_same a t c.threads top (over top rest))
     ∙ tells a frees live empty
 
-pub stands_on_top : (p : Program) (c middle : Config) (t : ℕ) (top : Thread) (rest : List Frame) (alone : Bool) → middle ≡ with_thread c t top → thread_at middle t ≡ Some top
-    → TellsAlone p (with_thread c t (over top rest)) t (over top rest) alone → StandsAlone p middle t alone
-stands_on_top p c middle t top rest alone put there tells = λ s at.
+pub stands_on_top : (p : Program) (c middle : Config) (t : ℕ) (top : Thread) (rest : List Frame) (k : Counted) → middle ≡ with_thread c t top → thread_at middle t ≡ Some top
+    → TellsAlone p (with_thread c t (over top rest)) t (over top rest) (says_alone p k top) → StandsAlone p middle t k
+stands_on_top p c middle t top rest k put there tells = λ s at.
     let both : Some top ≡ Some s = sym there ∙ at in
     let same : top ≡ s = cc in
-    subst (λ x. TellsAlone p middle t x alone) same (subst (λ d. TellsAlone p d t top alone) (sym put) (tells_on_top p c t top rest alone tells))
+    subst (λ x. TellsAlone p middle t x (says_alone p k x)) same
+    (subst (λ d. TellsAlone p d t top (says_alone p k top)) (sym put) (tells_on_top p c t top rest (says_alone p k top) tells))

@@ -3,7 +3,9 @@ use Rattle.std.specs.Prelude.{◌≡◌, ℕ, Bool, true, false, Some}
 use Rattle.pat_model.specs.Programs.{Program, is_among}
 use Rattle.pat_model.specs.Configs.{Thread, Config, thread_at, has_pending, is_reached_by_none_but}
 use Rattle.pat_reduce_threads.specs.ThreadActs.{Guarding}
+use Rattle.pat_machine_names.specs.declared.freed.Counted.{Counted}
 use Rattle.pat_machine_names.specs.Counting.{TellsAlone}
+use Rattle.pat_machine_names.specs.Telling.{says_alone}
 
 -- the answer says whether nothing but thread t reaches the mailbox, where that is live and has no message
 abbrev pub IsReachedAlone : Config → (t a : ℕ) → Bool → Type 0
@@ -13,6 +15,6 @@ IsReachedAlone c t a alone = is_among a c.live ≡ true → has_pending a c.mess
 abbrev pub GuardsAlone : Config → (t : ℕ) → Guarding → Bool → Type 0
 GuardsAlone c t g alone = (n : ℕ) → g.free ≡ Some n → IsReachedAlone c t g.mailbox alone
 
--- and so it does of what the thread may free, if it is there
-abbrev pub StandsAlone : Program → Config → (t : ℕ) → Bool → Type 0
-StandsAlone p c t alone = (s : Thread) → thread_at c t ≡ Some s → TellsAlone p c t s alone
+-- and so the counts do of what the thread may free, if it is there
+abbrev pub StandsAlone : Program → Config → (t : ℕ) → Counted → Type 0
+StandsAlone p c t counted = (s : Thread) → thread_at c t ≡ Some s → TellsAlone p c t s (says_alone p counted s)

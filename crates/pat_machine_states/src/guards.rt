@@ -10,41 +10,58 @@ ghost use Rattle.pat_reduce_threads.specs.ThreadActs.{guard_at};
 ghost use Rattle.pat_reduce.specs.Acts.{act_at, free_act, guard_act, may_free, plain_act};
 ghost use Rattle.pat_reduce.specs.Views.{act_view};
 ghost use Rattle.pat_machine_names.specs.Counting.{TellsAlone};
+ghost use Rattle.pat_machine_names.specs.Telling.{names_alone, says_alone};
 ghost use Rattle.pat_machine_states.specs.Alone.{GuardsAlone, IsReachedAlone};
 
 use crate::State;
 use pat_executable::Executable;
+use pat_machine_names::Counted;
 use pat_machine_pending::first_message;
-use pat_reduce::{Act, ThreadState, plain_act};
+use pat_reduce::{Act, Control, ThreadState, plain_act};
 use pat_reduce_threads::{GuardRef, guard_of};
 
 impl State {
-    // The act of a thread with this state, where it is known whether nothing else reaches the mailbox that it may free.
-    pub(crate) fn act_of(&self, code: &Executable, state: &ThreadState, alone: bool) -> Option<Act>
-        ensures { (t : ℕ) → TellsAlone (program_view code.now.program) self.now t (thread_view state.now) alone → option_map act_view result ≡ act_at self.now t (guard_at (redex (program_view code.now.program) (control_view state.now.control))) (plain_act (program_view code.now.program) (redex (program_view code.now.program) (control_view state.now.control)) (map frame_view state.now.frames)) }
+    // The act of a thread with this state, where the counts tell whether nothing else reaches the mailbox that it may free.
+    pub(crate) fn act_of(
+        &self,
+        code: &Executable,
+        state: &ThreadState,
+        counted: Counted<'_>,
+    ) -> Option<Act>
+        ensures { (t : ℕ) → TellsAlone (program_view code.now.program) self.now t (thread_view state.now) (says_alone (program_view code.now.program) counted.entry (thread_view state.now)) → option_map act_view result ≡ act_at self.now t (guard_at (redex (program_view code.now.program) (control_view state.now.control))) (plain_act (program_view code.now.program) (redex (program_view code.now.program) (control_view state.now.control)) (map frame_view state.now.frames)) }
     {
         match guard_of(code, &state.control) {
-            Some(guard) => self.guard_act(&guard, alone),
+            Some(guard) => self.guard_act(&guard, &state.control, counted),
             None => plain_act(code, state),
         }
     }
 
-    fn guard_act(&self, guard: &GuardRef<'_>, alone: bool) -> Option<Act>
-        ensures { (t : ℕ) → GuardsAlone self.now t (guard_view guard.now) alone → option_map act_view result ≡ guard_act self.now t (guard_view guard.now) }
+    pub(crate) fn guard_act(
+        &self,
+        guard: &GuardRef<'_>,
+        control: &Control,
+        counted: Counted<'_>,
+    ) -> Option<Act>
+        ensures { (t : ℕ) → GuardsAlone self.now t (guard_view guard.now) (names_alone counted.entry (control_view control.now) guard.now.mailbox) → option_map act_view result ≡ guard_act self.now t (guard_view guard.now) }
     {
         match first_message(&self.mailboxes, guard) {
             Some(number) => Some(Act::Receive(number)),
-            None => self.free_act(guard, alone),
+            None => self.free_act(guard, control, counted),
         }
     }
 
-    // The free of the mailbox that is guarded, where it may be freed.
-    pub(crate) fn free_act(&self, guard: &GuardRef<'_>, alone: bool) -> Option<Act>
-        ensures { (t : ℕ) → GuardsAlone self.now t (guard_view guard.now) alone → option_map act_view result ≡ free_act self.now t (guard_view guard.now) guard.now.free }
+    // The free of the mailbox that is guarded, where it may be freed. Counts are asked only where it is live and has no message.
+    pub(crate) fn free_act(
+        &self,
+        guard: &GuardRef<'_>,
+        control: &Control,
+        counted: Counted<'_>,
+    ) -> Option<Act>
+        ensures { (t : ℕ) → GuardsAlone self.now t (guard_view guard.now) (names_alone counted.entry (control_view control.now) guard.now.mailbox) → option_map act_view result ≡ free_act self.now t (guard_view guard.now) guard.now.free }
     {
         match guard.free {
             Some(_) => {
-                if self.may_free(guard.mailbox, alone) {
+                if self.may_free(guard.mailbox, control, counted) {
                     Some(Act::Free)
                 } else {
                     None
@@ -54,11 +71,11 @@ impl State {
         }
     }
 
-    // Whether the mailbox may be freed by a thread, where it is known whether nothing else reaches it.
-    fn may_free(&self, mailbox: u32, alone: bool) -> bool
-        ensures { (t : ℕ) → IsReachedAlone self.now t mailbox alone → result ≡ may_free self.now t mailbox }
+    // Whether the mailbox may be freed by a thread with this control.
+    fn may_free(&self, mailbox: u32, control: &Control, counted: Counted<'_>) -> bool
+        ensures { (t : ℕ) → IsReachedAlone self.now t mailbox (names_alone counted.entry (control_view control.now) mailbox) → result ≡ may_free self.now t mailbox }
     {
-        self.is_live(mailbox) && !self.has_pending(mailbox) && alone
+        self.is_live(mailbox) && !self.has_pending(mailbox) && counted.names_alone(control, mailbox)
     }
 
     fn is_live(&self, mailbox: u32) -> bool
@@ -70,10 +87,6 @@ impl State {
     fn has_pending(&self, mailbox: u32) -> bool
         ensures { result ≡ has_pending mailbox self.now.messages }
     {
-        if self.mailboxes.is_live(mailbox) {
-            self.mailboxes.len(mailbox) > 0
-        } else {
-            false
-        }
+        self.mailboxes.is_live(mailbox) && self.mailboxes.len(mailbox) > 0
     }
 }

@@ -10,22 +10,23 @@ ghost use Rattle.pat_machine_states.specs.Alone.{StandsAlone};
 
 use crate::State;
 use pat_executable::Executable;
+use pat_machine_names::Counted;
 use pat_reduce::Act;
 
 impl State {
-    // The act of the thread that is open, if one is, where it is known whether nothing else reaches the mailbox that it may free.
+    // The act of the thread that is open, if one is, where the counts tell whether nothing else reaches the mailbox that it may free.
     // A guard receives the first message that it takes.
     pub(crate) fn open_act(
         &self,
         code: &Executable,
         limit: u32,
         thread: u32,
-        alone: bool,
+        counted: Counted<'_>,
     ) -> Option<Act>
-        requires { StandsAlone (program_view code.now.program) self.now thread alone }
+        requires { StandsAlone (program_view code.now.program) self.now thread counted }
         ensures { OpenAct (program_view code.now.program) self.now limit thread (option_map act_view result) }
     {
-        let act = self.enabled_act(code, thread, alone);
+        let act = self.enabled_act(code, thread, counted);
         if self.is_held_back(limit, act) {
             None
         } else {
@@ -34,13 +35,18 @@ impl State {
     }
 
     // The act of the thread that is enabled, if one is.
-    pub(crate) fn enabled_act(&self, code: &Executable, thread: u32, alone: bool) -> Option<Act>
-        requires { StandsAlone (program_view code.now.program) self.now thread alone }
+    pub(crate) fn enabled_act(
+        &self,
+        code: &Executable,
+        thread: u32,
+        counted: Counted<'_>,
+    ) -> Option<Act>
+        requires { StandsAlone (program_view code.now.program) self.now thread counted }
         ensures enabled { EnabledAct (program_view code.now.program) self.now thread (option_map act_view result) }
         ensures least { IsOrdered self.now → IsLeast (program_view code.now.program) self.now thread (option_map act_view result) }
     {
         match self.thread(thread) {
-            Some(state) => self.act_of(code, state, alone),
+            Some(state) => self.act_of(code, state, counted),
             None => None,
         }
     }

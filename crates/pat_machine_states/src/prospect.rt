@@ -10,7 +10,7 @@ ghost use Rattle.pat_machine_states.specs.Prospects.{HasProspect};
 
 use crate::State;
 use pat_executable::Executable;
-use pat_machine_names::Names;
+use pat_machine_names::{Counted, Names};
 
 /// How the threads stand.
 #[derive(Clone, Copy, Debug, PartialEq, Eq)]
@@ -81,15 +81,12 @@ impl State {
     }
 
     // Whether a step of the thread is enabled.
-    pub(crate) fn is_enabled(&self, code: &Executable, names: &Names, thread: u32) -> bool
+    fn is_enabled(&self, code: &Executable, names: &Names, thread: u32) -> bool
         requires told { TellOfEach (program_view code.now.program) self.now names.now.times.items }
         ensures { result ≡ can_step_thread (program_view code.now.program) self.now thread }
     {
-        let alone = self.stands_alone(code, names, thread);
-        match self.enabled_act(code, thread, alone) {
-            Some(_) => true,
-            None => false,
-        }
+        self.enabled_act(code, thread, Counted::All(names))
+            .is_some()
     }
 
     // Whether one of these threads has an open step.

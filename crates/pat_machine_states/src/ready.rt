@@ -5,11 +5,10 @@ ghost use Rattle.pat_commits.specs.Opens.{can_go_on};
 ghost use Rattle.pat_commits.specs.Lendings.{is_out};
 ghost use Rattle.pat_commits.specs.Turns.{is_ready};
 ghost use Rattle.pat_machine_names.specs.Counting.{TellOfEach};
-ghost use Rattle.pat_machine_states.specs.Alone.{StandsAlone};
 
 use crate::State;
 use pat_executable::Executable;
-use pat_machine_names::Names;
+use pat_machine_names::{Counted, Names};
 
 impl State {
     /// The first of these threads that is ready. It takes no memory.
@@ -52,22 +51,8 @@ impl State {
         requires told { TellOfEach (program_view code.now.program) self.now names.now.times.items }
         ensures { result ≡ can_go_on (program_view code.now.program) self.now limit thread }
     {
-        let alone = self.stands_alone(code, names, thread);
-        match self.open_act(code, limit, thread, alone) {
-            Some(_) => true,
-            None => false,
-        }
-    }
-
-    // Whether the counts say that nothing but the thread reaches the mailbox that it may free.
-    pub(crate) fn stands_alone(&self, code: &Executable, names: &Names, thread: u32) -> bool
-        requires told { TellOfEach (program_view code.now.program) self.now names.now.times.items }
-        ensures { StandsAlone (program_view code.now.program) self.now thread result }
-    {
-        match self.thread(thread) {
-            Some(state) => names.is_named_by_control(code, state),
-            None => false,
-        }
+        self.open_act(code, limit, thread, Counted::All(names))
+            .is_some()
     }
 }
 

@@ -9,12 +9,14 @@ ghost use Rattle.pat_commits.specs.Commits.{Shares};
 ghost use Rattle.pat_commits.specs.Tops.{below, over};
 ghost use Rattle.pat_commits.specs.Machines.{HasRoom, IsTypedBySome};
 ghost use Rattle.pat_machine_names.specs.Counting.{TellsAlone};
+ghost use Rattle.pat_machine_names.specs.Telling.{says_alone};
 ghost use Rattle.pat_machine_states.specs.Alone.{StandsAlone};
 ghost use Rattle.pat_machine_states.specs.Stepping.{ReferToLive};
 ghost use Rattle.pat_machine_states.specs.Taking.{taken_act, taken_message};
 
 use crate::State;
 use pat_executable::Executable;
+use pat_machine_names::Counted;
 use pat_reduce::{Act, Message, Step, StepError, ThreadState};
 use std::alloc::{AllocError, Global};
 
@@ -27,8 +29,7 @@ pub struct Taken {
 
 impl State {
     /// Puts a state in the place of a thread's control and so many of its frames, those on top, and takes the shared step
-    /// that is open then, if one is. `alone` says whether nothing else reaches the mailbox that the thread may free then.
-    /// An error changes nothing.
+    /// that is open then, if one is. Counts tell whether the thread may free a mailbox then. An error changes nothing.
     pub fn share(
         &mut self,
         alloc: Global,
@@ -37,19 +38,19 @@ impl State {
         thread: u32,
         gone: u32,
         top: ThreadState,
-        alone: bool,
+        counted: Counted<'_>,
     ) -> Result<Option<Taken>, AllocError>
         requires there { (s : ThreadOf) × (thread_at self.old thread ≡ Some s) }
         requires room { HasRoom self.old }
         requires typed { (s : ThreadOf) → thread_at self.old thread ≡ Some s → IsTypedBySome (program_view code.now.program) (with_thread self.old thread (over (thread_view top) (below gone s))) }
         requires frame { (s : ThreadOf) → thread_at self.old thread ≡ Some s → (0 < length (thread_view top).frames) ⊎ (below gone s ≡ []) }
-        requires alone { (s : ThreadOf) → thread_at self.old thread ≡ Some s → TellsAlone (program_view code.now.program) (with_thread self.old thread (over (thread_view top) (below gone s))) thread (over (thread_view top) (below gone s)) alone }
+        requires alone { (s : ThreadOf) → thread_at self.old thread ≡ Some s → TellsAlone (program_view code.now.program) (with_thread self.old thread (over (thread_view top) (below gone s))) thread (over (thread_view top) (below gone s)) (says_alone (program_view code.now.program) counted (thread_view top)) }
         ensures ok { IfOk result (λ a. (s : ThreadOf) → thread_at self.old thread ≡ Some s → Shares (program_view code.now.program) limit (with_thread self.old thread (over (thread_view top) (below gone s))) thread (taken_act a) self.new) }
         ensures message { IfOk result (λ a. (k : ℕ) → taken_act a ≡ Some (ActReceive k) → taken_message a ≡ message_at self.old k) }
         ensures err { OnErr result (self.new ≡ self.old) }
     {
         let kept = self.set_aside(alloc, thread, top)?;
-        match self.take_open(alloc, code, limit, thread, alone) {
+        match self.take_open(alloc, code, limit, thread, counted) {
             Ok(taken) => {
                 self.cover(alloc, thread, gone, kept);
                 Ok(taken)
@@ -61,24 +62,24 @@ impl State {
         }
     }
 
-    // Takes the step of the thread that is open, if one is. An error changes nothing.
-    fn take_open(
+    /// Takes the step of the thread that is open, if one is. Counts tell whether it may free a mailbox. An error changes nothing.
+    pub fn take_open(
         &mut self,
         alloc: Global,
         code: &Executable,
         limit: u32,
         thread: u32,
-        alone: bool,
+        counted: Counted<'_>,
     ) -> Result<Option<Taken>, AllocError>
         requires room { HasRoom self.old }
         requires ordered { IsOrdered self.old }
         requires live { ReferToLive self.old }
-        requires alone { StandsAlone (program_view code.now.program) self.old thread alone }
+        requires alone { StandsAlone (program_view code.now.program) self.old thread counted }
         ensures ok { IfOk result (λ a. Shares (program_view code.now.program) limit self.old thread (taken_act a) self.new) }
         ensures message { IfOk result (λ a. (k : ℕ) → taken_act a ≡ Some (ActReceive k) → taken_message a ≡ message_at self.old k) }
         ensures err { OnErr result (self.new ≡ self.old) }
     {
-        let Some(act) = self.open_act(code, limit, thread, alone) else {
+        let Some(act) = self.open_act(code, limit, thread, counted) else {
             return Ok(None);
         };
         match self.step(alloc, code, &Step { thread, act }) {

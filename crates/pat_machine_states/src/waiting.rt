@@ -10,7 +10,7 @@ ghost use Rattle.pat_machine_names.specs.Counting.{TellOfEach};
 
 use crate::State;
 use pat_executable::Executable;
-use pat_machine_names::Names;
+use pat_machine_names::{Counted, Names};
 use pat_reduce::Message;
 use pat_reduce_threads::{guard_of, takes};
 
@@ -20,11 +20,12 @@ impl State {
         requires told { TellOfEach (program_view code.now.program) self.now names.now.times.items }
         ensures { IfSome result (IsWaiting (program_view code.now.program) self.now thread) }
     {
-        let mailbox = self.guarded(code, thread)?;
-        if self.is_enabled(code, names, thread) {
-            return None;
+        let state = self.thread(thread)?;
+        let guard = guard_of(code, &state.control)?;
+        match self.guard_act(&guard, &state.control, Counted::All(names)) {
+            Some(_) => None,
+            None => Some(guard.mailbox),
         }
-        Some(mailbox)
     }
 
     /// Whether the thread may free the mailbox that it stands at a guard on. Only that is looked at. It takes no memory.
@@ -35,9 +36,9 @@ impl State {
         let Some(state) = self.thread(thread) else {
             return false;
         };
-        let alone = names.is_named_by_control(code, state);
+        let all = Counted::All(names);
         match guard_of(code, &state.control) {
-            Some(guard) => self.free_act(&guard, alone).is_some(),
+            Some(guard) => self.free_act(&guard, &state.control, all).is_some(),
             None => false,
         }
     }

@@ -28,7 +28,7 @@ pub fn run(
     ensures { IfOk result (RunGives accepted steps messages) }
 {
     let mut machine = Machine::new(alloc, accepted, steps, messages)?;
-    let receipts = machine.drive(0)?;
+    machine.run(0)?;
     let outcome = outcome_of(&machine);
     Ok(Finished { machine, outcome })
 }

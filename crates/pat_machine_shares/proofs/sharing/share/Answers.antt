@@ -2,9 +2,7 @@ use Rattle.std.proofs.Common.{sym, ◌∙◌, subst}
 use Rattle.pat_core.specs.Views.{program_view}
 use Rattle.std.proofs.lemmas.List.{length-map}
 use Rattle.pat_reduce_threads.specs.ThreadViews.{frame_view, thread_view}
-use Rattle.pat_naming_laws.specs.Counting.{TellsAlone}
 use Rattle.pat_naming_laws.proofs.Freed.{counts_tell_without_top}
-use Rattle.pat_machine_threads.specs.Settling.{settled_thread}
 use Rattle.pat_machine_shares.specs.Settling.{half_way}
 use Rattle.pat_machine_shares.specs.Leaving.{IsLeft}
 use Rattle.pat_machine_states.specs.Taking.{taken_act, taken_message}
@@ -16,8 +14,7 @@ pub finish-requires-clause-alone : goal.finish-requires-clause-alone
 finish-requires-clause-alone c = λ s at.
     let p = program_view c.args.code.now.program in
     let settled = c.args.settled in
-    subst (TellsAlone p (half_way c.args.state.now c.args.thread s settled) c.args.thread (settled_thread s settled)) (sym c.leave_out-alone.ensures.alone)
-    (counts_tell_without_top p c.args.state.now c.leave_out-alone.new.names.times.items c.args.thread settled.gone s (thread_view settled.end) c.requires.well c.requires.ordered at (c.requires.typed s at) (c.leave_out-alone.ensures.counted s at))
+    counts_tell_without_top p c.args.state.now c.leave_thread.new.names.times.items c.args.thread settled.gone s (thread_view settled.end) c.requires.well c.requires.ordered at (c.requires.typed s at) (c.leave_thread.ensures.counted s at)
 
 pub count_end-requires-clause-left : goal.count_end-requires-clause-left
 count_end-requires-clause-left c =
@@ -26,7 +23,7 @@ count_end-requires-clause-left c =
     let d = c.finish.new.state in
     let settled = c.args.settled in
     let q = c.requires.settled in
-    let ns = c.leave_out-alone.new.names.times.items in
+    let ns = c.leave_thread.new.names.times.items in
     let act = taken_act c.in-Ok.taken in
     let message = taken_message c.in-Ok.taken in
     let f = c.in-Ok.ensures.ok q.kept q.there in
@@ -35,4 +32,4 @@ count_end-requires-clause-left c =
     let frames = length-map settled.end.frames frame_view ∙ sym c.len-frames.ensures in
     subst (λ k. IsLeft c.args.thread c.len-frames.result k act message ns d) (sym c.threads_made-newcomer.ensures)
     (subst (λ k. IsLeft c.args.thread k m.next_thread act message ns d) frames
-    (left_of p m d ns c.args.thread settled.gone q.kept (thread_view settled.end) act message c.requires.ordered q.there shared (c.leave_out-alone.ensures.counted q.kept q.there) run c.in-Ok.ensures.message))
+    (left_of p m d ns c.args.thread settled.gone q.kept (thread_view settled.end) act message c.requires.ordered q.there shared (c.leave_thread.ensures.counted q.kept q.there) run c.in-Ok.ensures.message))

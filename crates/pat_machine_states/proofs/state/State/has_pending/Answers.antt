@@ -11,4 +11,6 @@ returns-then-is_live c =
 pub returns-else-is_live : goal.returns-else-is_live
 returns-else-is_live c =
     let i = c.self.inside in
-    none_test i.placed i.latest i.mailboxes.mailboxes c.self.invariant c.args.mailbox (sym c.is_live.ensures ∙ c.if-is_live.false) ∙ ap (λ (d : Config). has_pending c.args.mailbox d.messages) c.self.view_is
+    c.if-is_live.false
+    ∙ none_test i.placed i.latest i.mailboxes.mailboxes c.self.invariant c.args.mailbox (sym c.is_live.ensures ∙ c.if-is_live.false)
+    ∙ ap (λ (d : Config). has_pending c.args.mailbox d.messages) c.self.view_is

@@ -8,7 +8,7 @@ use Rattle.pat_reduce_threads.specs.ThreadViews.{thread_view}
 use Rattle.pat_reduce_threads.specs.GuardViews.{guard_view}
 use Rattle.pat_reduce_threads.specs.ThreadActs.{guard_at}
 use Rattle.pat_reduce.specs.Views.{act_view}
-use Rattle.pat_machine_names.specs.Counting.{TellsAlone}
+use Rattle.pat_machine_names.specs.declared.freed.Counted.TheVariants.{All}
 use Rattle.pat_machine_states.proofs.Reaching.{tells_guard, frees_exactly}
 use Rattle.pat_machine_states.proofs.state.State.may_free_now.Goals as goal
 
@@ -21,7 +21,5 @@ returns-in-Some-guard_of c =
     let g = guard_view c.in-Some-guard_of.guard in
     let there : thread_at d t ≡ Some s = sym c.in-Some.ensures in
     let at : guard_at (redex p s.control) ≡ Some g = sym c.guard_of.ensures ∙ ap (option_map guard_view) c.in-Some-guard_of.is in
-    let alone = c.is_named_by_control-alone in
-    let told = subst (TellsAlone p d t s) (sym alone.ensures) (c.requires.told t s there) in
-    let act = c.free_act.ensures t (tells_guard p d t s alone.result g at told) in
+    let act = c.free_act.ensures t (tells_guard p d t s (All c.args.names) g at (c.requires.told t s there)) in
     subst (λ b. IsTrue b ↔ IsEnabled p d (record { thread = t; act = ActFree })) (sym c.is_some.ensures) (frees_exactly act_view p d t s g c.free_act.result there at act)

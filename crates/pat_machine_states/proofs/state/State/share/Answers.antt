@@ -32,7 +32,7 @@ take_open-requires-clause-alone c =
     let s = c.requires.there in
     let a = c.in_ok-kept.ensures.ok in
     let there = top_there c.args.self.now c.set_aside.new.self c.args.thread c.args.top c.in_ok-kept.kept a in
-    stands_on_top (program_view c.args.code.now.program) c.args.self.now c.set_aside.new.self c.args.thread (thread_view c.args.top) (below c.args.gone s.0) c.args.alone a.put there (c.requires.alone s.0 s.1)
+    stands_on_top (program_view c.args.code.now.program) c.args.self.now c.set_aside.new.self c.args.thread (thread_view c.args.top) (below c.args.gone s.0) c.args.counted a.put there (c.requires.alone s.0 s.1)
 
 pub cover-requires : goal.cover-requires
 cover-requires c = λ r at.

@@ -3,8 +3,8 @@ use Rattle.std.specs.Prelude.{option_copied, option_map}
 use Rattle.pat_core.specs.Views.{program_view}
 use Rattle.pat_reduce_threads.specs.ThreadViews.{message_view}
 use Rattle.pat_machine_waits.specs.Noted.{WereNoted}
-use Rattle.pat_machine_following.specs.Taking.{taken_act}
-use Rattle.pat_machine.proofs.noting.note_threads.Goals as goal
+use Rattle.pat_machine_shares.specs.Taking.{taken_act}
+use Rattle.pat_machine_following.proofs.noting.note_threads.Goals as goal
 
 pub follow-requires-clause-were : goal.follow-requires-clause-were
 follow-requires-clause-were c =

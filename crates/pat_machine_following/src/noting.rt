@@ -3,15 +3,17 @@ ghost use Rattle.std.specs.Prelude.{◌≡◌, option_copied, option_map};
 ghost use Rattle.pat_core.specs.Views.{program_view};
 ghost use Rattle.pat_reduce_threads.specs.ThreadViews.{message_view};
 ghost use Rattle.pat_reduce.specs.Views.{act_view};
-ghost use Rattle.pat_machine_following.specs.Counting.{TellOfEach};
+ghost use Rattle.pat_naming_laws.specs.Counting.{TellOfEach};
 ghost use Rattle.pat_machine_waits.specs.Waits.{HasSpace, CanHold, HasRoom};
 ghost use Rattle.pat_machine_waits.specs.Noted.{AreNoted, WereNoted};
-ghost use Rattle.pat_machine_following.specs.Taking.{taken_act, taken_message};
+ghost use Rattle.pat_machine_shares.specs.Taking.{taken_act, taken_message};
 
+use crate::following::{Stepped, follow};
 use pat_executable::Executable;
-use pat_machine_following::{Names, State, Stepped, Taken, follow};
+use pat_machine_shares::{Names, State, Taken};
 use pat_machine_waits::Waits;
-use pat_reduce::{Act, Message};
+use pat_reduce::Act;
+use pat_reduce_threads::Message;
 
 /// Notes who may go on after a thread's steps, who is about to send, and who sleeps. It takes no memory.
 pub fn note_threads<'a>(
