@@ -4,13 +4,13 @@ ghost use Rattle.pat_model.specs.Configs.{Thread as ThreadOf, thread_at};
 ghost use Rattle.pat_commits.specs.Lendings.{all_in, allowance_of};
 ghost use Rattle.pat_core.specs.Views.{program_view};
 ghost use Rattle.pat_commits.specs.Turns.{is_ready, ready_above, turn};
-ghost use Rattle.pat_machine_waits.specs.Senders.{lesser};
 ghost use Rattle.pat_machine.specs.Parted.{shown, IsKept};
 ghost use Rattle.pat_machine.specs.Gives.{IsLent, MayTake, Lends, TakeGives, TakeThreadGives, StateGives, GivesBack, all_back};
 
 use crate::job::{Job, StateRefused, TakeRefused};
 use crate::parts::Parts;
 use pat_machine_threads::copy_top;
+use pat_machine_waits::lesser;
 use pat_reduce::ThreadState;
 
 // The most steps of a job.
@@ -172,19 +172,6 @@ impl Parts {
         clear(&mut self.out);
         self.left += self.lent;
         self.lent = 0;
-    }
-}
-
-// The lesser of two numbers, where both are there.
-fn lesser(first: Option<u32>, second: Option<u32>) -> Option<u32>
-    ensures { result ≡ lesser first second }
-{
-    match first {
-        Some(a) => match second {
-            Some(b) => Some(a.min(b)),
-            None => Some(a),
-        },
-        None => second,
     }
 }
 

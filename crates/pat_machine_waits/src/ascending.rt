@@ -2,6 +2,7 @@
 ghost use Rattle.std.specs.Prelude.{◌≡◌, ◌+◌, ◌<◌, ◌≤◌, length, insert, filter, IfOk, IfErr, OnOk, vec_len, vec_capacity};
 ghost use Rattle.pat_model.specs.Orders.{AscendsFrom};
 ghost use Rattle.pat_commits.specs.Turns.{is_above};
+ghost use Rattle.pat_locality_laws.specs.Senders.{lesser};
 ghost use Rattle.pat_machine_waits.specs.Ascending.{StandsAt, FitsAt, IsPlaceAbove, AddsNumber, RemovesNumber};
 
 use std::alloc::AllocError;
@@ -93,5 +94,18 @@ fn insert_at(numbers: &mut Vec<u32>, place: usize, number: u32)
         Ok(()) => {}
         // There is room.
         Err(_) => unreachable!(),
+    }
+}
+
+/// The lesser of two numbers, where both are there.
+pub fn lesser(first: Option<u32>, second: Option<u32>) -> Option<u32>
+    ensures { result ≡ lesser first second }
+{
+    match first {
+        Some(a) => match second {
+            Some(b) => Some(a.min(b)),
+            None => Some(a),
+        },
+        None => second,
     }
 }

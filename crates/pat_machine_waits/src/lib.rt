@@ -4,5 +4,5 @@
 mod ascending;
 mod waits;
 
-pub use ascending::Ascending;
+pub use ascending::{Ascending, lesser};
 pub use waits::Waits;
