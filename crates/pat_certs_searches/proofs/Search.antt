@@ -2,7 +2,7 @@
 use Rattle.std.proofs.Common.{◌≡◌, ℕ, ◌+◌, ◌<◌, ◌≤◌, ⊎_elim, List, [], true, sym, ap, ◌∙◌, subst, arith}
 use Rattle.std.specs.Prelude.{slice_get}
 use Rattle.std.specs.List.{AllByRecursion}
-use Rattle.std.proofs.lemmas.Bool.{cases_lt, cases_eq}
+use Rattle.std.proofs.lemmas.Bool.{cases_lt}
 use Rattle.pat_words.specs.Words.{Word, no_word, plus}
 use Rattle.pat_words_laws.proofs.WordLaws.{none_plus, count_eq}
 use Rattle.pat_words.specs.Patterns.{Pat}
@@ -140,18 +140,3 @@ search_right b system left right entries slice s r a law done fr dr symbols root
     subst (λ ys. Stands ys LowerSymbol right r) (sym symbols)
     (subst (Stands both LowerSymbol right) (sym is_r) (laid_stands LowerSymbol (with_left system left) right)) in
     read_right g entries lower left right s r law done flat sl sr fr dr a (subst (λ es. IsRead g es s r a) same reading.read)
-
--- ---- a walk along the points at which the left side has a tree
-
-pub missing_begun : (g : Setting) (entries : List ℕ) (s r most to : ℕ) → most ≤ g.limit + 1 → ((c : ℕ) → 0 ≤ c → c < to → IsKnown g.limit (entry_at g entries s c) → ⊥) → (c : ℕ) → c < to → IsMissing g entries s r most c → ⊥
-missing_begun g entries s r most to small none c l missing = let e = missing.1 in none c (omega arith) l (omega arith)
-
-pub missing_walked : (g : Setting) (entries : List ℕ) (s r most m to : ℕ) → most ≤ g.limit + 1 → ((c : ℕ) → c < m → IsMissing g entries s r most c → ⊥) → (IsMissing g entries s r most m → ⊥) → ((c : ℕ) → m + 1 ≤ c → c < to → IsKnown g.limit (entry_at g entries s c) → ⊥) → (c : ℕ) → c < to → IsMissing g entries s r most c → ⊥
-missing_walked g entries s r most m to small before here none c l missing =
-    ⊎_elim
-    (λ same. here (subst (IsMissing g entries s r most) same missing))
-    (λ d. ⊎_elim
-    (λ below. before c below missing)
-    (λ above. let e = missing.1 in none c (omega arith) l (omega arith))
-    (cases_lt c m))
-    (cases_eq c m)

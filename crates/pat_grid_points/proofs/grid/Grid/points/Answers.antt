@@ -1,4 +1,4 @@
-use Rattle.std.proofs.Common.{◌≡◌, ◌<◌, ◌≤◌, ◌∙◌, ◌++◌, ap, sym, map, length, drop, arith}
+use Rattle.std.proofs.Common.{◌<◌, ◌≤◌, ◌∙◌, ◌++◌, ap, sym, map, length, drop, arith}
 use Rattle.pat_bags.specs.Views.{word_of}
 use Rattle.pat_grid_points.specs.Views.{held_from}
 use Rattle.pat_grid_points.proofs.Sets.{held_all, held_next, held_turn}

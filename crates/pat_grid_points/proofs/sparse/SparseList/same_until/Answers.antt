@@ -1,4 +1,4 @@
-use Rattle.std.proofs.Common.{◌≡◌, ◌+◌, ◌*◌, ◌/◌, ◌<◌, ◌≤◌, sym, ap, ◌∙◌, subst, length, get_or, arith, ℕ}
+use Rattle.std.proofs.Common.{◌*◌, ◌/◌, ◌<◌, sym, ap, ◌∙◌, subst, length, get_or, arith}
 use Rattle.pat_grid_points.proofs.Blocks.{list_count, list_block, list_same}
 use Rattle.pat_grid_points.proofs.sparse.SparseList.same_until.Goals as goal
 
