@@ -111,11 +111,13 @@ impl Lists {
         Ok(())
     }
 
-    /// The one list.
+    /// The one list, in no more memory than it needs: many are kept, and lists on the way may have been longer.
     pub fn into_sets(self) -> Sequence<LinearSet>
         requires { length self ≡ 1 }
         ensures { self ≡ result ∷ [] }
     {
-        self.sets
+        let mut sets = self.sets;
+        sets.items.shrink_to_fit();
+        sets
     }
 }

@@ -42,6 +42,9 @@ pub fn closed_form(alloc: Global, p: &Pattern) -> Result<Sequence<LinearSet>, Fo
     form_of(alloc, p)
 }
 
+// The sets for which there is room at first: most patterns need no more.
+const FEW: usize = 4;
+
 /// The closed form of a small pattern.
 fn form_of(alloc: Global, p: &Pattern) -> Result<Sequence<LinearSet>, FormError>
     requires small { IsTrue (is_small (pattern_view p.now)) }
@@ -49,7 +52,7 @@ fn form_of(alloc: Global, p: &Pattern) -> Result<Sequence<LinearSet>, FormError>
     ensures { GivesSets result (lists_are_short most_tags (pattern_view p.now)) (sets_of most_tags (pattern_view p.now)) }
 {
     let mut heads = postfix(alloc, p)?;
-    let mut done = Lists::with_room(alloc, heads.len() / 2 + 1)?;
+    let mut done = Lists::with_room(alloc, heads.len().min(FEW))?;
     while let Some(head) = heads.pop() {
         join(alloc, head, &mut done)?;
     }
