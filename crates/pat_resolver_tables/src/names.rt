@@ -1,7 +1,7 @@
 // Names in order, found by their bytes.
-ghost use Rattle.std.specs.Prelude.{◌≡◌, ◌∷◌, ◌++◌, ◌<◌, [], List, ℕ, length, map, option_map, OnOk, OnErr, IfSome};
+ghost use Rattle.std.specs.Prelude.{◌≡◌, ◌∷◌, ◌++◌, ◌<◌, [], List, ℕ, length, map, option_map, take, OnOk, OnErr, IfSome};
 ghost use Rattle.pat_names.specs.Scopes.{first_named, itself};
-ghost use Rattle.pat_resolver_tables.specs.Places.{place_of, known_place};
+ghost use Rattle.pat_resolver_tables.specs.Places.{place_of, IsFirst};
 
 use crate::known::set_known;
 use indexmap::IndexMap;
@@ -9,9 +9,14 @@ use pat_sequences::{Sequence, Text};
 use std::alloc::{AllocError, Global};
 use std::marker::Model;
 
-/// Names in order. A name that stands more than once is found at its first place. A look-up is one of a hash table, which copies no name.
+// So many names are looked through sooner than they are hashed.
+const FEW: usize = 16;
+
+/// Names in order. A name that stands more than once is found at its first place. A look-up is a look at a few names, and where there
+/// are more, one look-up in a hash table. No name is copied.
 pub struct NameTable<'a> {
     names: Sequence<&'a Text>,
+    /// Of those behind the few.
     places: IndexMap<&'a [u8], usize>,
 }
 
@@ -29,7 +34,7 @@ impl<'a> Model for NameTable<'a> {
 
     ghost view = { λ t. map (λ n. n.now) t.names };
 
-    ghost invariant = { λ t. (x : List ℕ) → known_place x t.places.entries ≡ place_of x (map (λ n. n.now) t.names) };
+    ghost invariant = { λ t. ((x : List ℕ) → IsFirst x (map (λ n. n.now) (take 16 t.names)) t.places.entries (map (λ n. n.now) t.names)) × (length t.names < 16 → t.places.entries ≡ []) };
 }
 
 impl<'a> NameTable<'a> {
@@ -57,6 +62,9 @@ impl<'a> NameTable<'a> {
     {
         let place = self.names.len();
         self.names.push(name)?;
+        if place < FEW {
+            return Ok(());
+        }
         match self.places.insert(name.as_bytes(), place) {
             Ok(None) => Ok(()),
             // A name that stood there before keeps its first place.
@@ -76,6 +84,29 @@ impl<'a> NameTable<'a> {
         ensures below { IfSome result (λ i. i < length self.now) }
         ensures place { result ≡ option_map (λ f. f.0) (first_named itself name.now self.now) }
     {
-        self.places.get(name.as_bytes()).copied()
+        match place_among(name, self.few()) {
+            Some(place) => Some(place),
+            None => self.places.get(name.as_bytes()).copied(),
+        }
     }
+
+    // The names that are looked through.
+    fn few(&self) -> &[&'a Text]
+        ensures { map (λ n. n.now) result.now ≡ take 16 self.now }
+    {
+        let names = self.names.as_slice();
+        &names[..FEW.min(names.len())]
+    }
+}
+
+// The first place of the name among these.
+fn place_among(name: &Text, names: &[&Text]) -> Option<usize>
+    ensures { result ≡ place_of name.now (map (λ n. n.now) names.now) }
+{
+    for (place, other) in names.iter().enumerate() {
+        if other.as_bytes() == name.as_bytes() {
+            return Some(place);
+        }
+    }
+    None
 }
