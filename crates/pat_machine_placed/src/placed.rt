@@ -1,11 +1,12 @@
 // A configuration, its threads by number.
-ghost use Rattle.std.specs.Prelude.{◌≡◌, ◌==◌, ◌≤◌, drop, length, map, option_copied, option_map, IfOk};
+ghost use Rattle.std.specs.Prelude.{◌≡◌, ◌==◌, ◌≤◌, Some, drop, length, map, option_copied, option_map, IfOk};
 ghost use Rattle.pat_model.specs.Configs.{Thread as ThreadOf, start, thread_at, with_thread};
 ghost use Rattle.pat_core.specs.Views.{program_view};
 ghost use Rattle.pat_reduce_threads.specs.ThreadViews.{control_view, frame_view, thread_view};
-ghost use Rattle.pat_commits.specs.Tops.{over};
+ghost use Rattle.pat_commits.specs.Tops.{below, over};
 
 use pat_machine_table::Table;
+use pat_machine_threads::has_at_most;
 use pat_reduce::{Config, Control, Frame, ThreadState};
 use pat_reduce_values::Executable;
 use pat_sequences::{Base, Text, let_go};
@@ -61,6 +62,16 @@ impl Placed {
         ensures { option_map thread_view (option_copied result) ≡ thread_at self.now thread }
     {
         self.table.get(thread)
+    }
+
+    /// Whether a thread, if it is there, has no frame below so many.
+    pub fn has_at_most(&self, thread: u32, frames: u32) -> bool
+        ensures { (s : ThreadOf) → thread_at self.now thread ≡ Some s → result ≡ (length (below frames s) == 0) }
+    {
+        match self.thread(thread) {
+            Some(state) => has_at_most(state, frames),
+            None => true,
+        }
     }
 
     /// Puts a state in the place of a thread's, which it gives back. It takes no memory.

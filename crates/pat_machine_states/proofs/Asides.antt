@@ -1,7 +1,10 @@
 -- A thread's state that is set aside, and what stands in its place.
-use Rattle.std.proofs.Common.{◌≡◌, ℕ, suc, ◌≤◌, length, Some, sym, ap, ◌∙◌, subst, arith}
-use Rattle.std.proofs.lemmas.List.{length-map}
-use Rattle.pat_model.specs.Configs.{Thread, Config, thread_at, with_thread}
+use Rattle.std.proofs.Common.{◌≡◌, ℕ, suc, ◌≤◌, Bool, true, List, [], ◌∷◌, length, Some, refl, sym, ap, ◌∙◌, subst, arith}
+use Rattle.std.specs.Prelude.{◌==◌}
+use Rattle.std.proofs.lemmas.Bool.{eqb-true}
+use Rattle.std.proofs.lemmas.List.{length-map, append-nil}
+use Rattle.pat_model.specs.Configs.{Frame, Thread, Config, thread_at, with_thread}
+use Rattle.pat_commits.specs.Tops.{below, over}
 use Rattle.pat_reduce_threads.specs.declared.state.ThreadState.{ThreadState}
 use Rattle.pat_reduce_threads.specs.ThreadViews.{frame_view, thread_view}
 use Rattle.pat_locality_laws.proofs.Locals.{there_after, with_twice, with_same}
@@ -34,3 +37,16 @@ module _ (old new : Config) (t : ℕ) (top : ThreadState) (kept : Aside) (a : Is
       ap (λ (d : Config). with_thread d t (aside_view kept)) a.put
       ∙ with_twice old t (thread_view top) (aside_view kept)
       ∙ with_same old t (aside_view kept) a.there
+
+none_if_no_length : (fs : List Frame) → (length fs == 0) ≡ true → fs ≡ []
+none_if_no_length [] none = refl
+none_if_no_length (f ∷ fs) none = let some = eqb-true (length (f ∷ fs)) 0 none in absurd (omega arith)
+
+over_none : (x : Thread) (fs : List Frame) → (length fs == 0) ≡ true → over x fs ≡ x
+over_none x fs none =
+    ap (over x) (none_if_no_length fs none) ∙ ap (λ own. record { control = x.control; frames = own }) (append-nil x.frames)
+
+-- a top over none of the thread's frames is the whole thread
+pub over_whole : (d c : Config) (t gone : ℕ) (x s : Thread) (b : Bool) → d ≡ c → ((s : Thread) → thread_at d t ≡ Some s → b ≡ (length (below gone s) == 0)) → b ≡ true → thread_at c t ≡ Some s → over x (below gone s) ≡ x
+over_whole d c t gone x s b same says holds at =
+    over_none x (below gone s) (sym (says s (subst (λ (e : Config). thread_at e t ≡ Some s) (sym same) at)) ∙ holds)

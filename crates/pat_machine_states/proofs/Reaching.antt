@@ -103,10 +103,15 @@ tells_on_top p c t top rest alone tells = λ a frees live empty.
     ap (λ b. not b && not (list_any (message_refers a) c.messages)) (others_same a t c.threads top (over top rest))
     ∙ tells a frees live empty
 
-pub stands_on_top : (p : Program) (c middle : Config) (t : ℕ) (top : Thread) (rest : List Frame) (k : Counted) → middle ≡ with_thread c t top → thread_at middle t ≡ Some top
-    → TellsAlone p (with_thread c t (over top rest)) t (over top rest) (says_alone p k top) → StandsAlone p middle t k
-stands_on_top p c middle t top rest k put there tells = λ s at.
+pub stands_there : (p : Program) (c middle : Config) (t : ℕ) (top : Thread) (k : Counted) → middle ≡ with_thread c t top → thread_at middle t ≡ Some top
+    → TellsAlone p (with_thread c t top) t top (says_alone p k top) → StandsAlone p middle t k
+stands_there p c middle t top k put there tells = λ s at.
     let both : Some top ≡ Some s = sym there ∙ at in
     let same : top ≡ s = cc in
     subst (λ x. TellsAlone p middle t x (says_alone p k x)) same
-    (subst (λ d. TellsAlone p d t top (says_alone p k top)) (sym put) (tells_on_top p c t top rest (says_alone p k top) tells))
+    (subst (λ d. TellsAlone p d t top (says_alone p k top)) (sym put) tells)
+
+pub stands_on_top : (p : Program) (c middle : Config) (t : ℕ) (top : Thread) (rest : List Frame) (k : Counted) → middle ≡ with_thread c t top → thread_at middle t ≡ Some top
+    → TellsAlone p (with_thread c t (over top rest)) t (over top rest) (says_alone p k top) → StandsAlone p middle t k
+stands_on_top p c middle t top rest k put there tells =
+    stands_there p c middle t top k put there (tells_on_top p c t top rest (says_alone p k top) tells)

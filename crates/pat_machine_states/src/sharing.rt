@@ -17,7 +17,9 @@ ghost use Rattle.pat_machine_states.specs.Taking.{taken_act, taken_message};
 use crate::State;
 use pat_executable::Executable;
 use pat_machine_names::Counted;
+use pat_machine_threads::taken_up;
 use pat_reduce::{Act, Message, Step, StepError, ThreadState};
+use pat_sequences::let_go;
 use std::alloc::{AllocError, Global};
 
 /// What a shared step took: its act, and the message that it received, if it did.
@@ -49,6 +51,9 @@ impl State {
         ensures message { IfOk result (λ a. (k : ℕ) → taken_act a ≡ Some (ActReceive k) → taken_message a ≡ message_at self.old k) }
         ensures err { OnErr result (self.new ≡ self.old) }
     {
+        if self.placed.has_at_most(thread, gone) {
+            return self.share_whole(alloc, code, limit, thread, top, counted);
+        }
         let kept = self.set_aside(alloc, thread, top)?;
         match self.take_open(alloc, code, limit, thread, counted) {
             Ok(taken) => {
@@ -56,7 +61,38 @@ impl State {
                 Ok(taken)
             }
             Err(AllocError) => {
-                self.restore(thread, kept);
+                let_go(self.swap(thread, taken_up(kept)));
+                Err(AllocError)
+            }
+        }
+    }
+
+    // The same where none of the thread's frames stay.
+    fn share_whole(
+        &mut self,
+        alloc: Global,
+        code: &Executable,
+        limit: u32,
+        thread: u32,
+        top: ThreadState,
+        counted: Counted<'_>,
+    ) -> Result<Option<Taken>, AllocError>
+        requires there { (s : ThreadOf) × (thread_at self.old thread ≡ Some s) }
+        requires room { HasRoom self.old }
+        requires typed { IsTypedBySome (program_view code.now.program) (with_thread self.old thread (thread_view top)) }
+        requires alone { TellsAlone (program_view code.now.program) (with_thread self.old thread (thread_view top)) thread (thread_view top) (says_alone (program_view code.now.program) counted (thread_view top)) }
+        ensures ok { IfOk result (λ a. Shares (program_view code.now.program) limit (with_thread self.old thread (thread_view top)) thread (taken_act a) self.new) }
+        ensures message { IfOk result (λ a. (k : ℕ) → taken_act a ≡ Some (ActReceive k) → taken_message a ≡ message_at self.old k) }
+        ensures err { OnErr result (self.new ≡ self.old) }
+    {
+        let kept = self.swap(thread, top);
+        match self.take_open(alloc, code, limit, thread, counted) {
+            Ok(taken) => {
+                let_go(kept);
+                Ok(taken)
+            }
+            Err(AllocError) => {
+                let_go(self.swap(thread, kept));
                 Err(AllocError)
             }
         }

@@ -7,14 +7,13 @@ ghost use Rattle.pat_machine_threads.specs.Aside.{aside_view};
 ghost use Rattle.pat_machine_states.specs.Asides.{IsAside};
 
 use crate::State;
-use pat_machine_threads::{Aside, with_frames, with_room};
+use pat_machine_threads::{Aside, with_room};
 use pat_reduce::ThreadState;
 use pat_sequences::let_go;
 use std::alloc::{AllocError, Global};
 
 impl State {
-    /// Puts a state in the place of a thread's control and so many of its frames, those on top.
-    /// An error changes nothing.
+    /// Puts a state in the place of a thread's control and so many of its frames, those on top. An error changes nothing.
     pub fn put(
         &mut self,
         alloc: Global,
@@ -31,8 +30,7 @@ impl State {
         Ok(())
     }
 
-    // Puts a state in the place of a thread's, which is set aside with room for its frames and one more.
-    // An error changes nothing.
+    // Puts a state in the place of a thread's, which is set aside with room for its frames and one more. An error changes nothing.
     pub(crate) fn set_aside(
         &mut self,
         alloc: Global,
@@ -52,15 +50,6 @@ impl State {
                 Err(AllocError)
             }
         }
-    }
-
-    // Puts back what was set aside.
-    pub(crate) fn restore(&mut self, thread: u32, kept: Aside)
-        requires { (s : ThreadOf) × (thread_at self.old thread ≡ Some s) }
-        ensures { self.new ≡ with_thread self.old thread (aside_view kept) }
-    {
-        let Aside { rest, frames } = kept;
-        let_go(self.swap(thread, with_frames(rest, frames.into_stack())));
     }
 
     // Puts the frames that were set aside, but for so many, below those of the thread, if it is there.

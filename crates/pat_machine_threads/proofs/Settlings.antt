@@ -57,6 +57,10 @@ module _ (p : Program) (a n : ℕ) (x : Thread) (s : Settled) (gone : s.gone ≡
     frame = λ less. subst (λ m. (0 < length (thread_view s.end).frames) ⊎ (below m x ≡ [])) (sym gone) left;
   }
 
+  -- the same, said of the frames that the run says are gone
+  pub run_on_those : (0 < length (thread_view s.end).frames) ⊎ (below s.gone x ≡ []) → IsRunOnTop p a x s
+  run_on_those left = run_on_some (subst (λ m. (0 < length (thread_view s.end).frames) ⊎ (below m x ≡ [])) gone left)
+
 -- a run on a frame for each step
 pub run_on_enough : (p : Program) (a : ℕ) (x : Thread) (s : Settled) → s.gone ≡ a → IsLocalRun p a (top_of a x) s.steps (thread_view s.end) → IsRunOnTop p a x s
 run_on_enough p a x s gone h = record {

@@ -29,8 +29,16 @@ pub fn with_room(alloc: Global, state: ThreadState, room: usize) -> Result<Aside
     }
 }
 
-/// The state with these frames in place of its own.
-pub fn with_frames(state: ThreadState, frames: Stack<Frame>) -> ThreadState
+/// The state that was set aside.
+pub fn taken_up(kept: Aside) -> ThreadState
+    ensures { thread_view result ≡ aside_view kept }
+{
+    let Aside { rest, frames } = kept;
+    with_frames(rest, frames.into_stack())
+}
+
+// The state with these frames in place of its own.
+fn with_frames(state: ThreadState, frames: Stack<Frame>) -> ThreadState
     ensures { thread_view result ≡ thread_of (control_view state.control) (map frame_view frames) }
 {
     let mut state = state;

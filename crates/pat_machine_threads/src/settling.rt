@@ -1,23 +1,26 @@
 // Local steps of a kept thread, on a copy of its top.
-ghost use Rattle.std.specs.Prelude.{◌≡◌, ◌≤◌, Some, map, reverse, IfOk};
+ghost use Rattle.std.specs.Prelude.{◌≡◌, ◌<◌, ◌≤◌, ◌⊎◌, [], Some, length, map, reverse, IfOk, IsTrue};
 ghost use Rattle.pat_model.specs.Steps.{resume};
 ghost use Rattle.pat_reduce_threads.specs.Views.{program_view};
 ghost use Rattle.pat_reduce_threads.specs.ThreadViews.{frame_view, thread_view};
 ghost use Rattle.pat_reduce_values.specs.ValueViews.{value_view};
 ghost use Rattle.pat_commits.specs.Commits.{IsLocalRun, locally};
-ghost use Rattle.pat_commits.specs.Tops.{top_of};
+ghost use Rattle.pat_commits.specs.Tops.{below, top_of};
 ghost use Rattle.pat_machine_threads.specs.Settling.{IsRunOnTop};
 
 use crate::copies::{copy_frames, copy_top};
 use crate::run::run_locally;
-use crate::tops::top_frames;
+use crate::tops::{has_at_most, top_frames};
 use pat_reduce::{Control, Frame, ThreadState, Value};
 use pat_reduce_values::{Executable, bound, keep_free};
 use pat_sequences::let_go;
 use std::alloc::{AllocError, Global};
 
-// The frames that are looked at first: most jobs need no more.
-const FEW: u32 = 8;
+// The frames that are looked at first: most jobs need no more, and each is copied.
+const FEW: u32 = 2;
+
+// The frames that are looked at next.
+const SOME: u32 = 8;
 
 /// What local steps made of the top of a thread, and how many they were.
 #[derive(Drop)]
@@ -28,7 +31,7 @@ pub struct Settled {
     pub steps: u32,
 }
 
-/// As many local steps of the kept thread as there are within the allowance: on few of its frames, or else on one for each step.
+/// As many local steps of the kept thread as there are within the allowance: on few of its frames, or else on more, or on one for each step.
 pub fn settle_top(
     alloc: Global,
     code: &Executable,
@@ -38,11 +41,23 @@ pub fn settle_top(
     ensures { IfOk result (IsRunOnTop (program_view code.now.program) allowance (thread_view kept.now)) }
 {
     let few = run_on_top(alloc, code, kept, allowance, FEW)?;
-    if few.end.frames.is_empty() && kept.frames.len() > FEW as usize {
-        let_go(few);
-        return run_on_top(alloc, code, kept, allowance, allowance);
+    if are_enough(&few, kept) {
+        return Ok(few);
     }
-    Ok(few)
+    let_go(few);
+    let some = run_on_top(alloc, code, kept, allowance, SOME)?;
+    if are_enough(&some, kept) {
+        return Ok(some);
+    }
+    let_go(some);
+    run_on_top(alloc, code, kept, allowance, allowance)
+}
+
+// Whether no step could have looked below the frames that were copied: one is left, or there is none below.
+fn are_enough(settled: &Settled, kept: &ThreadState) -> bool
+    ensures { IsTrue result → (0 < length (thread_view settled.now.end).frames) ⊎ (below settled.now.gone (thread_view kept.now) ≡ []) }
+{
+    !settled.end.frames.is_empty() || has_at_most(kept, settled.gone)
 }
 
 // Local steps on a copy of so many frames on top of the kept state.

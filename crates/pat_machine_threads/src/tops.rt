@@ -1,7 +1,9 @@
 // The frames on top of a thread.
-ghost use Rattle.std.specs.Prelude.{◌≡◌, reverse, take};
+ghost use Rattle.std.specs.Prelude.{◌≡◌, ◌==◌, length, reverse, take};
+ghost use Rattle.pat_reduce_threads.specs.ThreadViews.{thread_view};
+ghost use Rattle.pat_commits.specs.Tops.{below};
 
-use pat_reduce::Frame;
+use pat_reduce::{Frame, ThreadState};
 use pat_sequences::Stack;
 
 /// At most so many frames, those on top, from the bottom up.
@@ -10,4 +12,11 @@ pub fn top_frames(frames: &Stack<Frame>, most: u32) -> &[Frame]
 {
     let all = frames.as_slice();
     &all[all.len().saturating_sub(most as usize)..]
+}
+
+/// Whether a state has no frame below so many.
+pub fn has_at_most(state: &ThreadState, frames: u32) -> bool
+    ensures { result ≡ (length (below frames (thread_view state.now)) == 0) }
+{
+    state.frames.len() <= frames as usize
 }

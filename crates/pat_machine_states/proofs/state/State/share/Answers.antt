@@ -1,15 +1,20 @@
 use Rattle.std.proofs.Common.{sym, ap, ◌∙◌, subst, arith}
+use Rattle.std.proofs.lemmas.Result.{IfOk-weaker}
 use Rattle.pat_model.specs.Configs.{thread_at, with_thread}
 use Rattle.pat_model.specs.Orders.{IsOrdered}
 use Rattle.pat_model.specs.Steps.{message_at}
 use Rattle.pat_core.specs.Views.{program_view}
 use Rattle.pat_reduce_threads.specs.ThreadViews.{thread_view}
 use Rattle.pat_commits.specs.Tops.{below}
+use Rattle.pat_commits.specs.Commits.{Shares}
+use Rattle.pat_commits.specs.Machines.{IsTypedBySome}
 use Rattle.pat_locality_laws.proofs.Exchanges.{frames_after, ordered_on_top, share_over}
 use Rattle.pat_machine_threads.specs.Aside.{aside_view}
+use Rattle.pat_machine_names.specs.Counting.{TellsAlone}
+use Rattle.pat_machine_names.specs.Telling.{says_alone}
 use Rattle.pat_machine_states.specs.Stepping.{ReferToLive}
 use Rattle.pat_machine_states.specs.Taking.{taken_act}
-use Rattle.pat_machine_states.proofs.Asides.{top_there, room_there, back_there}
+use Rattle.pat_machine_states.proofs.Asides.{top_there, room_there, back_there, over_whole}
 use Rattle.pat_machine_states.proofs.Referring.{refer_on_top}
 use Rattle.pat_machine_states.proofs.Reaching.{stands_on_top}
 use Rattle.pat_machine_states.proofs.state.State.share.Goals as goal
@@ -46,8 +51,8 @@ cover-requires c = λ r at.
     let room = room_there c.args.self.now middle t c.args.top c.in_ok-kept.kept a in
     omega arith
 
-pub restore-requires : goal.restore-requires
-restore-requires c = (
+pub swap-requires : goal.swap-requires
+swap-requires c = (
   thread_view c.args.top,
   ap (λ d. thread_at d c.args.thread) c.in-Err.ensures.err ∙ top_there c.args.self.now c.set_aside.new.self c.args.thread c.args.top c.in_ok-kept.kept c.in_ok-kept.ensures.ok,
 )
@@ -60,9 +65,34 @@ returns-in-Ok-clause-ok c = λ s at.
 
 pub returns-in-Err-clause-err : goal.returns-in-Err-clause-err
 returns-in-Err-clause-err c =
-    c.restore.ensures
+    c.swap.ensures.after
+    ∙ ap (λ x. with_thread c.take_open.new.self c.args.thread x) c.taken_up.ensures
     ∙ ap (λ d. with_thread d c.args.thread (aside_view c.in_ok-kept.kept)) c.in-Err.ensures.err
     ∙ back_there c.args.self.now c.set_aside.new.self c.args.thread c.args.top c.in_ok-kept.kept c.in_ok-kept.ensures.ok
 
 pub returns-in-Ok-clause-message : goal.returns-in-Ok-clause-message
 returns-in-Ok-clause-message c = λ k is. c.in-Ok.ensures.message k is ∙ ap (λ d. message_at d k) c.in_ok-kept.ensures.ok.put
+
+pub share_whole-requires-clause-typed : goal.share_whole-requires-clause-typed
+share_whole-requires-clause-typed c =
+    let s = c.requires.there in
+    let same = over_whole _ c.args.self.now c.args.thread c.args.gone (thread_view c.args.top) s.0 c.has_at_most.result c.self.view_is c.has_at_most.ensures c.if-has_at_most.true s.1 in
+    subst (λ x. IsTypedBySome (program_view c.args.code.now.program) (with_thread c.args.self.now c.args.thread x)) same (c.requires.typed s.0 s.1)
+
+pub share_whole-requires-clause-alone : goal.share_whole-requires-clause-alone
+share_whole-requires-clause-alone c =
+    let s = c.requires.there in
+    let p = program_view c.args.code.now.program in
+    let t = c.args.thread in
+    let same = over_whole _ c.args.self.now t c.args.gone (thread_view c.args.top) s.0 c.has_at_most.result c.self.view_is c.has_at_most.ensures c.if-has_at_most.true s.1 in
+    subst (λ x. TellsAlone p (with_thread c.args.self.now t x) t x (says_alone p c.args.counted (thread_view c.args.top))) same (c.requires.alone s.0 s.1)
+
+pub returns-then-has_at_most-clause-ok : goal.returns-then-has_at_most-clause-ok
+returns-then-has_at_most-clause-ok c =
+    let p = program_view c.args.code.now.program in
+    let t = c.args.thread in
+    IfOk-weaker c.share_whole.result _ _
+    (λ a shares. λ s at.
+    let same = over_whole _ c.args.self.now t c.args.gone (thread_view c.args.top) s c.has_at_most.result c.self.view_is c.has_at_most.ensures c.if-has_at_most.true at in
+    subst (λ x. Shares p c.args.limit (with_thread c.args.self.now t x) t (taken_act a) c.share_whole.new.self) (sym same) shares)
+    c.share_whole.ensures.ok
