@@ -56,6 +56,14 @@ impl Lists {
         self.push(set)
     }
 
+    /// Puts a list on top.
+    pub fn put(&mut self, sets: Sequence<LinearSet>) -> Result<(), AllocError>
+        ensures { OnOk result (self.new ≡ sets ∷ self.old) }
+    {
+        self.put_none()?;
+        self.replace(sets)
+    }
+
     /// The list on top.
     pub fn top(&self) -> &[LinearSet]
         requires { 1 ≤ length self.now }
@@ -83,6 +91,17 @@ impl Lists {
         match self.sets.pop() {
             None => unreachable!(),
             Some(set) => set,
+        }
+    }
+
+    /// Puts a list without sets in the place of the list on top.
+    pub fn empty_top(&mut self)
+        requires { 1 ≤ length self.old }
+        ensures { self.new ≡ [] ∷ drop 1 self.old }
+    {
+        match self.starts.top() {
+            None => unreachable!(),
+            Some(start) => self.sets.items.truncate(*start),
         }
     }
 
