@@ -4,7 +4,7 @@ use Rattle.pat_solving.specs.Assignments.{derivative}
 use Rattle.pat_solve_sizes.specs.Limits.{within}
 use Rattle.pat_solve_sizes.specs.Views.{parts_view}
 use Rattle.pat_solve_replacing.specs.Deriving.{outcome, work}
-use Rattle.pat_solve_replacing.proofs.derivatives.derivative.Given as goal
+use Rattle.pat_solve_replacing.proofs.derivatives.derivative_by_tasks.Given as goal
 
 abbrev pub invariant-loop-task : goal.invariant-loop-task
 invariant-loop-task l =

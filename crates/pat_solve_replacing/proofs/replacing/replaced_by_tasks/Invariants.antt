@@ -4,7 +4,7 @@ use Rattle.pat_patterns.specs.Views.{pattern_view}
 use Rattle.pat_solve_sizes.specs.Limits.{within}
 use Rattle.pat_solve_sizes.specs.Views.{parts_view}
 use Rattle.pat_solve_replacing.specs.Replacing.{replaced_by, outcome, work}
-use Rattle.pat_solve_replacing.proofs.replacing.replaced.Given as goal
+use Rattle.pat_solve_replacing.proofs.replacing.replaced_by_tasks.Given as goal
 
 abbrev pub invariant-loop-task : goal.invariant-loop-task
 invariant-loop-task l =
