@@ -10,3 +10,4 @@ mod Meaning
 mod ListsOn
 mod StarOfWords
 mod FormOfParts
+mod Multiplied

@@ -10,7 +10,7 @@ use Rattle.pat_inclusions.specs.LinearSets.{LinearSet, linear_set}
 use Rattle.pat_inclusions.specs.ClosedForms.{add_period, add_periods, only_empty, products, star_by, set_star, times_stars, is_short, stars_are_short}
 use Rattle.pat_postfix.specs.declared.Head.TheVariants.{Star as StarHead}
 use Rattle.pat_linear.specs.declared.set.LinearSet.{LinearSet as CodeSet}
-use Rattle.pat_linear.specs.Views.{words_of, set_view, sets_view, forms_view}
+use Rattle.pat_linear.specs.Views.{set_view, sets_view, forms_view}
 use Rattle.pat_linear.specs.Flat.{top_of}
 use Rattle.pat_linear.specs.Forms.{CanJoin, after, after_is_short}
 use Rattle.pat_linear.specs.WordSets.{IsWord, base_of}

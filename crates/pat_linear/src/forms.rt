@@ -17,7 +17,7 @@ ghost use Rattle.pat_linear.specs.Forms.{GivesForm, GivesSets, GivesTop, Joins, 
 
 use crate::error::FormError;
 use crate::flat::Lists;
-use crate::products::{MOST_SETS, multiply_by, products};
+use crate::products::{MOST_SETS, products};
 use crate::set::LinearSet;
 use crate::stars::{only_empty, star, star_of_words};
 use pat_bags::Bag;
@@ -189,7 +189,7 @@ fn join_product(alloc: Global, done: &mut Lists) -> Result<(), FormError>
     multiply(alloc, lower, done)
 }
 
-/// The list on top gives way to the products of so many of its sets with the others. Mostly that is one with one.
+/// The list on top gives way to the products of so many of its sets with the others. Mostly that is one.
 fn multiply(alloc: Global, lower: usize, done: &mut Lists) -> Result<(), FormError>
     requires there { 1 ≤ length done.old }
     requires lower { lower ≤ length (top_of done.old) }
@@ -197,8 +197,8 @@ fn multiply(alloc: Global, lower: usize, done: &mut Lists) -> Result<(), FormErr
     ensures { let made = products_of most_tags (sets_view (take lower (top_of done.old))) (sets_view (drop lower (top_of done.old))) in GivesTop result (is_short made) made (forms_view (drop 1 done.old)) (forms_view done.new) }
 {
     let all = done.top();
-    if lower == 1 && all.len() == 2 {
-        multiply_two(done)?;
+    if lower == 1 && all.len() <= MOST_SETS {
+        multiply_by_first(alloc, done)?;
         return Ok(());
     }
     let (left, right) = all.split_at(lower);
@@ -207,16 +207,14 @@ fn multiply(alloc: Global, lower: usize, done: &mut Lists) -> Result<(), FormErr
     Ok(())
 }
 
-/// The two sets of the list on top give way to their product.
-fn multiply_two(done: &mut Lists) -> Result<(), AllocError>
-    requires two { length (top_of done.old) ≡ 2 }
+/// The list on top gives way to the products of its first set with each of the others.
+fn multiply_by_first(alloc: Global, done: &mut Lists) -> Result<(), AllocError>
+    requires some { 1 ≤ length (top_of done.old) }
     requires room { HaveRoom (sets_view (take 1 (top_of done.old))) (sets_view (drop 1 (top_of done.old))) }
     ensures { OnOk result (forms_view done.new ≡ products_of most_tags (sets_view (take 1 (top_of done.old))) (sets_view (drop 1 (top_of done.old))) ∷ forms_view (drop 1 done.old)) }
 {
-    let right = done.pop();
-    let mut both = done.pop();
-    multiply_by(&mut both, &right)?;
-    done.push(both)
+    let first = done.take_first();
+    done.multiply_each(alloc, &first)
 }
 
 fn join_star(alloc: Global, done: &mut Lists) -> Result<(), FormError>
