@@ -8,4 +8,6 @@ mod Standing
 mod StarSteps
 mod Meaning
 mod ListsOn
-mod OneWord
+mod StarOfWords
+mod FormOfParts
+mod Multiplied

@@ -1,9 +1,9 @@
 -- Lists of sets one behind another: what becomes of them when the last one changes.
-use Rattle.std.proofs.Common.{◌≡◌, ℕ, ◌-◌, ◌≤◌, ◌<◌, List, [], ◌∷◌, ◌++◌, length, take, drop, refl, sym, ap, ap₂, ◌∙◌, subst, arith, take-append-drop, take-take, length-append, length-drop, length-take-le}
-use Rattle.std.specs.Prelude.{Result, Ok, Err, OnOk, OnErr}
+use Rattle.std.proofs.Common.{◌≡◌, ℕ, zero, suc, ◌-◌, ◌≤◌, ◌<◌, List, [], ◌∷◌, ◌++◌, length, take, drop, refl, sym, ap, ap₂, ◌∙◌, subst, arith, take-append-drop, take-take, length-append, length-drop, length-take-le}
+use Rattle.std.specs.Prelude.{Result, Ok, Err, OnOk, OnErr, Some, slice_get, remove}
 use Rattle.std.proofs.lemmas.List.{take-append-le, drop-append-le}
 use Rattle.pat_linear.specs.declared.set.LinearSet.{LinearSet}
-use Rattle.pat_linear.specs.Flat.{lists_on, GoDown, top_of, Unites, TakesSet}
+use Rattle.pat_linear.specs.Flat.{lists_on, GoDown, top_of, Unites, TakesFirst}
 
 -- ---- a further set
 
@@ -35,33 +35,55 @@ pushed (Err e) sets new starts lists set ok view down some = tt
 below_end : (sets : List LinearSet) (s : ℕ) → 1 ≤ length (drop s sets) → s < length sets
 below_end sets s some = let left = length-drop s sets in omega arith
 
-pub none_to_pop : (sets : List LinearSet) (starts : List ℕ) (lists : List (List LinearSet)) → lists_on sets starts ≡ lists → 1 ≤ length (top_of lists) → sets ≡ [] → ⊥
-none_to_pop sets [] lists view some empty =
-    let none : 0 ≡ length (top_of lists) = ap (λ ls. length (top_of ls)) view in omega arith
-none_to_pop sets (s ∷ ss) lists view some empty =
-    let top : length (drop s sets) ≡ length (top_of lists) = ap (λ ls. length (top_of ls)) view in
-    let below : s < length sets = below_end sets s (omega arith) in
-    let none : length sets ≡ 0 = ap length empty in omega arith
+pub none_first : (sets : List LinearSet) (starts : List ℕ) (lists : List (List LinearSet)) → lists_on sets starts ≡ lists → 1 ≤ length (top_of lists) → starts ≡ [] → ⊥
+none_first sets [] lists view some none =
+    let top : 0 ≡ length (top_of lists) = ap (λ ls. length (top_of ls)) view in omega arith
+none_first sets (s ∷ ss) lists view some none = absurd (cc)
 
-pub popped_down : (sets new : List LinearSet) (starts : List ℕ) (lists : List (List LinearSet)) (set : LinearSet) → lists_on sets starts ≡ lists → GoDown (length sets) starts → 1 ≤ length (top_of lists) → sets ≡ new ++ set ∷ [] → GoDown (length new) starts
-popped_down sets new [] lists set view down some is =
-    let none : 0 ≡ length (top_of lists) = ap (λ ls. length (top_of ls)) view in absurd (omega arith)
-popped_down sets new (s ∷ ss) lists set view down some is =
-    let top : length (drop s sets) ≡ length (top_of lists) = ap (λ ls. length (top_of ls)) view in
-    let below : s < length sets = below_end sets s (omega arith) in
-    let all : length sets ≡ length (new ++ set ∷ []) = ap length is in
-    let longer = length-append new (set ∷ []) in (omega arith, down.1)
+-- the first of the list on top stands where that list starts
+pub first_below : (sets : List LinearSet) (starts : List ℕ) (s : ℕ) (lists : List (List LinearSet)) → lists_on sets starts ≡ lists → 1 ≤ length (top_of lists) → (ss : List ℕ) × (starts ≡ s ∷ ss) → s < length sets
+first_below sets starts s lists view some top =
+    let there : lists_on sets (s ∷ top.0) ≡ lists = subst (λ x. lists_on sets x ≡ lists) top.1 view in
+    let long : length (drop s sets) ≡ length (top_of lists) = ap (λ ls. length (top_of ls)) there in
+    below_end sets s (omega arith)
 
-pub popped : (sets new : List LinearSet) (starts : List ℕ) (lists : List (List LinearSet)) (set : LinearSet) → lists_on sets starts ≡ lists → GoDown (length sets) starts → 1 ≤ length (top_of lists) → sets ≡ new ++ set ∷ [] → TakesSet set lists (lists_on new starts)
-popped sets new [] lists set view down some is =
-    let none : 0 ≡ length (top_of lists) = ap (λ ls. length (top_of ls)) view in absurd (omega arith)
-popped sets new (s ∷ ss) lists set view down some is =
-    let within : s ≤ length new = (popped_down sets new (s ∷ ss) lists set view down some is).0 in
+first_is : (sets : List LinearSet) (s : ℕ) (set : LinearSet) → slice_get sets s ≡ Some set → drop s sets ≡ set ∷ drop (suc s) sets
+first_is [] s set at = absurd (cc)
+first_is (x ∷ xs) zero set at = cc
+first_is (x ∷ xs) (suc s) set at = first_is xs s set at
+
+rest_first : (sets : List LinearSet) (s : ℕ) → s < length sets → drop s (remove sets s) ≡ drop (suc s) sets
+rest_first [] s h = absurd (omega arith)
+rest_first (x ∷ xs) zero h = refl
+rest_first (x ∷ xs) (suc s) h = rest_first xs s (omega arith)
+
+front_first : (sets : List LinearSet) (s : ℕ) → s < length sets → take s (remove sets s) ≡ take s sets
+front_first [] s h = absurd (omega arith)
+front_first (x ∷ xs) zero h = refl
+front_first (x ∷ xs) (suc s) h = ap (λ front. x ∷ front) (front_first xs s (omega arith))
+
+fewer : (sets : List LinearSet) (s : ℕ) → s < length sets → suc (length (remove sets s)) ≡ length sets
+fewer [] s h = absurd (omega arith)
+fewer (x ∷ xs) zero h = refl
+fewer (x ∷ xs) (suc s) h = ap suc (fewer xs s (omega arith))
+
+pub first_down : (sets new : List LinearSet) (starts : List ℕ) (s : ℕ) (lists : List (List LinearSet)) → lists_on sets starts ≡ lists → GoDown (length sets) starts → 1 ≤ length (top_of lists) → (ss : List ℕ) × (starts ≡ s ∷ ss) → new ≡ remove sets s → GoDown (length new) starts
+first_down sets new starts s lists view down some top is =
+    let below = first_below sets starts s lists view some top in
+    let all : GoDown (length sets) (s ∷ top.0) = subst (GoDown (length sets)) top.1 down in
+    let count = fewer sets s below in
+    let left : length new ≡ length (remove sets s) = ap length is in
+    subst (GoDown (length new)) (sym top.1) (omega arith, all.1)
+
+pub first_taken : (sets new : List LinearSet) (starts : List ℕ) (s : ℕ) (lists : List (List LinearSet)) (set : LinearSet) → lists_on sets starts ≡ lists → 1 ≤ length (top_of lists) → (ss : List ℕ) × (starts ≡ s ∷ ss) → slice_get sets s ≡ Some set → new ≡ remove sets s → TakesFirst set lists (lists_on new starts)
+first_taken sets new starts s lists set view some top at is =
+    let below = first_below sets starts s lists view some top in
+    let ss = top.0 in
     record {
-      front = drop s new;
-      rest = lists_on (take s new) ss;
-      was = sym view ∙ ap (λ xs. lists_on xs (s ∷ ss)) is ∙ ap₂ (λ top front. top ∷ lists_on front ss) (drop-append-le s new (set ∷ []) within) (take-append-le s new (set ∷ []) within);
-      is = refl;
+      others = drop (suc s) sets;
+      rest = lists_on (take s sets) ss;
+      was = sym view ∙ ap (lists_on sets) top.1 ∙ ap (λ first. first ∷ lists_on (take s sets) ss) (first_is sets s set at);
+      is = ap₂ lists_on is top.1 ∙ ap₂ (λ first front. first ∷ lists_on front ss) (rest_first sets s below) (front_first sets s below);
     }
 
 -- ---- two lists as one

@@ -76,10 +76,10 @@ sizes e h =
     let p = and_parts _ _ h in
     (leb-true (size_of e) 65536 p.0, leb-true (levels_of e) 16384 p.1)
 
-small : (e : Pat) → size_of e ≤ 65536 → levels_of e ≤ 16384 → is_small e ≡ true
+pub small : (e : Pat) → size_of e ≤ 65536 → levels_of e ≤ 16384 → is_small e ≡ true
 small e a b = and_from _ _ (le-leb (size_of e) 65536 a) (le-leb (levels_of e) 16384 b)
 
-small_down : IsHandedDown (λ e. is_small e ≡ true)
+pub small_down : IsHandedDown (λ e. is_small e ≡ true)
 small_down = record {
   sum = λ e f h. let s = sizes (Sum e f) h in (small e (omega arith) (omega arith), small f (omega arith) (omega arith));
   prod = λ e f h. let s = sizes (Prod e f) h in (small e (omega arith) (omega arith), small f (omega arith) (omega arith));

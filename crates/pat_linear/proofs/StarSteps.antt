@@ -27,7 +27,7 @@ drop_here [] i d l = absurd (omega arith)
 drop_here (x ∷ xs) zero d l = refl
 drop_here (x ∷ xs) (suc i) d l = drop_here xs i d (omega arith)
 
-drop_at : (xs : List CodeSet) (i : ℕ) (a : CodeSet) → i < length xs → a ≡ get_or xs i a → drop i (sets_view xs) ≡ set_view a ∷ drop (suc i) (sets_view xs)
+pub drop_at : (xs : List CodeSet) (i : ℕ) (a : CodeSet) → i < length xs → a ≡ get_or xs i a → drop i (sets_view xs) ≡ set_view a ∷ drop (suc i) (sets_view xs)
 drop_at xs i a l e = subst (λ x. drop i (sets_view xs) ≡ set_view x ∷ drop (suc i) (sets_view xs)) (sym e) (drop_here xs i a l)
 
 all_here : (P : LinearSet → Type 0) (xs : List CodeSet) (i : ℕ) (d : CodeSet) → AllByRecursion P (sets_view xs) → i < length xs → P (set_view (get_or xs i d))

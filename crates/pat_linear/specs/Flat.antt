@@ -26,9 +26,9 @@ pub record Unites (n : ℕ) (old new : List (List LinearSet)) : Type 0 where
   pub is : new ≡ (lower ++ upper) ∷ rest
   pub count : n ≡ length lower
 
--- the list on top has lost its last set
-pub record TakesSet (set : LinearSet) (old new : List (List LinearSet)) : Type 0 where
-  pub front : List LinearSet
+-- the list on top has lost its first set
+pub record TakesFirst (set : LinearSet) (old new : List (List LinearSet)) : Type 0 where
+  pub others : List LinearSet
   pub rest : List (List LinearSet)
-  pub was : old ≡ (front ++ set ∷ []) ∷ rest
-  pub is : new ≡ front ∷ rest
+  pub was : old ≡ (set ∷ others) ∷ rest
+  pub is : new ≡ others ∷ rest

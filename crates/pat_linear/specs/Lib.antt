@@ -2,3 +2,4 @@ pub mod Views
 pub mod Rooms
 pub mod Forms
 pub mod Flat
+pub mod WordSets

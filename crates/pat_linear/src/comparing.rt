@@ -63,9 +63,6 @@ pub fn add_periods(periods: &mut Sequence<Bag>, more: &[Bag]) -> Result<(), Allo
 pub fn copied(alloc: Global, bags: &[Bag]) -> Result<Sequence<Bag>, AllocError>
     ensures { IfOk result (λ copy. copy ≡ bags.now) }
 {
-    let mut copy = Sequence::new(alloc);
-    for bag in bags {
-        copy.push(*bag)?;
-    }
-    Ok(copy)
+    let copy = Vec::from_slice(alloc, bags)?;
+    Ok(Sequence::from_vec(copy))
 }

@@ -1,7 +1,12 @@
 // Lists of linear sets on a stack.
-ghost use Rattle.std.specs.Prelude.{◌≡◌, ◌≤◌, [], ◌∷◌, ◌++◌, length, drop, IfOk, OnOk};
-ghost use Rattle.pat_linear.specs.Flat.{top_of, Unites, TakesSet};
+ghost use Rattle.std.specs.Prelude.{◌≡◌, ◌≤◌, [], ◌∷◌, ◌++◌, length, drop, map, IfOk, OnOk};
+ghost use Rattle.pat_inclusions.specs.Counts.{most_tags};
+ghost use Rattle.pat_inclusions.specs.ClosedForms.{set_product as set_product_of};
+ghost use Rattle.pat_linear.specs.Views.{set_view, sets_view, forms_view};
+ghost use Rattle.pat_linear.specs.Rooms.{HasRoom};
+ghost use Rattle.pat_linear.specs.Flat.{top_of, Unites, TakesFirst};
 
+use crate::products::multiply_from;
 use crate::set::LinearSet;
 use pat_sequences::{Sequence, Stack};
 use std::alloc::{AllocError, Global};
@@ -56,6 +61,14 @@ impl Lists {
         self.push(set)
     }
 
+    /// Puts a list on top.
+    pub fn put(&mut self, sets: Sequence<LinearSet>) -> Result<(), AllocError>
+        ensures { OnOk result (self.new ≡ sets ∷ self.old) }
+    {
+        self.put_none()?;
+        self.replace(sets)
+    }
+
     /// The list on top.
     pub fn top(&self) -> &[LinearSet]
         requires { 1 ≤ length self.now }
@@ -75,14 +88,37 @@ impl Lists {
         self.sets.push(set)
     }
 
-    /// Takes the last set of the list on top.
-    pub fn pop(&mut self) -> LinearSet
+    /// Takes the first set of the list on top.
+    pub fn take_first(&mut self) -> LinearSet
         requires { 1 ≤ length (top_of self.old) }
-        ensures { TakesSet result self.old self.new }
+        ensures { TakesFirst result self.old self.new }
     {
-        match self.sets.pop() {
+        match self.starts.top() {
             None => unreachable!(),
-            Some(set) => set,
+            Some(start) => self.sets.remove(*start),
+        }
+    }
+
+    /// Puts the products of the set with each of those of the list on top in their place.
+    pub fn multiply_each(&mut self, alloc: Global, a: &LinearSet) -> Result<(), AllocError>
+        requires there { 1 ≤ length self.old }
+        requires room { HasRoom (set_view a.now) (sets_view (top_of self.old)) }
+        ensures { OnOk result (forms_view self.new ≡ map (set_product_of most_tags (set_view a.now)) (sets_view (top_of self.old)) ∷ forms_view (drop 1 self.old)) }
+    {
+        match self.starts.top() {
+            None => unreachable!(),
+            Some(start) => multiply_from(alloc, a, *start, &mut self.sets),
+        }
+    }
+
+    /// Puts a list without sets in the place of the list on top.
+    pub fn empty_top(&mut self)
+        requires { 1 ≤ length self.old }
+        ensures { self.new ≡ [] ∷ drop 1 self.old }
+    {
+        match self.starts.top() {
+            None => unreachable!(),
+            Some(start) => self.sets.items.truncate(*start),
         }
     }
 

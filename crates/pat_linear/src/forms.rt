@@ -1,22 +1,25 @@
 // The closed form of a pattern.
-ghost use Rattle.std.specs.Prelude.{◌≡◌, ◌∷◌, [], ◌<◌, ◌≤◌, ◌↔◌, length, take, drop, IfOk, OnOk, IsTrue};
+ghost use Rattle.std.specs.Prelude.{◌≡◌, ◌∷◌, [], ◌<◌, ◌≤◌, ◌↔◌, ◌-◌, ◌^◌, min, length, take, drop, IfOk, OnOk, IsTrue};
+ghost use Rattle.std.specs.List.{AllByRecursion};
 ghost use Rattle.pat_words.specs.Words.{Word, one};
 ghost use Rattle.pat_words.specs.Patterns.{In};
+ghost use Rattle.pat_words.specs.Sizes.{size_of};
 ghost use Rattle.pat_words.specs.Tags.{tags_below};
 ghost use Rattle.pat_patterns.specs.Views.{pattern_view};
 ghost use Rattle.pat_inclusions.specs.Counts.{most_tags};
 ghost use Rattle.pat_inclusions.specs.LinearSets.{InSets, linear_set};
-ghost use Rattle.pat_inclusions.specs.ClosedForms.{only_empty as only_empty_set, is_small, is_short, closed_form as closed_form_of, products as products_of, sets_of, times_stars as times_stars_of, lists_are_short};
+ghost use Rattle.pat_inclusions.specs.ClosedForms.{only_empty as only_empty_set, is_small as is_small_of, is_short, closed_form as closed_form_of, products as products_of, sets_of, times_stars as times_stars_of, lists_are_short};
 ghost use Rattle.pat_linear.specs.Views.{set_view, sets_view, forms_view};
 ghost use Rattle.pat_linear.specs.Rooms.{HaveRoom};
 ghost use Rattle.pat_linear.specs.Flat.{top_of};
+ghost use Rattle.pat_linear.specs.WordSets.{IsWord};
 ghost use Rattle.pat_linear.specs.Forms.{GivesForm, GivesSets, GivesTop, Joins, CanJoin};
 
 use crate::error::FormError;
 use crate::flat::Lists;
-use crate::products::{MOST_SETS, multiply_by, products};
+use crate::products::{MOST_SETS, products};
 use crate::set::LinearSet;
-use crate::stars::{only_empty, star, star_of_base};
+use crate::stars::{only_empty, star, star_of_words};
 use pat_bags::Bag;
 use pat_patterns::{Pattern, levels, size};
 use pat_postfix::{Head, postfix};
@@ -36,18 +39,91 @@ pub fn closed_form(alloc: Global, p: &Pattern) -> Result<Sequence<LinearSet>, Fo
     ensures form { GivesForm result (closed_form_of most_tags (pattern_view p.now)) }
     ensures words { IfOk result (λ sets. (w : Word) → InSets (sets_view sets) w ↔ In (pattern_view p.now) w) }
 {
-    if size(p) > MOST_NODES || levels(p) > MOST_LEVELS {
+    let nodes = size(p);
+    if !is_small(p, nodes) {
         return Err(FormError::TooLarge);
     }
-    form_of(alloc, p)
+    form_of(alloc, p, nodes as usize)
+}
+
+/// Whether the pattern, which has so many nodes, is no larger than what is worked with. It has no more levels than nodes.
+fn is_small(p: &Pattern, nodes: u32) -> bool
+    requires { nodes ≡ min (size_of (pattern_view p.now)) (2 ^ 32 - 1) }
+    ensures { result ≡ is_small_of (pattern_view p.now) }
+{
+    nodes <= MOST_LEVELS || nodes <= MOST_NODES && levels(p) <= MOST_LEVELS
 }
 
 // The sets for which there is room at first: most patterns need no more.
 const FEW: usize = 4;
 
-/// The closed form of a small pattern.
-fn form_of(alloc: Global, p: &Pattern) -> Result<Sequence<LinearSet>, FormError>
-    requires small { IsTrue (is_small (pattern_view p.now)) }
+// So many levels of a pattern are walked down by calls. What is deeper is made along a list of heads.
+const MOST_CALLS: u32 = 64;
+
+/// The closed form of a small pattern with so many nodes.
+fn form_of(alloc: Global, p: &Pattern, nodes: usize) -> Result<Sequence<LinearSet>, FormError>
+    requires small { IsTrue (is_small_of (pattern_view p.now)) }
+    requires tags { IsTrue (tags_below most_tags (pattern_view p.now)) }
+    ensures { GivesSets result (lists_are_short most_tags (pattern_view p.now)) (sets_of most_tags (pattern_view p.now)) }
+{
+    let mut done = Lists::with_room(alloc, nodes.min(FEW))?;
+    put_form(alloc, p, MOST_CALLS, &mut done)?;
+    Ok(done.into_sets())
+}
+
+/// Puts the closed form on top, by at most so many calls, one in the other.
+fn put_form(alloc: Global, p: &Pattern, calls: u32, done: &mut Lists) -> Result<(), FormError>
+    requires small { IsTrue (is_small_of (pattern_view p.now)) }
+    requires tags { IsTrue (tags_below most_tags (pattern_view p.now)) }
+    ensures { GivesTop result (lists_are_short most_tags (pattern_view p.now)) (sets_of most_tags (pattern_view p.now)) (forms_view done.old) (forms_view done.new) }
+{
+    if calls == 0 {
+        return put_deep_form(alloc, p, done);
+    }
+    match p {
+        Pattern::Zero | Pattern::Var(_) => {
+            done.put_none()?;
+            Ok(())
+        }
+        Pattern::One => {
+            done.put_one(only_empty(alloc))?;
+            Ok(())
+        }
+        Pattern::Tag(tag) => {
+            done.put_one(only_tag(alloc, *tag))?;
+            Ok(())
+        }
+        Pattern::Sum(left, right) => {
+            put_form(alloc, left, calls - 1, done)?;
+            put_form(alloc, right, calls - 1, done)?;
+            join_sum(done)
+        }
+        Pattern::Prod(left, right) => {
+            put_form(alloc, left, calls - 1, done)?;
+            put_form(alloc, right, calls - 1, done)?;
+            join_product(alloc, done)
+        }
+        Pattern::Star(part) => {
+            put_form(alloc, part, calls - 1, done)?;
+            join_star(alloc, done)
+        }
+    }
+}
+
+/// Puts the closed form on top, however deep the pattern is.
+fn put_deep_form(alloc: Global, p: &Pattern, done: &mut Lists) -> Result<(), FormError>
+    requires small { IsTrue (is_small_of (pattern_view p.now)) }
+    requires tags { IsTrue (tags_below most_tags (pattern_view p.now)) }
+    ensures { GivesTop result (lists_are_short most_tags (pattern_view p.now)) (sets_of most_tags (pattern_view p.now)) (forms_view done.old) (forms_view done.new) }
+{
+    let sets = deep_form(alloc, p)?;
+    done.put(sets)?;
+    Ok(())
+}
+
+/// The closed form along the pattern's heads.
+fn deep_form(alloc: Global, p: &Pattern) -> Result<Sequence<LinearSet>, FormError>
+    requires small { IsTrue (is_small_of (pattern_view p.now)) }
     requires tags { IsTrue (tags_below most_tags (pattern_view p.now)) }
     ensures { GivesSets result (lists_are_short most_tags (pattern_view p.now)) (sets_of most_tags (pattern_view p.now)) }
 {
@@ -113,7 +189,7 @@ fn join_product(alloc: Global, done: &mut Lists) -> Result<(), FormError>
     multiply(alloc, lower, done)
 }
 
-/// The list on top gives way to the products of so many of its sets with the others. Mostly that is one with one.
+/// The list on top gives way to the products of so many of its sets with the others. Mostly that is one.
 fn multiply(alloc: Global, lower: usize, done: &mut Lists) -> Result<(), FormError>
     requires there { 1 ≤ length done.old }
     requires lower { lower ≤ length (top_of done.old) }
@@ -121,8 +197,8 @@ fn multiply(alloc: Global, lower: usize, done: &mut Lists) -> Result<(), FormErr
     ensures { let made = products_of most_tags (sets_view (take lower (top_of done.old))) (sets_view (drop lower (top_of done.old))) in GivesTop result (is_short made) made (forms_view (drop 1 done.old)) (forms_view done.new) }
 {
     let all = done.top();
-    if lower == 1 && all.len() == 2 {
-        multiply_two(done)?;
+    if lower == 1 && all.len() <= MOST_SETS {
+        multiply_by_first(alloc, done)?;
         return Ok(());
     }
     let (left, right) = all.split_at(lower);
@@ -131,24 +207,22 @@ fn multiply(alloc: Global, lower: usize, done: &mut Lists) -> Result<(), FormErr
     Ok(())
 }
 
-/// The two sets of the list on top give way to their product.
-fn multiply_two(done: &mut Lists) -> Result<(), AllocError>
-    requires two { length (top_of done.old) ≡ 2 }
+/// The list on top gives way to the products of its first set with each of the others.
+fn multiply_by_first(alloc: Global, done: &mut Lists) -> Result<(), AllocError>
+    requires some { 1 ≤ length (top_of done.old) }
     requires room { HaveRoom (sets_view (take 1 (top_of done.old))) (sets_view (drop 1 (top_of done.old))) }
     ensures { OnOk result (forms_view done.new ≡ products_of most_tags (sets_view (take 1 (top_of done.old))) (sets_view (drop 1 (top_of done.old))) ∷ forms_view (drop 1 done.old)) }
 {
-    let right = done.pop();
-    let mut both = done.pop();
-    multiply_by(&mut both, &right)?;
-    done.push(both)
+    let first = done.take_first();
+    done.multiply_each(alloc, &first)
 }
 
 fn join_star(alloc: Global, done: &mut Lists) -> Result<(), FormError>
     requires { CanJoin most_tags Head.Star (forms_view done.old) }
     ensures { Joins most_tags Head.Star result (forms_view done.old) (forms_view done.new) }
 {
-    if is_one_word(done.top()) {
-        repeat_word(alloc, done)?;
+    if are_words(done.top()) {
+        repeat_words(alloc, done)?;
         return Ok(());
     }
     let form = star(alloc, done.top())?;
@@ -156,22 +230,32 @@ fn join_star(alloc: Global, done: &mut Lists) -> Result<(), FormError>
     Ok(())
 }
 
-/// Whether there is one set, and that without periods.
-fn is_one_word(sets: &[LinearSet]) -> bool
-    ensures { IsTrue result → (base : Word) × (sets_view sets.now ≡ linear_set base [] ∷ []) }
+/// Whether no set has periods.
+fn are_words(sets: &[LinearSet]) -> bool
+    ensures { IsTrue result → AllByRecursion IsWord (sets_view sets.now) }
 {
-    match sets {
-        [set] => set.periods.is_empty(),
-        _ => false,
+    for set in sets {
+        if !is_word(set) {
+            return false;
+        }
     }
+    true
 }
 
-/// The one set on top, which has no periods, gives way to its star.
-fn repeat_word(alloc: Global, done: &mut Lists) -> Result<(), AllocError>
-    requires { (base : Word) × (sets_view (top_of done.old) ≡ linear_set base [] ∷ []) }
+/// Whether the set has no periods.
+fn is_word(set: &LinearSet) -> bool
+    ensures { IsTrue result → IsWord (set_view set.now) }
+{
+    set.periods.is_empty()
+}
+
+/// The sets on top, which have no periods, give way to their star: that is one set.
+fn repeat_words(alloc: Global, done: &mut Lists) -> Result<(), AllocError>
+    requires there { 1 ≤ length done.old }
+    requires words { AllByRecursion IsWord (sets_view (top_of done.old)) }
     ensures { OnOk result (forms_view done.new ≡ times_stars_of most_tags (only_empty_set ∷ []) (sets_view (top_of done.old)) ∷ forms_view (drop 1 done.old)) }
 {
-    let set = done.pop();
-    let star = star_of_base(alloc, &set.base)?;
+    let star = star_of_words(alloc, done.top())?;
+    done.empty_top();
     done.push(star)
 }

@@ -1,5 +1,5 @@
 // Products of linear sets.
-ghost use Rattle.std.specs.Prelude.{◌≡◌, ◌++◌, ◌∷◌, [], ℕ, ◌<◌, ◌≤◌, ◌+◌, ◌^◌, map, length, IfOk, OnOk};
+ghost use Rattle.std.specs.Prelude.{◌≡◌, ◌++◌, ◌∷◌, [], ℕ, ◌<◌, ◌≤◌, ◌+◌, ◌^◌, map, length, take, drop, IfOk, OnOk};
 ghost use Rattle.pat_bags.specs.Views.{word_of};
 ghost use Rattle.pat_inclusions.specs.Counts.{most_tags};
 ghost use Rattle.pat_inclusions.specs.ClosedForms.{is_short, set_product as set_product_of, products as products_of};
@@ -34,6 +34,35 @@ pub fn multiply_by(a: &mut LinearSet, b: &LinearSet) -> Result<(), AllocError>
 {
     a.base = a.base.add(&b.base);
     add_periods(&mut a.periods, b.periods.as_slice())
+}
+
+/// Makes the set the sums of a word of the first one and one of it.
+fn multiply_onto(alloc: Global, a: &LinearSet, b: &mut LinearSet) -> Result<(), AllocError>
+    requires { (t : ℕ) → t < 32 → word_of a.now.base t + word_of b.old.base t < 2 ^ 32 }
+    ensures { OnOk result (set_view b.new ≡ set_product_of most_tags (set_view a.now) (set_view b.old)) }
+{
+    let mut periods = copied(alloc, a.periods.as_slice())?;
+    add_periods(&mut periods, b.periods.as_slice())?;
+    b.base = a.base.add(&b.base);
+    b.periods = periods;
+    Ok(())
+}
+
+/// Puts the products of the set with those from the place on in their place.
+pub fn multiply_from(
+    alloc: Global,
+    a: &LinearSet,
+    start: usize,
+    sets: &mut Sequence<LinearSet>,
+) -> Result<(), AllocError>
+    requires room { HasRoom (set_view a.now) (sets_view (drop start sets.old)) }
+    ensures length { length sets.new ≡ length sets.old }
+    ensures products { OnOk result (sets_view sets.new ≡ sets_view (take start sets.old) ++ map (set_product_of most_tags (set_view a.now)) (sets_view (drop start sets.old))) }
+{
+    for place in start..sets.len() {
+        multiply_onto(alloc, a, &mut sets.items[place])?;
+    }
+    Ok(())
 }
 
 /// The product of the one set of a list with another, in its place.

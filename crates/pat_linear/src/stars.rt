@@ -1,12 +1,13 @@
 // Stars of linear sets.
-ghost use Rattle.std.specs.Prelude.{◌≡◌, ◌∷◌, [], ◌^◌, IfOk};
+ghost use Rattle.std.specs.Prelude.{◌≡◌, ◌∷◌, [], ◌^◌, map, IfOk};
 ghost use Rattle.pat_words.specs.Words.{no_word};
 ghost use Rattle.pat_bags.specs.Views.{word_of};
 ghost use Rattle.pat_inclusions.specs.Counts.{most_tags};
 ghost use Rattle.pat_inclusions.specs.LinearSets.{linear_set, SetsWithin};
-ghost use Rattle.pat_inclusions.specs.ClosedForms.{only_empty as only_empty_set, add_period as add_period_of, set_star as set_star_of, times_stars as times_stars_of, stars_are_short, SetsClean};
+ghost use Rattle.pat_inclusions.specs.ClosedForms.{only_empty as only_empty_set, add_period as add_period_of, add_periods as add_periods_of, set_star as set_star_of, times_stars as times_stars_of, stars_are_short, SetsClean};
 ghost use Rattle.pat_linear.specs.Views.{set_view, sets_view};
 ghost use Rattle.pat_linear.specs.Forms.{GivesSets};
+ghost use Rattle.pat_linear.specs.WordSets.{base_of};
 
 use crate::comparing::{add_period, copied};
 use crate::error::FormError;
@@ -52,11 +53,25 @@ fn set_star(alloc: Global, set: &LinearSet) -> Result<Sequence<LinearSet>, Alloc
 }
 
 /// The sums of any number of the word.
-pub fn star_of_base(alloc: Global, base: &Bag) -> Result<LinearSet, AllocError>
+fn star_of_base(alloc: Global, base: &Bag) -> Result<LinearSet, AllocError>
     ensures { IfOk result (λ set. set_view set ≡ linear_set no_word (add_period_of most_tags [] (word_of base.now))) }
 {
     let mut periods = Sequence::new(alloc);
     add_period(&mut periods, base)?;
+    Ok(LinearSet {
+        base: Bag::empty(),
+        periods,
+    })
+}
+
+/// The finite sums of words of sets that have no periods.
+pub fn star_of_words(alloc: Global, sets: &[LinearSet]) -> Result<LinearSet, AllocError>
+    ensures { IfOk result (λ set. set_view set ≡ linear_set no_word (add_periods_of most_tags [] (map base_of (sets_view sets.now)))) }
+{
+    let mut periods = Sequence::new(alloc);
+    for set in sets {
+        add_period(&mut periods, &set.base)?;
+    }
     Ok(LinearSet {
         base: Bag::empty(),
         periods,

@@ -42,7 +42,7 @@ fn closed_value(
     }
 }
 
-/// For each number of a variable, from 0: the closed form of its value where that is a pattern, unless it is too large.
+/// By the numbers of variables, from 0: closed forms of values, where one is kept. Where none is, it is made when it is asked for.
 pub fn closed_values(
     alloc: Global,
     program: &Program,

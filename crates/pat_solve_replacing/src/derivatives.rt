@@ -1,11 +1,11 @@
 // The derivative by a variable.
 ghost use Rattle.std.specs.Prelude.{◌≡◌, ◌<◌, ◌+◌, ◌*◌, ◌∷◌, ℕ, List, Option, IfOk, OnOk, Some};
-ghost use Rattle.pat_words.specs.Patterns.{Pat};
+ghost use Rattle.pat_words.specs.Patterns.{Pat, Var};
 ghost use Rattle.pat_words.specs.Sizes.{size_of};
 ghost use Rattle.pat_patterns.specs.Views.{pattern_view};
 ghost use Rattle.pat_solving.specs.Assignments.{derivative as derivative_of};
 ghost use Rattle.pat_solve_sizes.specs.Limits.{within, prod_within};
-ghost use Rattle.pat_solve_sizes.specs.Views.{limited_view, parts_view};
+ghost use Rattle.pat_solve_sizes.specs.Views.{limited_view, measured_view, parts_view};
 ghost use Rattle.pat_solve_replacing.specs.Stacks.{joined, joined_one};
 ghost use Rattle.pat_solve_replacing.specs.Deriving.{product_slope as product_slope_of, star_slope as star_slope_of, is_zero_within, outcome, work};
 
@@ -28,8 +28,66 @@ pub enum Task<'p> {
     Star(&'p Pattern),
 }
 
+// So many levels of a pattern are walked down by calls, which take no memory. What is deeper stands on stacks.
+const MOST_CALLS: u32 = 64;
+
 /// The derivative of a pattern by a variable, by the simplifying forms, unless it is too large.
 pub fn derivative<'a>(
+    alloc: Global,
+    p: &Pattern,
+    variable: u32,
+) -> Result<Option<Part<'a>>, AllocError>
+    ensures { IfOk result (λ part. limited_view part ≡ within (derivative_of variable (pattern_view p.now))) }
+{
+    derivative_by_calls(alloc, p, variable, MOST_CALLS)
+}
+
+/// The same by at most so many calls, one in the other.
+#[tactic(auto, using(crate::proofs::Slopes::sum_slope_is, crate::proofs::Slopes::product_slope_is, crate::proofs::Slopes::star_slope_is))]
+fn derivative_by_calls<'a>(
+    alloc: Global,
+    p: &Pattern,
+    variable: u32,
+    calls: u32,
+) -> Result<Option<Part<'a>>, AllocError>
+    ensures { IfOk result (λ part. limited_view part ≡ within (derivative_of variable (pattern_view p.now))) }
+{
+    if calls == 0 {
+        return derivative_by_tasks(alloc, p, variable);
+    }
+    match p {
+        Pattern::Zero | Pattern::One | Pattern::Tag(_) => Ok(Some(Part::Made(Measured::zero()))),
+        Pattern::Var(number) => Ok(Some(Part::Made(slope_of(*number, variable)))),
+        Pattern::Sum(left, right) => {
+            let left = derivative_by_calls(alloc, left, variable, calls - 1)?;
+            let right = derivative_by_calls(alloc, right, variable, calls - 1)?;
+            sum(alloc, left, right)
+        }
+        Pattern::Prod(left, right) => {
+            let left_slope = derivative_by_calls(alloc, left, variable, calls - 1)?;
+            let right_slope = derivative_by_calls(alloc, right, variable, calls - 1)?;
+            product_slope(alloc, left, right, left_slope, right_slope)
+        }
+        Pattern::Star(part) => {
+            let slope = derivative_by_calls(alloc, part, variable, calls - 1)?;
+            star_slope(alloc, part, slope)
+        }
+    }
+}
+
+/// The derivative of a variable.
+fn slope_of(number: u32, variable: u32) -> Measured
+    ensures { measured_view result ≡ derivative_of variable (Var number) }
+{
+    if number == variable {
+        Measured::one()
+    } else {
+        Measured::zero()
+    }
+}
+
+/// The same by tasks on a stack.
+fn derivative_by_tasks<'a>(
     alloc: Global,
     p: &Pattern,
     variable: u32,
@@ -81,14 +139,7 @@ fn visit<'a, 'p>(
         Pattern::Zero | Pattern::One | Pattern::Tag(_) => {
             done.push(Some(Part::Made(Measured::zero())))
         }
-        Pattern::Var(number) => {
-            let slope = if *number == variable {
-                Measured::one()
-            } else {
-                Measured::zero()
-            };
-            done.push(Some(Part::Made(slope)))
-        }
+        Pattern::Var(number) => done.push(Some(Part::Made(slope_of(*number, variable)))),
         Pattern::Sum(left, right) => put_parts(tasks, Task::Sum, left, right),
         Pattern::Prod(left, right) => put_parts(tasks, Task::Product(left, right), left, right),
         Pattern::Star(part) => put_part(tasks, Task::Star(part), part),

@@ -11,7 +11,7 @@ use crate::joining::{join_product, join_star, join_sum};
 use crate::replacement::Replacement;
 use pat_patterns::Pattern;
 use pat_sequences::Stack;
-use pat_solve_sizes::{Measured, Part};
+use pat_solve_sizes::{Measured, Part, product, star, sum};
 use std::alloc::{AllocError, Global};
 
 /// What is still to be done.
@@ -27,8 +27,59 @@ pub enum Task<'p> {
     Star,
 }
 
+// So many levels of a pattern are walked down by calls, which take no memory. What is deeper stands on stacks.
+const MOST_CALLS: u32 = 64;
+
 /// The pattern with its variables replaced, all by the simplifying forms, unless it is too large.
 pub fn replaced<'a>(
+    alloc: Global,
+    p: &Pattern,
+    by: &Replacement<'a>,
+) -> Result<Option<Part<'a>>, AllocError>
+    requires { IsReplacement by.now }
+    ensures { IfOk result (λ part. limited_view part ≡ within (subst_of (replaced_by by.now) (pattern_view p.now))) }
+{
+    replaced_by_calls(alloc, p, by, MOST_CALLS)
+}
+
+/// The same by at most so many calls, one in the other.
+#[tactic(auto, using(crate::proofs::Turns::sum_turn, crate::proofs::Turns::prod_turn))]
+fn replaced_by_calls<'a>(
+    alloc: Global,
+    p: &Pattern,
+    by: &Replacement<'a>,
+    calls: u32,
+) -> Result<Option<Part<'a>>, AllocError>
+    requires { IsReplacement by.now }
+    ensures { IfOk result (λ part. limited_view part ≡ within (subst_of (replaced_by by.now) (pattern_view p.now))) }
+{
+    if calls == 0 {
+        return replaced_by_tasks(alloc, p, by);
+    }
+    match p {
+        Pattern::Zero => Ok(Some(Part::Made(Measured::zero()))),
+        Pattern::One => Ok(Some(Part::Made(Measured::one()))),
+        Pattern::Tag(tag) => Ok(Some(Part::Made(Measured::tag(*tag)))),
+        Pattern::Var(number) => Ok(Some(by.value_of(*number))),
+        Pattern::Sum(left, right) => {
+            let left = replaced_by_calls(alloc, left, by, calls - 1)?;
+            let right = replaced_by_calls(alloc, right, by, calls - 1)?;
+            sum(alloc, left, right)
+        }
+        Pattern::Prod(left, right) => {
+            let left = replaced_by_calls(alloc, left, by, calls - 1)?;
+            let right = replaced_by_calls(alloc, right, by, calls - 1)?;
+            product(alloc, left, right)
+        }
+        Pattern::Star(part) => {
+            let part = replaced_by_calls(alloc, part, by, calls - 1)?;
+            star(alloc, part)
+        }
+    }
+}
+
+/// The same by tasks on a stack.
+fn replaced_by_tasks<'a>(
     alloc: Global,
     p: &Pattern,
     by: &Replacement<'a>,

@@ -11,8 +11,7 @@ use pat_sequences::Stack;
 use pat_solve_replacing::find_variable;
 use std::alloc::{AllocError, Global};
 
-/// A place from `from` on, before which none of the variables from there on occurs in the pattern: that of the first one that
-/// does, or their number.
+/// A place from `from` on, or the number of variables: those from `from` on that stand before it don't occur in the pattern.
 pub fn next_place(
     alloc: Global,
     p: &Pattern,

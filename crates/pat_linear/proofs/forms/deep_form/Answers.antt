@@ -4,7 +4,7 @@ use Rattle.pat_patterns.specs.Views.{pattern_view}
 use Rattle.pat_inclusions.specs.Counts.{most_tags}
 use Rattle.pat_linear.specs.Views.{forms_view}
 use Rattle.pat_linear.proofs.Standing.{begun, can_join, refused}
-use Rattle.pat_linear.proofs.forms.form_of.Goals as goal
+use Rattle.pat_linear.proofs.forms.deep_form.Goals as goal
 
 pub loop-head-init : goal.loop-head-init
 loop-head-init c =

@@ -1,14 +1,14 @@
 use Rattle.std.proofs.Common.{◌≡◌, [], ◌∷◌}
-use Rattle.pat_words.specs.Patterns.{subst_of}
 use Rattle.pat_patterns.specs.Views.{pattern_view}
+use Rattle.pat_solving.specs.Assignments.{derivative}
 use Rattle.pat_solve_sizes.specs.Limits.{within}
 use Rattle.pat_solve_sizes.specs.Views.{parts_view}
-use Rattle.pat_solve_replacing.specs.Replacing.{replaced_by, outcome, work}
-use Rattle.pat_solve_replacing.proofs.replacing.replaced.Given as goal
+use Rattle.pat_solve_replacing.specs.Deriving.{outcome, work}
+use Rattle.pat_solve_replacing.proofs.derivatives.derivative_by_tasks.Given as goal
 
 abbrev pub invariant-loop-task : goal.invariant-loop-task
 invariant-loop-task l =
-    outcome (replaced_by l.by) l.tasks (parts_view l.done) ≡ within (subst_of (replaced_by l.by) (pattern_view l.p)) ∷ []
+    outcome l.variable l.tasks (parts_view l.done) ≡ within (derivative l.variable (pattern_view l.p)) ∷ []
 
 abbrev pub decreases-loop-task : goal.decreases-loop-task
 decreases-loop-task l = work l.tasks
