@@ -1,9 +1,9 @@
 -- Points as numbers: what the loops over digits need.
-use Rattle.std.proofs.Common.{◌≡◌, ℕ, zero, suc, ◌+◌, ◌-◌, ◌*◌, ◌/◌, ◌%◌, ◌^◌, ◌<◌, ◌≤◌, min, true, List, length, length-set, get_or, set, replicate, ⊎_elim, refl, sym, ap, ap₂, ◌∙◌, subst, arith}
+use Rattle.std.proofs.Common.{◌≡◌, ℕ, zero, suc, ◌+◌, ◌-◌, ◌*◌, ◌/◌, ◌%◌, ◌^◌, ◌<◌, ◌≤◌, min, true, List, length, length-set, get_or, set, replicate, ⊎_elim, refl, sym, ap, ap₂, ◌∙◌, subst, arith, suc-mul, mul-le-mul_right}
 use Rattle.std.specs.Prelude.{nat_eq, nat_le}
 use Rattle.std.proofs.lemmas.Bool.{and_parts, leb-true, cases_eq, cases_lt, cond-true, cond-false, eq-eqb, ne_eqb}
 use Rattle.std.proofs.lemmas.List.{get_or-set_same, get_or-set_other, get_or-replicate, length-replicate, get_or_past}
-use Rattle.std.proofs.Math.Nat.{pow-le-pow_right, pow-le-pow_left}
+use Rattle.std.proofs.Math.Nat.{pow-le-pow_right, pow-le-pow_left, pow-suc, mul_comm, mul_assoc, add-mul, mul-le-mul_left, one-le-pow}
 use Rattle.pat_words.specs.Words.{Word, plus}
 use Rattle.pat_words.specs.Cuts.{cut_at}
 use Rattle.pat_inclusions.specs.Points.{grid_fits}
@@ -97,9 +97,6 @@ first_digits : (k m c t : ℕ) → t < m → point_of k (suc m) c t ≡ point_of
 first_digits k m c t l =
     cond-false (nat_eq t m) (c % (k + 1)) (point_of k m (c / (k + 1)) t) (ne_eqb t m (λ e. absurd (omega arith)))
 
-pub summed_none : (k v w n : ℕ) → n ≡ 0 → 0 ≡ summed k n v w
-summed_none k v w n e = sym (ap (λ m. summed k m v w) e)
-
 pub summed_one : (k v w m n : ℕ) → n ≡ suc m → summed k m (v / (k + 1)) (w / (k + 1)) * (k + 1) + min (v % (k + 1) + w % (k + 1)) k ≡ summed k n v w
 summed_one k v w m n e =
     ap₂ (λ x y. x * (k + 1) + y)
@@ -111,16 +108,68 @@ summed_one k v w m n e =
 pub summed_below : (k n v w : ℕ) → summed k n v w < points_in k n
 summed_below k n v w = number_below k n (cut_at k (plus (point_of k n v) (point_of k n w))) (λ t. omega arith)
 
-pub summed_whole : (k v w n a d : ℕ) → (n ≡ 0 → ⊥) → a ≡ summed k (n - 1) (v / (k + 1)) (w / (k + 1)) → d ≡ min (v % (k + 1) + w % (k + 1)) k → a * (k + 1) + d ≡ summed k n v w
-summed_whole k v w n a d z above digit =
-    ap₂ (λ x y. x * (k + 1) + y) above digit ∙ summed_one k v w (n - 1) n (omega arith)
+-- the digits from the last one on are added; those of the first tags are to come
+pub record Adding (k n first second left one other number worth : ℕ) : Type 0 where
+  pub within : left ≤ n
+  pub worths : worth * points_in k left ≡ points_in k n
+  pub small : number < worth
+  pub sums : summed k left one other * worth + number ≡ summed k n first second
 
--- so nothing wraps
-pub summed_room : (k v w n a : ℕ) → (n ≡ 0 → ⊥) → points_in k n < 65537 → a ≡ summed k (n - 1) (v / (k + 1)) (w / (k + 1)) → a * (k + 1) + min (v % (k + 1) + w % (k + 1)) k < 65537
-summed_room k v w n a z f above =
-    let e = summed_whole k v w n a (min (v % (k + 1) + w % (k + 1)) k) z above refl in
-    let l = summed_below k n v w in
-    omega arith
+pub added_none : (k n first second : ℕ) → Adding k n first second n first second 0 1
+added_none k n first second = record {
+  within = omega arith;
+  worths = omega arith;
+  small = omega arith;
+  sums = omega arith;
+}
+
+module _ (k n first second left one other number worth : ℕ) (h : Adding k n first second left one other number worth) where
+  pub added_all : left ≡ 0 → number ≡ summed k n first second
+  added_all e = let none = ap (λ i. summed k i one other * worth) e in let s = h.sums in omega arith
+
+  -- nothing wraps
+  pub adding_room : 0 < left → worth * (k + 1) ≤ points_in k n
+  adding_room l =
+      let e : left ≡ suc (left - 1) = omega arith in
+      let power = ap (points_in k) e ∙ pow-suc (k + 1) (left - 1) in
+      let some : 1 ≤ points_in k (left - 1) = one-le-pow (left - 1) (k + 1) (omega arith) in
+      let more : 1 * (k + 1) ≤ points_in k (left - 1) * (k + 1) = mul-le-mul_right (k + 1) some in
+      let grown = mul-le-mul_left worth more in
+      let is = ap (λ i. worth * i) power in
+      let one_is = ap (λ i. worth * i) (let e : 1 * (k + 1) ≡ k + 1 = omega arith in e) in
+      let w = h.worths in
+      omega arith
+
+  pub adding_small : (d : ℕ) → d ≤ k → number + d * worth < worth * (k + 1)
+  adding_small d l =
+      let at_most = mul-le-mul_right worth l in
+      let is = mul_comm worth (k + 1) in
+      let more = suc-mul k worth in
+      let same : suc k * worth ≡ (k + 1) * worth = ap (λ i. i * worth) (let e : suc k ≡ k + 1 = omega arith in e) in
+      let s = h.small in
+      omega arith
+
+  pub added_next : (d : ℕ) → 0 < left → d ≡ min (one % (k + 1) + other % (k + 1)) k → Adding k n first second (left - 1) (one / (k + 1)) (other / (k + 1)) (number + d * worth) (worth * (k + 1))
+  added_next d l digit =
+      let e : left ≡ suc (left - 1) = omega arith in
+      let i = h.within in
+      record {
+        within = omega arith;
+        worths =
+            mul_assoc worth (k + 1) (points_in k (left - 1))
+            ∙ ap (λ i. worth * i) (mul_comm (k + 1) (points_in k (left - 1)) ∙ sym (pow-suc (k + 1) (left - 1)) ∙ ap (points_in k) (sym e))
+            ∙ h.worths;
+        small = adding_small d (omega arith);
+        sums =
+            let whole = summed_one k one other (left - 1) left e in
+            let above = summed k (left - 1) (one / (k + 1)) (other / (k + 1)) in
+            let turned = ap (λ i. above * i) (mul_comm worth (k + 1)) ∙ sym (mul_assoc above (k + 1) worth) in
+            let both = add-mul (above * (k + 1)) d worth in
+            let same = ap (λ i. (above * (k + 1) + i) * worth) digit in
+            let is = ap (λ i. i * worth) whole in
+            let s = h.sums in
+            omega arith;
+      }
 
 -- ---- the loop over the digits of a number
 

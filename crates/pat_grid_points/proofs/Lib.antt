@@ -2,4 +2,4 @@ pub mod Digits
 pub mod Sets
 pub mod Members
 mod Listed
-mod Blocks
+mod InBlocks

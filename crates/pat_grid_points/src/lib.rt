@@ -7,6 +7,7 @@ ghost use Rattle.pat_words.specs.Languages.{MemberOf};
 ghost use Rattle.pat_grid_points.specs.declared.grid.Grid.{Grid as GridValue};
 ghost use Rattle.pat_grid_points.specs.Views.{HasPoint, points_of};
 
+mod blocks;
 mod grid;
 mod making;
 mod numbers;

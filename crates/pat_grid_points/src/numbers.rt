@@ -51,10 +51,18 @@ pub fn sum_of(first: usize, second: usize, k: u32, tags: u8) -> usize
     requires { points_in k tags < 65537 }
     ensures { result ≡ summed k tags first second }
 {
-    if tags == 0 {
-        return 0;
-    }
     let base = k as usize + 1;
-    let above = sum_of(first / base, second / base, k, tags - 1);
-    above * base + (first % base + second % base).min(k as usize)
+    let mut one = first;
+    let mut other = second;
+    let mut number = 0;
+    let mut worth = 1;
+    let mut left = tags;
+    while left > 0 {
+        left -= 1;
+        number += (one % base + other % base).min(k as usize) * worth;
+        one /= base;
+        other /= base;
+        worth *= base;
+    }
+    number
 }

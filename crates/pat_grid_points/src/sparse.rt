@@ -1,21 +1,20 @@
 // Lists most of whose items are the same.
-ghost use Rattle.std.specs.Prelude.{◌≡◌, ◌<◌, ◌≤◌, ◌+◌, ◌/◌, ◌++◌, ℕ, length, get_or, set, replicate, take, IfOk, OnOk, OnErr, IfSome, IfNone};
+ghost use Rattle.std.specs.Prelude.{◌≡◌, ◌<◌, ◌≤◌, ◌+◌, ◌/◌, ℕ, length, get_or, set, replicate, IfOk, OnOk, OnErr, IfSome, IfNone};
 ghost use Rattle.pat_grid_points.specs.Sparse.{sparse, AreBlocks};
 
+use crate::blocks::{BLOCK, BlockList, copies, repeat_first};
 use pat_sequences::Sequence;
 use std::alloc::{AllocError, Global};
 use std::marker::Model;
 
-/// The number of items of a block.
-const BLOCK: usize = 32;
-
-/// A list most of whose items are the same: memory and time go to the blocks that have others. Contracts see the list.
+/// A list most of whose items are the same: memory and time go to the blocks that have others, and to one number for each block of
+/// blocks. Contracts see the list.
 #[derive(Drop)]
 pub struct SparseList<T> {
     count: usize,
     common: T,
     /// Of each block of the list the number of the one that has its items.
-    starts: Sequence<usize>,
+    starts: BlockList<usize>,
     /// Blocks one after another. The first has the common item alone, and stands for each block that has nothing else.
     blocks: Sequence<T>,
 }
@@ -36,9 +35,9 @@ impl<T: Copy + Drop> SparseList<T> {
     pub fn repeat(alloc: Global, common: T, count: usize) -> Result<SparseList<T>, AllocError>
         ensures { IfOk result (λ list. list ≡ replicate count common) }
     {
-        let starts = vec![in alloc; 0; count / BLOCK + 1]?;
+        let starts = BlockList::repeat(alloc, 0, count / BLOCK + 1)?;
         let blocks = copies(alloc, common)?;
-        let list = of_blocks(count, common, Sequence::from_vec(starts), blocks);
+        let list = of_blocks(count, common, starts, blocks);
         Ok(list)
     }
 
@@ -54,7 +53,7 @@ impl<T: Copy + Drop> SparseList<T> {
         requires { place < length self.now }
         ensures { (d : T) → get_or self.now place d ≡ result }
     {
-        let start = self.starts.as_slice()[place / BLOCK];
+        let start = self.starts.get(place / BLOCK);
         self.blocks.as_slice()[start * BLOCK + place % BLOCK]
     }
 
@@ -66,7 +65,7 @@ impl<T: Copy + Drop> SparseList<T> {
     {
         let block = place / BLOCK;
         begin(&mut self.starts, &mut self.blocks, block)?;
-        let start = self.starts.as_slice()[block];
+        let start = self.starts.get(block);
         self.blocks.items[start * BLOCK + place % BLOCK] = item;
         Ok(())
     }
@@ -79,11 +78,10 @@ impl<T: Copy + Drop> SparseList<T> {
         ensures same { (i : ℕ) (d : T) → place ≤ i → i < result → get_or self.now i d ≡ get_or self.now place d }
     {
         let block = place / BLOCK;
-        let starts = self.starts.as_slice();
-        if starts[block] != 0 {
+        if self.starts.get(block) != 0 {
             return place + 1;
         }
-        match next_begun(starts, block) {
+        match next_begun(&self.starts, block) {
             Some(next) => next * BLOCK,
             None => self.count,
         }
@@ -94,11 +92,11 @@ impl<T: Copy + Drop> SparseList<T> {
 fn of_blocks<T: Copy + Drop>(
     count: usize,
     common: T,
-    starts: Sequence<usize>,
+    starts: BlockList<usize>,
     blocks: Sequence<T>,
 ) -> SparseList<T>
-    requires starts { starts ≡ replicate (count / 32 + 1) 0 }
-    requires blocks { blocks ≡ replicate 32 common }
+    requires starts { starts ≡ replicate (count / 16 + 1) 0 }
+    requires blocks { blocks ≡ replicate 16 common }
     ensures { result ≡ replicate count common }
 {
     SparseList {
@@ -109,56 +107,44 @@ fn of_blocks<T: Copy + Drop>(
     }
 }
 
-/// A block of the item alone.
-fn copies<T: Copy + Drop>(alloc: Global, item: T) -> Result<Sequence<T>, AllocError>
-    ensures { IfOk result (λ items. items ≡ replicate 32 item) }
-{
-    let mut items = Sequence::new(alloc);
-    for _ in 0..BLOCK {
-        items.push(item)?;
-    }
-    Ok(items)
-}
-
 /// Gives the block items of its own, if it has none. They are the common ones first.
 fn begin<T: Copy + Drop>(
-    starts: &mut Sequence<usize>,
+    starts: &mut BlockList<usize>,
     blocks: &mut Sequence<T>,
     block: usize,
 ) -> Result<(), AllocError>
     requires there { block < length starts.old }
-    requires first { 32 ≤ length blocks.old }
+    requires first { 16 ≤ length blocks.old }
     ensures ok { (count : ℕ) (common : T) → AreBlocks count common starts.old blocks.old → OnOk result (AreBlocks count common starts.new blocks.new × (sparse count common starts.new blocks.new ≡ sparse count common starts.old blocks.old) × (get_or starts.new block 0 ≡ 0 → ⊥)) }
     ensures err { OnErr result ((starts.new ≡ starts.old) × (blocks.new ≡ blocks.old)) }
 {
-    if starts.as_slice()[block] != 0 {
+    if starts.get(block) != 0 {
         return Ok(());
     }
-    let start = blocks.len() / BLOCK;
+    let count = blocks.len();
     repeat_first(blocks)?;
-    starts.items[block] = start;
-    Ok(())
-}
-
-/// Appends a copy of the first block.
-fn repeat_first<T: Copy + Drop>(blocks: &mut Sequence<T>) -> Result<(), AllocError>
-    requires { 32 ≤ length blocks.old }
-    ensures ok { OnOk result (blocks.new ≡ blocks.old ++ take 32 blocks.old) }
-    ensures err { OnErr result (blocks.new ≡ blocks.old) }
-{
-    blocks.items.extend_from_within(0..BLOCK)
+    match starts.set(block, count / BLOCK) {
+        Ok(()) => Ok(()),
+        Err(error) => {
+            blocks.items.truncate(count);
+            Err(error)
+        }
+    }
 }
 
 /// The first block past this one that has items of its own.
-fn next_begun(starts: &[usize], block: usize) -> Option<usize>
+fn next_begun(starts: &BlockList<usize>, block: usize) -> Option<usize>
     requires { block < length starts.now }
     ensures some { IfSome result (λ next. (block < next) × (next < length starts.now) × ((a : ℕ) → block < a → a < next → get_or starts.now a 0 ≡ 0)) }
     ensures none { IfNone result ((a : ℕ) → block < a → get_or starts.now a 0 ≡ 0) }
 {
-    for next in block + 1..starts.len() {
-        if starts[next] != 0 {
+    let count = starts.len();
+    let mut next = block + 1;
+    while next < count {
+        if starts.get(next) != 0 {
             return Some(next);
         }
+        next = starts.same_until(next);
     }
     None
 }

@@ -1,35 +1,35 @@
 // Lists of the numbers that are looked at.
-ghost use Rattle.std.specs.Prelude.{◌≡◌, ◌<◌, ◌≤◌, ◌++◌, ◌∷◌, [], IfOk, OnOk, if◌then◌else◌};
+ghost use Rattle.std.specs.Prelude.{◌≡◌, ◌<◌, ◌≤◌, ◌++◌, ◌∷◌, [], OnOk, if◌then◌else◌};
 ghost use Rattle.pat_bounds.specs.Tables.{IsKnown};
 ghost use Rattle.pat_bounds.specs.Numbers.{HasAllEntries};
 ghost use Rattle.pat_grid_tables.specs.Views.{setting_of, IsBoard};
 ghost use Rattle.pat_grid_tables.specs.Moves.{entry_at, HasLists, Lists};
 
 use crate::board::Board;
-use crate::sizes::{Sizes, reached_at};
+use crate::sizes::{Sizes, forget, reached_at};
 use pat_sequences::Sequence;
-use std::alloc::{AllocError, Global};
+use std::alloc::AllocError;
 
-/// The numbers from `from` on at which the symbol has a tree.
+/// Lists the numbers from `from` on at which the symbol has a tree, in place of what was listed.
 pub fn known(
-    alloc: Global,
     board: &Board,
     sizes: &Sizes,
     s: usize,
     from: usize,
-) -> Result<Sequence<usize>, AllocError>
+    numbers: &mut Sequence<usize>,
+) -> Result<(), AllocError>
     requires board { IsBoard board.now }
     requires all { HasAllEntries (setting_of board.now) sizes.now.entries }
     requires lists { HasLists (setting_of board.now) sizes.now }
-    ensures { let g = setting_of board.now in IfOk result (λ numbers. Lists (λ c. IsKnown g.limit (entry_at g sizes.now.entries s c)) from board.now.points numbers) }
+    ensures { let g = setting_of board.now in OnOk result (Lists (λ c. IsKnown g.limit (entry_at g sizes.now.entries s c)) from board.now.points numbers.new) }
 {
     let reached = reached_at(sizes, s);
-    let mut numbers = Sequence::new(alloc);
+    forget(numbers);
     for number in reached {
         let number = *number as usize;
-        push_if(number >= from, number, &mut numbers)?;
+        push_if(number >= from, number, numbers)?;
     }
-    Ok(numbers)
+    Ok(())
 }
 
 /// Appends the number, if it is asked for.

@@ -6,7 +6,7 @@ ghost use Rattle.pat_grid_tables.specs.Views.{setting_of, IsBoard};
 ghost use Rattle.pat_grid_tables.specs.Waiting.{HasUsers, Begins, Stands, with_waits, Looked, Passed};
 
 use crate::board::Board;
-use crate::sizes::{Sizes, empty_lists, forget};
+use crate::sizes::{Scratch, Sizes, empty_lists, forget};
 use crate::symbols::relax_symbol;
 use crate::users::users_of;
 use pat_grid_points::SparseList;
@@ -23,9 +23,19 @@ pub fn least_sizes(alloc: Global, board: &Board) -> Result<SparseList<u16>, Allo
 {
     let users = users_of(alloc, board)?;
     let mut sizes = unknown_sizes(alloc, board)?;
+    let mut scratch = Scratch {
+        firsts: Sequence::new(alloc),
+        seconds: Sequence::new(alloc),
+    };
     let mut waits = vec![in alloc; true; board.symbols.len()]?;
     loop {
-        let changed = pass(alloc, board, users.as_slice(), &mut sizes, &mut waits)?;
+        let changed = pass(
+            board,
+            users.as_slice(),
+            &mut sizes,
+            &mut scratch,
+            &mut waits,
+        )?;
         if !changed {
             return Ok(sizes.entries);
         }
@@ -62,10 +72,10 @@ fn unknown_entries(alloc: Global, board: &Board) -> Result<SparseList<u16>, Allo
 
 /// Looks once at each symbol that waits, and says whether an entry was lowered.
 fn pass(
-    alloc: Global,
     board: &Board,
     users: &[Sequence<usize>],
     sizes: &mut Sizes,
+    scratch: &mut Scratch,
     waits: &mut [bool],
 ) -> Result<bool, AllocError>
     requires board { IsBoard board.now }
@@ -75,18 +85,18 @@ fn pass(
 {
     let mut changed = false;
     for s in 0..board.symbols.len() {
-        look(alloc, board, users, s, sizes, waits, &mut changed)?;
+        look(board, users, s, sizes, scratch, waits, &mut changed)?;
     }
     Ok(changed)
 }
 
 /// Looks at the symbol, if it waits. Where an entry is lowered, those that are made of it wait.
 fn look(
-    alloc: Global,
     board: &Board,
     users: &[Sequence<usize>],
     s: usize,
     sizes: &mut Sizes,
+    scratch: &mut Scratch,
     waits: &mut [bool],
     changed: &mut bool,
 ) -> Result<(), AllocError>
@@ -102,7 +112,7 @@ fn look(
     }
     let mut lowered = false;
     forget(&mut sizes.news);
-    relax_symbol(alloc, board, sizes, s, &mut lowered)?;
+    relax_symbol(board, sizes, scratch, s, &mut lowered)?;
     if lowered {
         let numbers = users_at(users, s);
         let_wait(numbers, waits);

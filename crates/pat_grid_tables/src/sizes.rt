@@ -19,6 +19,13 @@ pub struct Sizes {
     pub news: Sequence<usize>,
 }
 
+/// Lists of numbers that each look fills anew, so that memory is taken for them once.
+#[derive(Drop)]
+pub struct Scratch {
+    pub firsts: Sequence<usize>,
+    pub seconds: Sequence<usize>,
+}
+
 /// The numbers at which the symbol has a tree.
 pub fn reached_at<'a>(sizes: &'a Sizes, s: usize) -> &'a [u16]
     ensures { result.now ≡ get_or sizes.now.reached s [] }
@@ -63,24 +70,25 @@ pub fn empty_lists<T: Drop>(
 ) -> Result<Sequence<Sequence<T>>, AllocError>
     ensures { IfOk result (λ lists. lists ≡ replicate count []) }
 {
-    let mut lists = Sequence::new(alloc);
+    let mut lists = Sequence::from_vec(Vec::with_capacity(alloc, count)?);
     for _ in 0..count {
         lists.push(Sequence::new(alloc))?;
     }
     Ok(lists)
 }
 
-/// From now on nothing is new.
-pub fn forget(news: &mut Sequence<usize>)
-    ensures { news.new ≡ [] }
+/// From now on nothing is listed.
+pub fn forget(numbers: &mut Sequence<usize>)
+    ensures { numbers.new ≡ [] }
 {
-    news.items.clear();
+    numbers.items.clear();
 }
 
-/// What is new; from now on nothing is.
-pub fn take(alloc: Global, news: &mut Sequence<usize>) -> Sequence<usize>
-    ensures old { result ≡ news.old }
+/// Lists what is new, in place of what was listed; from now on nothing is new.
+pub fn take(news: &mut Sequence<usize>, numbers: &mut Sequence<usize>)
+    ensures old { numbers.new ≡ news.old }
     ensures now { news.new ≡ [] }
 {
-    mem::replace(news, Sequence::new(alloc))
+    forget(numbers);
+    mem::swap(news, numbers);
 }

@@ -9,7 +9,8 @@ use crate::entries::{entry, lower};
 use crate::listing::known;
 use crate::sizes::Sizes;
 use pat_grid_points::sum_of;
-use std::alloc::{AllocError, Global};
+use pat_sequences::Sequence;
+use std::alloc::AllocError;
 
 /// The size of a tree with one part of this size, as far as it is told.
 fn one_more(board: &Board, size: u32) -> u16
@@ -21,9 +22,9 @@ fn one_more(board: &Board, size: u32) -> u16
 
 /// Lowers the entries of symbol `s` to what its part gives.
 pub fn relax_part(
-    alloc: Global,
     board: &Board,
     sizes: &mut Sizes,
+    listed: &mut Sequence<usize>,
     s: usize,
     part: usize,
     changed: &mut bool,
@@ -35,7 +36,7 @@ pub fn relax_part(
     requires takes { TakesPart (setting_of board.now) s part }
     ensures { let g = setting_of board.now in OnOk result (Moved g s (part ≡ s → ⊥) (PartBefore g s part board.now.points) sizes.old changed.old sizes.new changed.new) }
 {
-    let listed = known(alloc, board, sizes, part, 0)?;
+    known(board, sizes, part, 0, listed)?;
     let numbers = listed.as_slice();
     for number in numbers {
         relax_part_at(board, sizes, s, part, *number, changed)?;

@@ -11,18 +11,19 @@ ghost use Rattle.pat_grid_tables.specs.Waiting.{IsNoPart};
 use crate::board::Board;
 use crate::entries::lower;
 use crate::listing::known;
-use crate::sizes::{Sizes, take};
+use crate::sizes::{Scratch, Sizes, take};
 use crate::steps::{relax_part, relax_parts, relax_row};
 use pat_bags::Bag;
 use pat_grid_points::{SparseList, next_held, number_of};
 use pat_grid_symbols::Symbol;
-use std::alloc::{AllocError, Global};
+use pat_sequences::Sequence;
+use std::alloc::AllocError;
 
 /// Lowers the entries of the symbol to what its steps give.
 pub fn relax_symbol(
-    alloc: Global,
     board: &Board,
     sizes: &mut Sizes,
+    scratch: &mut Scratch,
     s: usize,
     changed: &mut bool,
 ) -> Result<(), AllocError>
@@ -36,13 +37,28 @@ pub fn relax_symbol(
         Symbol::Zero => Ok(()),
         Symbol::One => relax_one(board, sizes, s, changed),
         Symbol::Tag(tag) => relax_tag(board, sizes, s, tag, changed),
-        Symbol::Sum(left, right) => relax_sum(alloc, board, sizes, s, left, right, changed),
-        Symbol::Prod(first, second) => {
-            relax_product(alloc, board, sizes, s, (first, second), changed)
+        Symbol::Sum(left, right) => {
+            relax_sum(board, sizes, &mut scratch.firsts, s, left, right, changed)
         }
-        Symbol::Star(part) => relax_star(alloc, board, sizes, s, part, changed),
+        Symbol::Prod(first, second) => {
+            let firsts = &mut scratch.firsts;
+            let seconds = &mut scratch.seconds;
+            relax_product(board, sizes, firsts, seconds, s, (first, second), changed)
+        }
+        Symbol::Star(part) => {
+            let firsts = &mut scratch.firsts;
+            let seconds = &mut scratch.seconds;
+            relax_star(board, sizes, firsts, seconds, s, part, changed)
+        }
         Symbol::Lower(variable) => {
-            relax_lower(alloc, board, sizes, s, variable as usize, changed)
+            relax_lower(
+                board,
+                sizes,
+                &mut scratch.firsts,
+                s,
+                variable as usize,
+                changed,
+            )
         }
         Symbol::Given(variable) => relax_given(board, sizes, s, variable as usize, changed),
     }
@@ -89,9 +105,9 @@ fn relax_tag(
 }
 
 fn relax_sum(
-    alloc: Global,
     board: &Board,
     sizes: &mut Sizes,
+    listed: &mut Sequence<usize>,
     s: usize,
     left: usize,
     right: usize,
@@ -104,14 +120,15 @@ fn relax_sum(
     requires symbol { symbol_in (setting_of board.now).flat s ≡ SumSymbol left right }
     ensures { OnOk result (Moved (setting_of board.now) s (IsNoPart (setting_of board.now) s) (ClosedAt (setting_of board.now) s) sizes.old changed.old sizes.new changed.new) }
 {
-    relax_part(alloc, board, sizes, s, left, changed)?;
-    relax_part(alloc, board, sizes, s, right, changed)
+    relax_part(board, sizes, listed, s, left, changed)?;
+    relax_part(board, sizes, listed, s, right, changed)
 }
 
 fn relax_product(
-    alloc: Global,
     board: &Board,
     sizes: &mut Sizes,
+    firsts: &mut Sequence<usize>,
+    seconds: &mut Sequence<usize>,
     s: usize,
     parts: (usize, usize),
     changed: &mut bool,
@@ -123,8 +140,8 @@ fn relax_product(
     requires symbol { symbol_in (setting_of board.now).flat s ≡ ProdSymbol parts.0 parts.1 }
     ensures { OnOk result (Moved (setting_of board.now) s (IsNoPart (setting_of board.now) s) (ClosedAt (setting_of board.now) s) sizes.old changed.old sizes.new changed.new) }
 {
-    let firsts = known(alloc, board, sizes, parts.0, 0)?;
-    let seconds = known(alloc, board, sizes, parts.1, 0)?;
+    known(board, sizes, parts.0, 0, firsts)?;
+    known(board, sizes, parts.1, 0, seconds)?;
     relax_parts(
         board,
         sizes,
@@ -139,9 +156,10 @@ fn relax_product(
 /// A star is the end, or a word of its part that isn't empty and then the star. What is reached or
 /// lowered is gone on from at once.
 fn relax_star(
-    alloc: Global,
     board: &Board,
     sizes: &mut Sizes,
+    listed: &mut Sequence<usize>,
+    seconds: &mut Sequence<usize>,
     s: usize,
     part: usize,
     changed: &mut bool,
@@ -153,20 +171,20 @@ fn relax_star(
     requires symbol { symbol_in (setting_of board.now).flat s ≡ StarSymbol part }
     ensures { OnOk result (Moved (setting_of board.now) s (IsNoPart (setting_of board.now) s) (ClosedAt (setting_of board.now) s) sizes.old changed.old sizes.new changed.new) }
 {
-    let listed = known(alloc, board, sizes, part, 1)?;
+    known(board, sizes, part, 1, listed)?;
     let firsts = listed.as_slice();
     lower(board, sizes, s, 0, 1, changed)?;
     for first in firsts {
-        relax_turn(alloc, board, sizes, s, part, *first, changed)?;
+        relax_turn(board, sizes, seconds, s, part, *first, changed)?;
     }
     Ok(())
 }
 
 /// So by one number of the part: from all points at which the star has a tree, and from those that are lowered then.
 fn relax_turn(
-    alloc: Global,
     board: &Board,
     sizes: &mut Sizes,
+    listed: &mut Sequence<usize>,
     s: usize,
     part: usize,
     first: usize,
@@ -179,17 +197,17 @@ fn relax_turn(
     requires takes { TakesParts (setting_of board.now) s part s first }
     ensures { OnOk result (Moved (setting_of board.now) s ⊥ (WholeRow (setting_of board.now) s part s first) sizes.old changed.old sizes.new changed.new) }
 {
-    let listed = known(alloc, board, sizes, s, 0)?;
+    known(board, sizes, s, 0, listed)?;
     let seconds = listed.as_slice();
     relax_row(board, sizes, s, (part, s), first, seconds, changed)?;
-    go_on(alloc, board, sizes, s, part, first, changed)
+    go_on(board, sizes, listed, s, part, first, changed)
 }
 
 /// Goes on from where entries were lowered, until none is.
 fn go_on(
-    alloc: Global,
     board: &Board,
     sizes: &mut Sizes,
+    listed: &mut Sequence<usize>,
     s: usize,
     part: usize,
     first: usize,
@@ -203,17 +221,17 @@ fn go_on(
     ensures { OnOk result (Moved (setting_of board.now) s ⊥ (λ es. Unit {0}) sizes.old changed.old sizes.new changed.new) }
 {
     while !sizes.news.is_empty() {
-        let news = take(alloc, &mut sizes.news);
-        let seconds = news.as_slice();
+        take(&mut sizes.news, listed);
+        let seconds = listed.as_slice();
         relax_row(board, sizes, s, (part, s), first, seconds, changed)?;
     }
     Ok(())
 }
 
 fn relax_lower(
-    alloc: Global,
     board: &Board,
     sizes: &mut Sizes,
+    listed: &mut Sequence<usize>,
     s: usize,
     variable: usize,
     changed: &mut bool,
@@ -225,7 +243,7 @@ fn relax_lower(
     requires symbol { symbol_in (setting_of board.now).flat s ≡ LowerSymbol variable }
     ensures { OnOk result (Moved (setting_of board.now) s (IsNoPart (setting_of board.now) s) (ClosedAt (setting_of board.now) s) sizes.old changed.old sizes.new changed.new) }
 {
-    relax_part(alloc, board, sizes, s, root_of(board, variable), changed)
+    relax_part(board, sizes, listed, s, root_of(board, variable), changed)
 }
 
 /// The number of the symbol of the variable's lower bound; past all symbols where there is none.

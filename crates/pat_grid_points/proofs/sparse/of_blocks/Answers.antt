@@ -1,13 +1,13 @@
 use Rattle.std.proofs.Common.{◌+◌, ◌/◌, ◌∙◌, sym, subst, replicate, ap₂}
 use Rattle.pat_grid_points.specs.Sparse.{sparse, AreBlocks}
-use Rattle.pat_grid_points.proofs.Blocks.{repeated, repeats}
+use Rattle.pat_grid_points.proofs.InBlocks.{repeated, repeats}
 use Rattle.pat_grid_points.proofs.sparse.of_blocks.Goals as goal
 
 pub invariant_of-result : goal.invariant_of-result
 invariant_of-result g c =
     let a = c.args in
     subst (λ xs. AreBlocks a.count a.common xs a.blocks) (sym c.requires.starts)
-    (subst (λ xs. AreBlocks a.count a.common (replicate (a.count / 32 + 1) 0) xs) (sym c.requires.blocks) (repeated a.count a.common c.ranges.count.fits))
+    (subst (λ xs. AreBlocks a.count a.common (replicate (a.count / 16 + 1) 0) xs) (sym c.requires.blocks) (repeated a.count a.common c.ranges.count.fits))
 
 pub returns : goal.returns
 returns g c =

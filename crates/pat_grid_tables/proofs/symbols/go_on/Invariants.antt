@@ -3,8 +3,8 @@ use Rattle.pat_grid_tables.specs.Views.{setting_of}
 use Rattle.pat_grid_tables.specs.Moves.{total, Moved}
 use Rattle.pat_grid_tables.proofs.symbols.go_on.Given as goal
 
-abbrev pub invariant-loop-alloc : goal.invariant-loop-alloc
-invariant-loop-alloc l = Moved (setting_of l.board) l.s ⊥ (λ es. Unit {0}) l.initial.sizes l.initial.changed l.sizes l.changed
+abbrev pub invariant-loop-sizes : goal.invariant-loop-sizes
+invariant-loop-sizes l = Moved (setting_of l.board) l.s ⊥ (λ es. Unit {0}) l.initial.sizes l.initial.changed l.sizes l.changed
 
-abbrev pub decreases-loop-alloc : goal.decreases-loop-alloc
-decreases-loop-alloc l = total l.sizes.entries + length l.sizes.news
+abbrev pub decreases-loop-sizes : goal.decreases-loop-sizes
+decreases-loop-sizes l = total l.sizes.entries + length l.sizes.news

@@ -30,7 +30,7 @@ pub relax_turn-requires-clause-place : goal.relax_turn-requires-clause-place
 relax_turn-requires-clause-place c =
     let b = c.args.board.now in
     let g = setting_of b in
-    let lists = subst (Lists (λ i. IsKnown g.limit (entry_at g c.args.sizes.now.entries c.args.part i)) 1 b.points) (sym c.as_slice-firsts.ensures) c.in_ok-listed.ensures in
+    let lists = subst (Lists (λ i. IsKnown g.limit (entry_at g c.args.sizes.now.entries c.args.part i)) 1 b.points) (sym c.as_slice-firsts.ensures) c.in_ok-known.ensures in
     (c.requires.there, (lists.within c.loop-first.first-index c.loop-first-test.true).1)
 
 pub relax_turn-requires-clause-takes : goal.relax_turn-requires-clause-takes
@@ -38,7 +38,7 @@ relax_turn-requires-clause-takes c =
     let b = c.args.board.now in
     let g = setting_of b in
     (star_takes b c.requires.board c.args.s c.args.sizes.now c.args.changed.now c.args.part c.as_slice-firsts.result.now c.requires.symbol
-    (subst (Lists (λ i. IsKnown g.limit (entry_at g c.args.sizes.now.entries c.args.part i)) 1 b.points) (sym c.as_slice-firsts.ensures) c.in_ok-listed.ensures)
+    (subst (Lists (λ i. IsKnown g.limit (entry_at g c.args.sizes.now.entries c.args.part i)) 1 b.points) (sym c.as_slice-firsts.ensures) c.in_ok-known.ensures)
     c.loop-first.first-index c.loop-first-test.true).1
 
 pub loop-first-preserved : goal.loop-first-preserved
@@ -50,6 +50,6 @@ returns c =
     let b = c.args.board.now in
     let g = setting_of b in
     star_moved b c.requires.board c.args.s c.args.sizes.now c.args.changed.now c.args.part c.loop-first.first-index c.as_slice-firsts.result.now c.lower.new.sizes c.loop-first.sizes c.lower.new.changed c.loop-first.changed c.requires.symbol
-    (subst (Lists (λ i. IsKnown g.limit (entry_at g c.args.sizes.now.entries c.args.part i)) 1 b.points) (sym c.as_slice-firsts.ensures) c.in_ok-listed.ensures)
+    (subst (Lists (λ i. IsKnown g.limit (entry_at g c.args.sizes.now.entries c.args.part i)) 1 b.points) (sym c.as_slice-firsts.ensures) c.in_ok-known.ensures)
     (let e : c.loop-first.first-index ≡ length c.as_slice-firsts.result.now = omega arith in e)
     c.in_ok-lower.ensures c.loop-first.invariant

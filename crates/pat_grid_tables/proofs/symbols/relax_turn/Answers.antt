@@ -15,6 +15,6 @@ returns c =
     let g = setting_of b in
     on_ok _ _ _
     (λ m. turn_moved b c.requires.board c.args.s c.args.sizes.now c.args.changed.now c.args.part c.args.first c.as_slice-seconds.result.now c.relax_row.new.sizes c.go_on.new.sizes c.relax_row.new.changed c.go_on.new.changed
-    (subst (Lists (λ i. IsKnown g.limit (entry_at g c.args.sizes.now.entries c.args.s i)) 0 b.points) (sym c.as_slice-seconds.ensures) c.in_ok-listed.ensures)
+    (subst (Lists (λ i. IsKnown g.limit (entry_at g c.args.sizes.now.entries c.args.s i)) 0 b.points) (sym c.as_slice-seconds.ensures) c.in_ok-known.ensures)
     c.in_ok-relax_row.ensures m)
     c.go_on.ensures

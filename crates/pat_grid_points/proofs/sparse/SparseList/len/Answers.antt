@@ -1,4 +1,4 @@
-use Rattle.pat_grid_points.proofs.Blocks.{list_count}
+use Rattle.pat_grid_points.proofs.InBlocks.{list_count}
 use Rattle.pat_grid_points.proofs.sparse.SparseList.len.Goals as goal
 
 pub returns : goal.returns

@@ -1,6 +1,6 @@
-use Rattle.std.proofs.Common.{◌+◌, ◌*◌, ◌/◌, ◌%◌, ap, ◌∙◌, get_or, set, arith}
+use Rattle.std.proofs.Common.{◌+◌, ◌*◌, ◌/◌, ◌%◌, ap, sym, ◌∙◌, get_or, set, arith}
 use Rattle.pat_grid_points.specs.Sparse.{sparse}
-use Rattle.pat_grid_points.proofs.Blocks.{list_count, list_block, written_set}
+use Rattle.pat_grid_points.proofs.InBlocks.{list_count, list_block, written_set}
 use Rattle.pat_grid_points.proofs.sparse.SparseList.set.Goals as goal
 
 pub begin-requires-clause-there : goal.begin-requires-clause-there
@@ -19,7 +19,7 @@ returns-clause-ok g c =
     let begun = c.in_ok-begin.ensures.ok s.count s.common c.self.invariant in
     let count = list_count s.count s.common s.starts s.blocks c.args.self.now c.self.invariant c.self.view_is in
     let room = c.requires in
-    ap (λ r. sparse r.count r.common r.starts (set r.blocks (get_or c.as_slice.result.now (place / 32) 0 * 32 + place % 32) item)) same
-    ∙ ap (λ xs. sparse s.count s.common starts (set blocks (get_or xs (place / 32) 0 * 32 + place % 32) item)) (c.as_slice.ensures ∙ ap (λ r. r.starts) same)
+    ap (λ r. sparse r.count r.common r.starts (set r.blocks (c.get-start.result * 16 + place % 16) item)) same
+    ∙ ap (λ n. sparse s.count s.common starts (set blocks (n * 16 + place % 16) item)) (sym (c.get-start.ensures 0) ∙ ap (λ r. get_or r.starts (place / 16) 0) same)
     ∙ written_set s.count s.common starts blocks place item begun.0 begun.2 (omega arith)
     ∙ ap (λ xs. set xs place item) (begun.1 ∙ c.self.view_is)

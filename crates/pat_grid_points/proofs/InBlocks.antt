@@ -37,14 +37,14 @@ by_set (suc n) f g (suc i) x l e h =
 -- ---- the list of blocks
 
 pub spot_in : {A : Type 0} (count : ℕ) (common : A) (starts : List ℕ) (blocks : List A) (i : ℕ) → AreBlocks count common starts blocks → spot starts i < length blocks
-spot_in count common starts blocks i h = let w = h.within (i / 32) in omega arith
+spot_in count common starts blocks i h = let w = h.within (i / 16) in omega arith
 
 -- what is read of the list that the blocks stand for
 module _ {A : Type 0} (count : ℕ) (common : A) (starts : List ℕ) (blocks : List A) (list : List A) (h : AreBlocks count common starts blocks) (is : sparse count common starts blocks ≡ list) where
   pub list_count : count ≡ length list
   list_count = sym (by_length count (λ i. get_or blocks (spot starts i) common)) ∙ ap length is
 
-  pub list_block : (i : ℕ) → i < length list → i / 32 < length starts
+  pub list_block : (i : ℕ) → i < length list → i / 16 < length starts
   list_block i l = let m = h.as_many in let n = list_count in omega arith
 
   pub list_at : (i : ℕ) (d e : A) → i < length list → get_or list i d ≡ get_or blocks (spot starts i) e
@@ -55,10 +55,10 @@ module _ {A : Type 0} (count : ℕ) (common : A) (starts : List ℕ) (blocks : L
       ∙ get_or_default blocks (spot starts i) common e (spot_in count common starts blocks i h)
 
 -- in a block without items of its own
-plain_at : {A : Type 0} (count : ℕ) (common : A) (starts : List ℕ) (blocks : List A) (i : ℕ) → AreBlocks count common starts blocks → get_or starts (i / 32) 0 ≡ 0 → get_or blocks (spot starts i) common ≡ common
+plain_at : {A : Type 0} (count : ℕ) (common : A) (starts : List ℕ) (blocks : List A) (i : ℕ) → AreBlocks count common starts blocks → get_or starts (i / 16) 0 ≡ 0 → get_or blocks (spot starts i) common ≡ common
 plain_at count common starts blocks i h e =
-    let is : i % 32 ≡ spot starts i = omega arith in
-    subst (λ p. get_or blocks p common ≡ common) is (h.shared (i % 32) (omega arith))
+    let is : i % 16 ≡ spot starts i = omega arith in
+    subst (λ p. get_or blocks p common ≡ common) is (h.shared (i % 16) (omega arith))
 
 one_at : {A : Type 0} (n i : ℕ) (x : A) → get_or (replicate n x) i x ≡ x
 one_at n i x =
@@ -66,23 +66,23 @@ one_at n i x =
     (λ l. get_or_past (replicate n x) i x (subst (λ j. j ≤ i) (sym (length-replicate n x)) l))
     (cases_lt i n)
 
-pub repeated : {A : Type 0} (count : ℕ) (common : A) → count < 2 ^ 64 → AreBlocks count common (replicate (count / 32 + 1) 0) (replicate 32 common)
+pub repeated : {A : Type 0} (count : ℕ) (common : A) → count < 2 ^ 64 → AreBlocks count common (replicate (count / 16 + 1) 0) (replicate 16 common)
 repeated count common fits = record {
   fits = fits;
-  as_many = length-replicate (count / 32 + 1) 0;
+  as_many = length-replicate (count / 16 + 1) 0;
   whole = refl;
-  within = λ a. let z = zero_at (count / 32 + 1) a in omega arith;
-  shared = λ i l. one_at 32 i common;
-  apart = λ a b e. inr (zero_at (count / 32 + 1) a);
+  within = λ a. let z = zero_at (count / 16 + 1) a in omega arith;
+  shared = λ i l. one_at 16 i common;
+  apart = λ a b e. inr (zero_at (count / 16 + 1) a);
 }
 
-pub repeats : {A : Type 0} (count : ℕ) (common : A) → sparse count common (replicate (count / 32 + 1) 0) (replicate 32 common) ≡ replicate count common
+pub repeats : {A : Type 0} (count : ℕ) (common : A) → sparse count common (replicate (count / 16 + 1) 0) (replicate 16 common) ≡ replicate count common
 repeats count common =
-    by_one count (λ i. get_or (replicate 32 common) (spot (replicate (count / 32 + 1) 0) i) common) common
-    (λ i. one_at 32 (spot (replicate (count / 32 + 1) 0) i) common)
+    by_one count (λ i. get_or (replicate 16 common) (spot (replicate (count / 16 + 1) 0) i) common) common
+    (λ i. one_at 16 (spot (replicate (count / 16 + 1) 0) i) common)
 
 -- up to a block with items of its own all items are the common one
-pub list_same : {A : Type 0} (count : ℕ) (common : A) (starts : List ℕ) (blocks list : List A) → AreBlocks count common starts blocks → sparse count common starts blocks ≡ list → (place to : ℕ) (d : A) → get_or starts (place / 32) 0 ≡ 0 → ((a : ℕ) → place / 32 < a → a * 32 < to → get_or starts a 0 ≡ 0) → to ≤ count → (i : ℕ) → place ≤ i → i < to → get_or list i d ≡ get_or list place d
+pub list_same : {A : Type 0} (count : ℕ) (common : A) (starts : List ℕ) (blocks list : List A) → AreBlocks count common starts blocks → sparse count common starts blocks ≡ list → (place to : ℕ) (d : A) → get_or starts (place / 16) 0 ≡ 0 → ((a : ℕ) → place / 16 < a → a * 16 < to → get_or starts a 0 ≡ 0) → to ≤ count → (i : ℕ) → place ≤ i → i < to → get_or list i d ≡ get_or list place d
 list_same count common starts blocks list h is place to d e none within i l m =
     let n = list_count count common starts blocks list h is in
     list_at count common starts blocks list h is i d common (omega arith)
@@ -90,22 +90,22 @@ list_same count common starts blocks list h is place to d e none within i l m =
     ∙ sym (plain_at count common starts blocks place h e)
     ∙ sym (list_at count common starts blocks list h is place d common (omega arith))
   where
-    zero_there : get_or starts (i / 32) 0 ≡ 0
+    zero_there : get_or starts (i / 16) 0 ≡ 0
     zero_there =
-        ⊎_elim (λ same. ap (λ a. get_or starts a 0) same ∙ e) (λ other. none (i / 32) (omega arith) (omega arith))
-        (cases_eq (i / 32) (place / 32))
+        ⊎_elim (λ same. ap (λ a. get_or starts a 0) same ∙ e) (λ other. none (i / 16) (omega arith) (omega arith))
+        (cases_eq (i / 16) (place / 16))
 
 -- ---- a block begun
 
 -- the blocks, and one more that is as the first
 pub record Grown {A : Type 0} (common : A) (old new : List A) : Type 0 where
-  pub longer : length new ≡ length old + 32
+  pub longer : length new ≡ length old + 16
   pub kept : (i : ℕ) → i < length old → get_or new i common ≡ get_or old i common
-  pub more : (i : ℕ) → i < 32 → get_or new (length old + i) common ≡ get_or old i common
+  pub more : (i : ℕ) → i < 16 → get_or new (length old + i) common ≡ get_or old i common
 
 module _ {A : Type 0} (count : ℕ) (common : A) (starts : List ℕ) (old new : List A) (b : ℕ) (h : AreBlocks count common starts old) (room : b < length starts) (none : get_or starts b 0 ≡ 0) (g : Grown common old new) where
   abbrev start : ℕ
-  start = length old / 32
+  start = length old / 16
 
   abbrev begun_starts : List ℕ
   begun_starts = set starts b start
@@ -119,7 +119,7 @@ module _ {A : Type 0} (count : ℕ) (common : A) (starts : List ℕ) (old new : 
   at : (a : ℕ) → a ≡ b → get_or begun_starts a 0 ≡ start
   at a e = ap (λ i. get_or begun_starts i 0) e ∙ here
 
-  within_all : (a : ℕ) → get_or begun_starts a 0 * 32 + 32 ≤ length new
+  within_all : (a : ℕ) → get_or begun_starts a 0 * 16 + 16 ≤ length new
   within_all a =
       let longer = g.longer in
       let whole = h.whole in
@@ -155,20 +155,20 @@ module _ {A : Type 0} (count : ℕ) (common : A) (starts : List ℕ) (old new : 
   pub begun_same : sparse count common begun_starts new ≡ sparse count common starts old
   begun_same =
       by_same count (λ i. get_or new (spot begun_starts i) common) (λ i. get_or old (spot starts i) common)
-      (λ i l. ⊎_elim (λ e. own i e) (λ d. other i d) (cases_eq (i / 32) b))
+      (λ i l. ⊎_elim (λ e. own i e) (λ d. other i d) (cases_eq (i / 16) b))
     where
-      own : (i : ℕ) → i / 32 ≡ b → get_or new (spot begun_starts i) common ≡ get_or old (spot starts i) common
+      own : (i : ℕ) → i / 16 ≡ b → get_or new (spot begun_starts i) common ≡ get_or old (spot starts i) common
       own i e =
           let whole = h.whole in
-          let s = at (i / 32) e in
-          let z : get_or starts (i / 32) 0 ≡ 0 = ap (λ a. get_or starts a 0) e ∙ none in
-          let is : spot begun_starts i ≡ length old + i % 32 = omega arith in
-          ap (λ p. get_or new p common) is ∙ g.more (i % 32) (omega arith) ∙ h.shared (i % 32) (omega arith)
+          let s = at (i / 16) e in
+          let z : get_or starts (i / 16) 0 ≡ 0 = ap (λ a. get_or starts a 0) e ∙ none in
+          let is : spot begun_starts i ≡ length old + i % 16 = omega arith in
+          ap (λ p. get_or new p common) is ∙ g.more (i % 16) (omega arith) ∙ h.shared (i % 16) (omega arith)
           ∙ sym (plain_at count common starts old i h z)
 
-      other : (i : ℕ) → (i / 32 ≡ b → ⊥) → get_or new (spot begun_starts i) common ≡ get_or old (spot starts i) common
+      other : (i : ℕ) → (i / 16 ≡ b → ⊥) → get_or new (spot begun_starts i) common ≡ get_or old (spot starts i) common
       other i d =
-          ap (λ s. get_or new (s * 32 + i % 32) common) (there (i / 32) d)
+          ap (λ s. get_or new (s * 16 + i % 16) common) (there (i / 16) d)
           ∙ g.kept (spot starts i) (spot_in count common starts old i h)
 
   pub begun_there : get_or begun_starts b 0 ≡ 0 → ⊥
@@ -176,12 +176,12 @@ module _ {A : Type 0} (count : ℕ) (common : A) (starts : List ℕ) (old new : 
 
 -- ---- an item written
 
-module _ {A : Type 0} (count : ℕ) (common : A) (starts : List ℕ) (blocks : List A) (place : ℕ) (x : A) (h : AreBlocks count common starts blocks) (own : get_or starts (place / 32) 0 ≡ 0 → ⊥) where
+module _ {A : Type 0} (count : ℕ) (common : A) (starts : List ℕ) (blocks : List A) (place : ℕ) (x : A) (h : AreBlocks count common starts blocks) (own : get_or starts (place / 16) 0 ≡ 0 → ⊥) where
   abbrev wrote : List A
   wrote = set blocks (spot starts place) x
 
-  positive : 1 ≤ get_or starts (place / 32) 0
-  positive = ⊎_elim (λ l. absurd (own (omega arith))) (λ l. l) (cases_lt (get_or starts (place / 32) 0) 1)
+  positive : 1 ≤ get_or starts (place / 16) 0
+  positive = ⊎_elim (λ l. absurd (own (omega arith))) (λ l. l) (cases_lt (get_or starts (place / 16) 0) 1)
 
   longs : length wrote ≡ length blocks
   longs = length-set blocks (spot starts place) x
@@ -194,7 +194,7 @@ module _ {A : Type 0} (count : ℕ) (common : A) (starts : List ℕ) (blocks : L
       record {
         fits = h.fits;
         as_many = h.as_many;
-        whole = subst (λ n. n / 32 * 32 ≡ n) (sym same) whole;
+        whole = subst (λ n. n / 16 * 16 ≡ n) (sym same) whole;
         within = λ a. let w = h.within a in omega arith;
         shared = λ i l. get_or-set_other blocks (spot starts place) i x common (λ e. absurd (omega arith)) ∙ h.shared i l;
         apart = h.apart;
@@ -208,16 +208,16 @@ module _ {A : Type 0} (count : ℕ) (common : A) (starts : List ℕ) (blocks : L
     where
       one : (j : ℕ) → spot starts j ≡ spot starts place → j ≡ place
       one j e =
-          let starts_same : get_or starts (j / 32) 0 ≡ get_or starts (place / 32) 0 = omega arith in
-          ⊎_elim (λ same. omega arith) (λ z. absurd (own (sym starts_same ∙ z))) (h.apart (j / 32) (place / 32) starts_same)
+          let starts_same : get_or starts (j / 16) 0 ≡ get_or starts (place / 16) 0 = omega arith in
+          ⊎_elim (λ same. omega arith) (λ z. absurd (own (sym starts_same ∙ z))) (h.apart (j / 16) (place / 16) starts_same)
 
 -- a copy of the first block at the end
-pub grown : {A : Type 0} (common : A) (old new : List A) → 32 ≤ length old → new ≡ old ++ take 32 old → Grown common old new
+pub grown : {A : Type 0} (common : A) (old new : List A) → 16 ≤ length old → new ≡ old ++ take 16 old → Grown common old new
 grown common old new l e = record {
-  longer = ap length e ∙ length-append old (take 32 old) ∙ ap (λ n. length old + n) (length-take-le 32 old l);
-  kept = λ i m. ap (λ xs. get_or xs i common) e ∙ get_or_append_left old (take 32 old) common i m;
+  longer = ap length e ∙ length-append old (take 16 old) ∙ ap (λ n. length old + n) (length-take-le 16 old l);
+  kept = λ i m. ap (λ xs. get_or xs i common) e ∙ get_or_append_left old (take 16 old) common i m;
   more = λ i m.
       ap (λ xs. get_or xs (length old + i) common) e
-      ∙ get_or-append-add old (take 32 old) i common
-      ∙ get_or-take 32 old i common m;
+      ∙ get_or-append-add old (take 16 old) i common
+      ∙ get_or-take 16 old i common m;
 }

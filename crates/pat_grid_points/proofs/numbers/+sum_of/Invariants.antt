@@ -1,4 +1,0 @@
-use Rattle.pat_grid_points.proofs.numbers.+sum_of.Given as goal
-
-abbrev pub decreases-sum_of : goal.decreases-sum_of
-decreases-sum_of l = l.tags
