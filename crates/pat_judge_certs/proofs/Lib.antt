@@ -4,3 +4,4 @@ pub mod Plainly
 mod CutsShown
 mod Numbered
 mod Arms
+mod Alike
