@@ -56,22 +56,38 @@ pub fn pass_names(
     put_passed(names, given, asked, &mut out.items)
 }
 
-/// The type of the variable, unless it is that one.
-#[inline(always)]
-fn find_but<'a>(
-    but: Option<u32>,
-    env: &LookUps<'a>,
-    near: &mut usize,
+/// The types of the variable in both parts of a let.
+fn find_in_both<'a>(
+    first: &LookUps<'a>,
+    second: &LookUps<'a>,
+    near: &mut (usize, usize),
     variable: u32,
-) -> Option<&'a MailboxType>
-    ensures { option_map type_view (option_copied result) ≡ without_name but (need_of (needs_view env.now.env.now)) variable }
+) -> (Option<&'a MailboxType>, Option<&'a MailboxType>)
+    ensures first { option_map type_view (option_copied result.0) ≡ need_of (needs_view first.now.env.now) variable }
+    ensures second { option_map type_view (option_copied result.1) ≡ need_of (needs_view second.now.env.now) variable }
+{
+    let bound = first.find(&mut near.0, variable);
+    let body = second.find(&mut near.1, variable);
+    (bound, body)
+}
+
+/// So unless the variable is the name of the let.
+fn find_in_parts<'a>(
+    but: Option<u32>,
+    first: &LookUps<'a>,
+    second: &LookUps<'a>,
+    near: &mut (usize, usize),
+    variable: u32,
+) -> (Option<&'a MailboxType>, Option<&'a MailboxType>)
+    ensures first { option_map type_view (option_copied result.0) ≡ without_name but (need_of (needs_view first.now.env.now)) variable }
+    ensures second { option_map type_view (option_copied result.1) ≡ without_name but (need_of (needs_view second.now.env.now)) variable }
 {
     match but {
-        None => env.find(near, variable),
+        None => find_in_both(first, second, near, variable),
         Some(name) => if name == variable {
-            None
+            (None, None)
         } else {
-            env.find(near, variable)
+            find_in_both(first, second, near, variable)
         },
     }
 }
@@ -91,11 +107,11 @@ fn put_divided<'a>(
     let whole = LookUps::new(given);
     let first = LookUps::new(bound);
     let second = LookUps::new(body);
-    let mut near = (0, 0, 0);
+    let mut near = 0;
+    let mut near_parts = (0, 0);
     for name in names {
-        let given = whole.find(&mut near.0, *name);
-        let bound = find_but(but, &first, &mut near.1, *name);
-        let body = find_but(but, &second, &mut near.2, *name);
+        let given = whole.find(&mut near, *name);
+        let (bound, body) = find_in_parts(but, &first, &second, &mut near_parts, *name);
         out.push_reserved(Demand::Divide { given, bound, body });
     }
 }
