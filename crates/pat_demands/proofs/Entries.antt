@@ -1,5 +1,5 @@
 -- Entries one after another.
-use Rattle.std.proofs.Common.{◌≡◌, ℕ, suc, ◌+◌, List, [], ◌∷◌, ◌++◌, Option, Some, None, length, map, refl, sym, ap, ◌∙◌, arith}
+use Rattle.std.proofs.Common.{◌≡◌, ℕ, suc, List, [], ◌∷◌, ◌++◌, Option, Some, None, length, map, refl, sym, ap, ◌∙◌, arith}
 use Rattle.pat_core.specs.declared.program.Sort.{Sort as CodeSort}
 use Rattle.pat_core.specs.Views.{sort_view}
 use Rattle.pat_model.specs.Values.{Expr, VarExpr, Literal, OpExpr}

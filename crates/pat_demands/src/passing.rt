@@ -1,5 +1,5 @@
 // Demands along lists of names.
-ghost use Rattle.std.specs.Prelude.{◌≡◌, ◌++◌, option_map, option_copied, IfOk, OnOk};
+ghost use Rattle.std.specs.Prelude.{◌≡◌, ◌+◌, ◌≤◌, ◌++◌, length, option_map, option_copied, vec_len, vec_capacity, IfOk, OnOk};
 ghost use Rattle.std.specs.Map.{keys_of};
 ghost use Rattle.pat_typing.specs.Typings.{without_name};
 ghost use Rattle.pat_open_types.specs.NodeTypes.{need_of};
@@ -19,6 +19,27 @@ use pat_sequences::Sequence;
 use pat_types::{MailboxType, TypeOf, Usage};
 use std::alloc::{AllocError, Global};
 
+/// Each of the names passes from the one environment to the other. There is room for all.
+fn put_passed(
+    names: &[u32],
+    given: &[(u32, MailboxType)],
+    asked: &[(u32, MailboxType)],
+    out: &mut Vec<Demand>,
+) -> Result<(), AllocError>
+    requires { vec_len out.old + length names.now ≤ vec_capacity out.old }
+    ensures { OnOk result (demands_view out.new.items ≡ demands_view out.old.items ++ passes_in names.now (needs_view given.now) (needs_view asked.now)) }
+{
+    let from = LookUps::new(given);
+    let to = LookUps::new(asked);
+    let mut near = (0, 0);
+    for name in names {
+        let given = from.copy_of(&mut near.0, *name)?;
+        let asked = to.copy_of(&mut near.1, *name)?;
+        out.push_reserved(Demand::Pass { given, asked });
+    }
+    Ok(())
+}
+
 /// Each of the names passes from the one environment to the other.
 pub fn pass_names(
     names: &[u32],
@@ -31,38 +52,71 @@ pub fn pass_names(
     if names.is_empty() {
         return Ok(());
     }
-    let from = LookUps::new(given);
-    let to = LookUps::new(asked);
-    let mut near = (0, 0);
     out.items.reserve(names.len())?;
-    for name in names {
-        let given = from.copy_of(&mut near.0, *name)?;
-        let asked = to.copy_of(&mut near.1, *name)?;
-        out.push(Demand::Pass { given, asked })?;
-    }
-    Ok(())
+    put_passed(names, given, asked, &mut out.items)
 }
 
-/// The type of the variable, unless it is that one.
-fn find_but<'a>(
-    but: Option<u32>,
-    env: &LookUps<'a>,
-    near: &mut usize,
+/// The types of the variable in both parts of a let.
+fn find_in_both<'a>(
+    first: &LookUps<'a>,
+    second: &LookUps<'a>,
+    near: &mut (usize, usize),
     variable: u32,
-) -> Option<&'a MailboxType>
-    ensures { option_map type_view (option_copied result) ≡ without_name but (need_of (needs_view env.now.env.now)) variable }
+) -> (Option<&'a MailboxType>, Option<&'a MailboxType>)
+    ensures first { option_map type_view (option_copied result.0) ≡ need_of (needs_view first.now.env.now) variable }
+    ensures second { option_map type_view (option_copied result.1) ≡ need_of (needs_view second.now.env.now) variable }
+{
+    let bound = first.find(&mut near.0, variable);
+    let body = second.find(&mut near.1, variable);
+    (bound, body)
+}
+
+/// So unless the variable is the name of the let.
+fn find_in_parts<'a>(
+    but: Option<u32>,
+    first: &LookUps<'a>,
+    second: &LookUps<'a>,
+    near: &mut (usize, usize),
+    variable: u32,
+) -> (Option<&'a MailboxType>, Option<&'a MailboxType>)
+    ensures first { option_map type_view (option_copied result.0) ≡ without_name but (need_of (needs_view first.now.env.now)) variable }
+    ensures second { option_map type_view (option_copied result.1) ≡ without_name but (need_of (needs_view second.now.env.now)) variable }
 {
     match but {
-        None => env.find(near, variable),
+        None => find_in_both(first, second, near, variable),
         Some(name) => if name == variable {
-            None
+            (None, None)
         } else {
-            env.find(near, variable)
+            find_in_both(first, second, near, variable)
         },
     }
 }
 
-/// Each of the names is divided among the parts of a let of this name.
+/// Each of the names is divided among the parts of a let of this name. There is room for all.
+fn put_divided<'a>(
+    names: &[u32],
+    but: Option<u32>,
+    given: &'a [(u32, MailboxType)],
+    bound: &'a [(u32, MailboxType)],
+    body: &'a [(u32, MailboxType)],
+    out: &mut Vec<Demand<'a>>,
+)
+    requires { vec_len out.old + length names.now ≤ vec_capacity out.old }
+    ensures { demands_view out.new.items ≡ demands_view out.old.items ++ divides_in names.now but (needs_view given.now) (needs_view bound.now) (needs_view body.now) }
+{
+    let whole = LookUps::new(given);
+    let first = LookUps::new(bound);
+    let second = LookUps::new(body);
+    let mut near = 0;
+    let mut near_parts = (0, 0);
+    for name in names {
+        let given = whole.find(&mut near, *name);
+        let (bound, body) = find_in_parts(but, &first, &second, &mut near_parts, *name);
+        out.push_reserved(Demand::Divide { given, bound, body });
+    }
+}
+
+/// Each of the names is divided among the parts of a let of this name. Behind them there is room for the demand of the name.
 pub fn divide_names<'a>(
     names: &[u32],
     but: Option<u32>,
@@ -73,17 +127,8 @@ pub fn divide_names<'a>(
 ) -> Result<(), AllocError>
     ensures { OnOk result (demands_view out.new ≡ demands_view out.old ++ divides_in names.now but (needs_view given.now) (needs_view bound.now) (needs_view body.now)) }
 {
-    let whole = LookUps::new(given);
-    let first = LookUps::new(bound);
-    let second = LookUps::new(body);
-    let mut near = (0, 0, 0);
-    out.items.reserve(names.len())?;
-    for name in names {
-        let given = whole.find(&mut near.0, *name);
-        let bound = find_but(but, &first, &mut near.1, *name);
-        let body = find_but(but, &second, &mut near.2, *name);
-        out.push(Demand::Divide { given, bound, body })?;
-    }
+    out.items.reserve(names.len() + 1)?;
+    put_divided(names, but, given, bound, body, &mut out.items);
     Ok(())
 }
 
@@ -101,6 +146,26 @@ pub fn names_but(
     }
 }
 
+/// Each of the names is there, if it is asked. There is room for all.
+fn put_there<'a>(
+    names: &[u32],
+    given: &'a [(u32, MailboxType)],
+    part: &'a [(u32, MailboxType)],
+    out: &mut Vec<Demand<'a>>,
+)
+    requires { vec_len out.old + length names.now ≤ vec_capacity out.old }
+    ensures { demands_view out.new.items ≡ demands_view out.old.items ++ theres_in names.now (needs_view given.now) (needs_view part.now) }
+{
+    let whole = LookUps::new(given);
+    let own = LookUps::new(part);
+    let mut near = (0, 0);
+    for name in names {
+        let given = whole.find(&mut near.0, *name);
+        let asked = own.find(&mut near.1, *name);
+        out.push_reserved(Demand::There { given, asked });
+    }
+}
+
 fn there_names<'a>(
     names: &[u32],
     given: &'a [(u32, MailboxType)],
@@ -109,15 +174,8 @@ fn there_names<'a>(
 ) -> Result<(), AllocError>
     ensures { OnOk result (demands_view out.new ≡ demands_view out.old ++ theres_in names.now (needs_view given.now) (needs_view part.now)) }
 {
-    let whole = LookUps::new(given);
-    let own = LookUps::new(part);
-    let mut near = (0, 0);
     out.items.reserve(names.len())?;
-    for name in names {
-        let given = whole.find(&mut near.0, *name);
-        let asked = own.find(&mut near.1, *name);
-        out.push(Demand::There { given, asked })?;
-    }
+    put_there(names, given, part, &mut out.items);
     Ok(())
 }
 

@@ -30,7 +30,7 @@ zero_star e = sym (cond_both (is_zero e || is_one e) One (Star e) (λ x. is_zero
 
 -- ---- arms
 
-arm_of_itself : (e : Pat) → is_arm e e ≡ true
+pub arm_of_itself : (e : Pat) → is_arm e e ≡ true
 arm_of_itself Zero = pat_eq_refl Zero
 arm_of_itself One = pat_eq_refl One
 arm_of_itself (Tag m) = pat_eq_refl (Tag m)

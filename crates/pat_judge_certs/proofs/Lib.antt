@@ -3,4 +3,5 @@ pub mod CoverTags
 pub mod Plainly
 mod CutsShown
 mod Numbered
-mod Arms
+pub mod Arms
+mod Alike

@@ -3,9 +3,10 @@ use Rattle.std.proofs.Common.{◌≡◌, ℕ, Bool, true, false, ◌&&◌, ◌||
 use Rattle.std.specs.Prelude.{not, nat_eq}
 use Rattle.std.proofs.Math.Dec.{eqb-suc-zero}
 use Rattle.pat_words.specs.Patterns.{Pat}
-use Rattle.pat_inclusions.specs.Values.{Scope, is_formed}
+use Rattle.pat_inclusions.specs.Values.{Scope, is_formed, plainly_replaced}
 use Rattle.pat_inclusions.specs.Certificates.{Cert, Inclusion, is_trivial, cert_shows, shows, is_shown, is_shown_in, are_shown}
 use Rattle.pat_inclusion_laws.proofs.Taking.{trivial_takes_none, other_takes_next}
+use Rattle.pat_judge_certs.proofs.Arms.{arm_of_itself}
 use Rattle.pat_judge_certs.specs.Shown.{Leaves, but_first, left_by, Takes}
 use Rattle.pat_derivations.specs.declared.data.Cert.{Cert as CodeCert}
 use Rattle.pat_derivations.specs.Views.{certs_view}
@@ -49,6 +50,14 @@ module _ (s : Scope) (i : ℕ) (e f : Pat) (left : is_formed s i e ≡ true) (ri
   pub next_fails : (cert : Cert) (certs : List Cert) → is_trivial s e f ≡ false → cert_shows s i e f cert ≡ false → Takes s (Some i) e f (cert ∷ certs) outcome.NotShown
   next_fails cert certs t c more =
       (other_takes_next s (one (Some i) e f) more cert certs t).1 ∙ ap (λ b. b && are_shown s more certs) (shown_by cert t ∙ c)
+
+-- ---- a pattern in itself
+
+pub leaves_reflexive : (s : Scope) (i : ℕ) (e : Pat) (certs : List Cert) → is_formed s i e ≡ true → Leaves s (one (Some i) e e ∷ []) certs (Some certs)
+leaves_reflexive s i e certs f = trivially s i e e f f certs (arm_of_itself (plainly_replaced s e))
+
+pub not_reflexive : (s : Scope) (i : ℕ) (e : Pat) (certs : List Cert) → is_formed s i e ≡ false → Leaves s (one (Some i) e e ∷ []) certs None
+not_reflexive s i e certs f = not_formed s i e e certs (ap₂ (λ a b. a && b) f f)
 
 -- ---- demands
 

@@ -4,6 +4,7 @@ use Rattle.pat_words.specs.Patterns.{Pat}
 use Rattle.pat_inclusions.specs.Certificates as certificates
 use Rattle.pat_patterns.specs.Views.{pattern_view}
 use Rattle.pat_judge_certs.specs.declared.inclusions.Inclusion.{Inclusion}
+use Rattle.pat_judge_certs.specs.declared.inclusions.Reflexive.{Reflexive}
 use Rattle.pat_judge_certs.specs.declared.inclusions.Side.{Side}
 use Rattle.pat_judge_certs.specs.declared.inclusions.Side.TheVariants as side
 
@@ -13,6 +14,9 @@ side_view (side.Made e) = pattern_view e
 
 abbrev pub inclusion_view : Inclusion → certificates.Inclusion
 inclusion_view q = record { interface = q.interface; left = side_view q.left; right = pattern_view q.right.now }
+
+abbrev pub reflexive_view : Reflexive → certificates.Inclusion
+reflexive_view q = record { interface = Some q.interface; left = pattern_view q.pattern.now; right = pattern_view q.pattern.now }
 
 -- an inclusion as a list
 abbrev pub listed : Option certificates.Inclusion → List certificates.Inclusion

@@ -1,13 +1,14 @@
 // The inclusion that a demand needs.
-ghost use Rattle.std.specs.Prelude.{◌≡◌, [], ◌∷◌, Some, option_map, option_copied, IfOk};
-ghost use Rattle.pat_words.specs.Patterns.{prod_of};
+ghost use Rattle.std.specs.Prelude.{◌≡◌, [], ◌∷◌, Some, option_map, option_copied, IfOk, IfSome};
+ghost use Rattle.pat_words.specs.Patterns.{pat_eq, prod_of};
 ghost use Rattle.pat_patterns.specs.Views.{pattern_view};
 ghost use Rattle.pat_types.specs.Views.{type_view};
 ghost use Rattle.pat_validity.specs.Demands.{Pass, Divide, same_interface, one_interface, inclusion, fit_inclusion, join_inclusions, inclusions_of};
 ghost use Rattle.pat_demands.specs.Views.{demand_view};
-ghost use Rattle.pat_judge_certs.specs.Views.{side_view, inclusion_view, listed};
+ghost use Rattle.pat_judge_certs.specs.Views.{side_view, inclusion_view, reflexive_view, listed};
 
 use pat_demands::Demand;
+use pat_judge_types::same_pattern;
 use pat_patterns::{Pattern, product};
 use pat_primitives::Polarity;
 use pat_types::MailboxType;
@@ -168,6 +169,63 @@ fn divided<'a>(
             None => Ok(Some(fit(given, bound))),
             Some(body) => join(alloc, bound, body, given),
         },
+    }
+}
+
+/// Whether the patterns are the same, as they are written.
+#[inline(always)]
+fn is_alike(left: &Pattern, right: &Pattern) -> bool
+    ensures { result ≡ pat_eq (pattern_view left.now) (pattern_view right.now) }
+{
+    match left {
+        Pattern::One => right.is_one(),
+        _ => same_pattern(left, right),
+    }
+}
+
+/// An inclusion of a pattern of the interface in itself.
+#[derive(Clone, Copy)]
+pub struct Reflexive<'a> {
+    pub interface: u32,
+    pub pattern: &'a Pattern,
+}
+
+/// What is needed for the one type to fit the other, where that is the inclusion of a pattern in itself.
+#[inline(always)]
+fn alike<'a>(given: &'a MailboxType, asked: &'a MailboxType) -> Option<Reflexive<'a>>
+    ensures { IfSome result (λ own. reflexive_view own ≡ fit_inclusion (type_view given.now) (type_view asked.now)) }
+{
+    if given.interface == asked.interface && is_alike(&given.pattern, &asked.pattern) {
+        Some(Reflexive {
+            interface: given.interface,
+            pattern: &given.pattern,
+        })
+    } else {
+        None
+    }
+}
+
+/// The inclusion that the demand needs, where that is the inclusion of a pattern in itself. Most are: nothing is made for these.
+#[inline(always)]
+pub fn reflexive_of<'a>(demand: &'a Demand<'a>) -> Option<Reflexive<'a>>
+    ensures { IfSome result (λ own. reflexive_view own ∷ [] ≡ inclusions_of (demand_view demand.now)) }
+{
+    match demand {
+        Demand::Pass {
+            given: Some(given),
+            asked: Some(asked),
+        } => alike(given, asked),
+        Demand::Divide {
+            given: Some(given),
+            bound: None,
+            body: Some(body),
+        } => alike(given, body),
+        Demand::Divide {
+            given: Some(given),
+            bound: Some(bound),
+            body: None,
+        } => alike(given, bound),
+        _ => None,
     }
 }
 

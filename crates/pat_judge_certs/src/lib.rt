@@ -8,7 +8,7 @@ mod numbering;
 mod showing;
 mod trivial;
 
-pub use inclusions::{Inclusion, Side, inclusion_of};
+pub use inclusions::{Inclusion, Reflexive, Side, inclusion_of, reflexive_of};
 pub use pat_judge_forms::form_of;
 pub use showing::are_shown;
 pub use trivial::{is_trivial, plain_values};

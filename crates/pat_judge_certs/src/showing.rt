@@ -1,5 +1,5 @@
 // Inclusions that are shown in turn.
-ghost use Rattle.std.specs.Prelude.{◌≡◌, Some, drop, option_map, option_copied, IsTrue, IfOk};
+ghost use Rattle.std.specs.Prelude.{◌≡◌, [], ◌∷◌, Some, drop, option_map, option_copied, IsTrue, IfOk};
 ghost use Rattle.std.specs.List.{flat_map};
 ghost use Rattle.pat_model.specs.WellFormed.{WellFormed};
 ghost use Rattle.pat_inclusions.specs.Values.{is_formed as is_formed_of, values_fit};
@@ -11,12 +11,12 @@ ghost use Rattle.pat_core.specs.Views.{program_view};
 ghost use Rattle.pat_derivations.specs.Views.{cert_view, certs_view, derivation_view};
 ghost use Rattle.pat_demands.specs.Views.{demand_view, demands_view};
 ghost use Rattle.pat_judge_certs.specs.Plain.{all_plain};
-ghost use Rattle.pat_judge_certs.specs.Views.{side_view};
+ghost use Rattle.pat_judge_certs.specs.Views.{side_view, reflexive_view};
 ghost use Rattle.pat_judge_certs.specs.Shown.{Takes, Leaves};
 
 use crate::covers::cover_shows;
 use crate::grids::grid_shows;
-use crate::inclusions::{Inclusion, inclusion_of};
+use crate::inclusions::{Inclusion, Reflexive, inclusion_of, reflexive_of};
 use crate::trivial::is_trivial;
 use pat_core::Program;
 use pat_demands::Demand;
@@ -133,8 +133,9 @@ fn shown(
 }
 
 /// The certificates that are left once the demand's inclusion, if it needs one, is shown; nothing where it isn't shown.
+#[inline(never)]
 #[tactic(auto, using(crate::proofs::Taken::leaves_all, crate::proofs::Taken::leaves_by, crate::proofs::Taken::leaves_rest))]
-fn after<'a>(
+fn after_inclusion<'a>(
     alloc: Global,
     program: &Program,
     derivation: &Derivation,
@@ -154,6 +155,45 @@ fn after<'a>(
             Outcome::Trivially => Ok(Some(certs)),
             Outcome::ByNext => Ok(Some(but_first(certs))),
         },
+    }
+}
+
+/// So where the inclusion is one of a pattern in itself, which is trivial.
+#[inline(always)]
+#[tactic(auto, using(crate::proofs::Taken::leaves_reflexive, crate::proofs::Taken::not_reflexive))]
+fn after_reflexive<'a>(
+    program: &Program,
+    derivation: &Derivation,
+    needed: Reflexive,
+    certs: &'a [Cert],
+) -> Option<&'a [Cert]>
+    ensures { Leaves (scope_of (program_view program.now) (derivation_view derivation.now)) (reflexive_view needed.entry ∷ []) (certs_view certs.now) (option_map certs_view (option_copied result)) }
+{
+    if is_formed(program, derivation, needed.interface, needed.pattern) {
+        Some(certs)
+    } else {
+        None
+    }
+}
+
+/// The certificates that are left once the demand's inclusion, if it needs one, is shown; nothing where it isn't shown.
+#[inline(always)]
+fn after<'a>(
+    alloc: Global,
+    program: &Program,
+    derivation: &Derivation,
+    plain: &[Pattern],
+    demand: &Demand,
+    certs: &'a [Cert],
+) -> Result<Option<&'a [Cert]>, AllocError>
+    requires well { WellFormed (program_view program.now) }
+    requires values { IsTrue (values_fit (scope_of (program_view program.now) (derivation_view derivation.now))) }
+    requires plain { patterns_view plain.now ≡ all_plain (derivation_view derivation.now).vars }
+    ensures { IfOk result (λ o. Leaves (scope_of (program_view program.now) (derivation_view derivation.now)) (inclusions_of (demand_view demand.now)) (certs_view certs.now) (option_map certs_view (option_copied o))) }
+{
+    match reflexive_of(demand) {
+        Some(needed) => Ok(after_reflexive(program, derivation, needed, certs)),
+        None => after_inclusion(alloc, program, derivation, plain, demand, certs),
     }
 }
 

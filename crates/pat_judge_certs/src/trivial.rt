@@ -6,8 +6,10 @@ ghost use Rattle.pat_inclusions.specs.Values.{Scope, is_formed};
 ghost use Rattle.pat_inclusions.specs.Certificates.{is_arm as is_arm_of, is_trivial as is_trivial_of};
 ghost use Rattle.pat_patterns.specs.Views.{pattern_view, patterns_view, value_at};
 ghost use Rattle.pat_derivations.specs.Views.{value_view, derivation_view};
+ghost use Rattle.pat_judge_certs.specs.Views.{side_view};
 ghost use Rattle.pat_judge_certs.specs.Plain.{plain_value_of, all_plain};
 
+use crate::inclusions::Side;
 use pat_derivations::{Derivation, VarValue};
 use pat_judge_types::same_pattern;
 use pat_patterns::{Pattern, subst};
@@ -69,6 +71,24 @@ pub fn plain_values(alloc: Global, derivation: &Derivation) -> Result<Sequence<P
     Ok(plain)
 }
 
+/// The side with the values that are patterns put in. That of a variable is lent, and so is a side without parts.
+fn with_values<'a>(
+    alloc: Global,
+    side: &'a Pattern,
+    plain: &'a [Pattern],
+) -> Result<Side<'a>, AllocError>
+    requires { IsTrue (has_values (length plain.now) (pattern_view side.now)) }
+    ensures { IfOk result (λ own. side_view own ≡ subst_of (value_at (patterns_view plain.now)) (pattern_view side.now)) }
+{
+    match side {
+        Pattern::Zero | Pattern::One | Pattern::Tag(_) => Ok(Side::Lent(side)),
+        Pattern::Var(number) => Ok(Side::Lent(&plain[*number as usize])),
+        Pattern::Sum(..) | Pattern::Prod(..) | Pattern::Star(_) => {
+            Ok(Side::Made(subst(alloc, side, plain)?))
+        }
+    }
+}
+
 /// Whether the left side is the right one or one of its arms, once the values that are patterns are put in. Both are patterns of
 /// an interface. Mostly it is an arm as it is written, and nothing has to be put in.
 pub fn is_trivial(
@@ -84,7 +104,7 @@ pub fn is_trivial(
     if is_arm(left, right) && !is_zero_with(left, plain) {
         return Ok(true);
     }
-    let left = subst(alloc, left, plain)?;
-    let right = subst(alloc, right, plain)?;
-    Ok(is_arm(&left, &right))
+    let left = with_values(alloc, left, plain)?;
+    let right = with_values(alloc, right, plain)?;
+    Ok(is_arm(left.as_pattern(), right.as_pattern()))
 }

@@ -58,8 +58,24 @@ fn has_interface(derivation: &Derivation, interface: u32, number: u32) -> bool
     }
 }
 
-/// Whether the pattern is one of the interface: its tags are, and its variables, each of which has a value.
+/// Whether the pattern is one of the interface: its tags are, and its variables, each of which has a value. Many are 1, and nothing
+/// is looked up for these.
 pub fn is_formed(
+    program: &Program,
+    derivation: &Derivation,
+    interface: u32,
+    pattern: &Pattern,
+) -> bool
+    ensures { result ≡ is_formed_of (scope_of (program_view program.now) (derivation_view derivation.now)) interface (pattern_view pattern.now) }
+{
+    match pattern {
+        Pattern::One => true,
+        _ => is_formed_within(program, derivation, interface, pattern),
+    }
+}
+
+/// So by its parts.
+fn is_formed_within(
     program: &Program,
     derivation: &Derivation,
     interface: u32,
@@ -72,9 +88,9 @@ pub fn is_formed(
         Pattern::Tag(tag) => (*tag as usize) < tag_count(program, interface),
         Pattern::Var(number) => has_interface(derivation, interface, *number),
         Pattern::Sum(left, right) | Pattern::Prod(left, right) => {
-            is_formed(program, derivation, interface, left)
-                && is_formed(program, derivation, interface, right)
+            is_formed_within(program, derivation, interface, left)
+                && is_formed_within(program, derivation, interface, right)
         }
-        Pattern::Star(part) => is_formed(program, derivation, interface, part),
+        Pattern::Star(part) => is_formed_within(program, derivation, interface, part),
     }
 }

@@ -1,8 +1,10 @@
 -- Certificates that are made one after another.
 use Rattle.std.proofs.Common.{◌≡◌, ℕ, List, [], ◌∷◌, ◌++◌, Option, Some, None, option_map, append_assoc, sym, ap, ◌∙◌, subst}
 use Rattle.std.proofs.lemmas.List.{append-nil, map-append}
-use Rattle.pat_inclusions.specs.Values.{Scope}
+use Rattle.pat_words.specs.Patterns.{Pat}
+use Rattle.pat_inclusions.specs.Values.{Scope, plainly_replaced}
 use Rattle.pat_inclusions.specs.Certificates.{Cert, Inclusion}
+use Rattle.pat_judge_certs.proofs.Arms.{arm_of_itself}
 use Rattle.pat_solving.specs.Derived.{Form, AreCertsFor, all_made, made_none, made_next}
 use Rattle.pat_derivations.specs.declared.data.Cert.{Cert as CodeCert}
 use Rattle.pat_derivations.specs.Views.{cert_view, certs_view}
@@ -34,6 +36,12 @@ module _ (s : Scope) (forms : ℕ → Form) where
 
   pub adds_nothing : (qs : List Inclusion) (certs : List CodeCert) → [] ≡ qs → Adds s forms qs certs certs
   adds_nothing qs certs e = record { certs = []; are = subst (λ (x : List Inclusion). AreCertsFor s forms x []) e all_made; is = sym (append-nil (certs_view certs)) }
+
+  -- none for a pattern in itself
+  pub adds_reflexive : (i : ℕ) (e : Pat) (qs : List Inclusion) (certs : List CodeCert) → record { interface = Some i; left = e; right = e } ∷ [] ≡ qs → Adds s forms qs certs certs
+  adds_reflexive i e qs certs q =
+      subst (λ (x : List Inclusion). Adds s forms x certs certs) q
+      (record { certs = []; are = made_none (arm_of_itself (plainly_replaced s e)) all_made; is = sym (append-nil (certs_view certs)) })
 
   -- certificates for what is left make those for the whole
   abbrev pub Completes : List Inclusion → List Inclusion → List CodeCert → Type 0

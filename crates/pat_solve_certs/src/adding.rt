@@ -15,7 +15,7 @@ use crate::context::Solved;
 use crate::covers::cover_between;
 use pat_demands::Demand;
 use pat_derivations::Cert;
-use pat_judge_certs::{Inclusion, inclusion_of, is_trivial};
+use pat_judge_certs::{Inclusion, inclusion_of, is_trivial, reflexive_of};
 use pat_patterns::Pattern;
 use pat_sequences::Sequence;
 use std::alloc::{AllocError, Global};
@@ -82,7 +82,28 @@ fn push_certificate(
 }
 
 /// Adds the certificate of the inclusion that the demand needs, unless it is trivial.
+#[inline(always)]
+#[tactic(auto, using(crate::proofs::Added::adds_reflexive))]
 fn push_for(
+    alloc: Global,
+    solved: &Solved,
+    demand: &Demand,
+    certs: &mut Sequence<Cert>,
+) -> Result<(), AllocError>
+    requires solved { IsSolved solved.now }
+    requires met { AllByRecursion (IsMet (scope_in solved.now) (forms_in solved.now)) (inclusions_of (demand_view demand.now)) }
+    ensures { OnOk result (Adds (scope_in solved.now) (forms_in solved.now) (inclusions_of (demand_view demand.now)) certs.old certs.new) }
+{
+    match reflexive_of(demand) {
+        // It is trivial.
+        Some(_) => Ok(()),
+        None => push_for_inclusion(alloc, solved, demand, certs),
+    }
+}
+
+/// Adds the certificate of the inclusion that the demand needs, unless it is trivial.
+#[inline(never)]
+fn push_for_inclusion(
     alloc: Global,
     solved: &Solved,
     demand: &Demand,

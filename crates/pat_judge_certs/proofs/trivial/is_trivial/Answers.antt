@@ -16,5 +16,5 @@ pub returns : goal.returns
 returns c s i p fl fr =
     c.is_arm-2.ensures
     ∙ ap₂ is_arm
-    (c.in_ok-left.ensures.value ∙ plainly s i (pattern_view c.args.left.now) (patterns_view c.args.plain.now) p fl)
-    (c.in_ok-right.ensures.value ∙ plainly s i (pattern_view c.args.right.now) (patterns_view c.args.plain.now) p fr)
+    (c.as_pattern.ensures ∙ c.in_ok-left.ensures ∙ plainly s i (pattern_view c.args.left.now) (patterns_view c.args.plain.now) p fl)
+    (c.as_pattern-2.ensures ∙ c.in_ok-right.ensures ∙ plainly s i (pattern_view c.args.right.now) (patterns_view c.args.plain.now) p fr)

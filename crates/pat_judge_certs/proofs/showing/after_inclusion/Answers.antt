@@ -10,7 +10,7 @@ use Rattle.pat_judge_certs.specs.Shown.{Takes}
 use Rattle.pat_judge_certs.specs.Views.{side_view}
 use Rattle.pat_judge_certs.specs.declared.showing.Outcome.TheVariants as outcome
 use Rattle.pat_judge_certs.proofs.Taken.{leaves_rest}
-use Rattle.pat_judge_certs.proofs.showing.after.Goals as goal
+use Rattle.pat_judge_certs.proofs.showing.after_inclusion.Goals as goal
 
 pub returns : goal.returns
 returns c =

@@ -4,7 +4,7 @@ use Rattle.pat_demands.specs.Views.{demand_view}
 use Rattle.pat_judge_certs.specs.Views.{inclusion_view, listed}
 use Rattle.pat_solve_certs.specs.Making.{scope_in, forms_in}
 use Rattle.pat_solve_certs.proofs.Added.{adds_nothing}
-use Rattle.pat_solve_certs.proofs.adding.push_for.Goals as goal
+use Rattle.pat_solve_certs.proofs.adding.push_for_inclusion.Goals as goal
 
 pub returns-in-None : goal.returns-in-None
 returns-in-None c =
