@@ -55,7 +55,7 @@ fn is_small(p: &Pattern, nodes: u32) -> bool
 }
 
 // The sets for which there is room at first: most patterns need no more.
-const FEW: usize = 4;
+const FEW: usize = 6;
 
 // So many levels of a pattern are walked down by calls. What is deeper is made along a list of heads.
 const MOST_CALLS: u32 = 64;

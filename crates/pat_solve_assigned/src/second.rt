@@ -10,7 +10,7 @@ ghost use Rattle.pat_solve_rounds.specs.Results.{Gives};
 ghost use Rattle.pat_solve_assigned.specs.Results.{GivesValues};
 
 use pat_sequences::Sequence;
-use pat_solve_rounds::{RoundError, in_turn};
+use pat_solve_rounds::{RoundError, in_turn_rebuilt};
 use pat_solve_sizes::Measured;
 use std::alloc::Global;
 
@@ -49,7 +49,7 @@ fn put_later(
     ensures { let later = paired (drop (place + 1) variables.now) (drop (place + 1) (measured_list values.now)) in let own = get_or (measured_list values.now) place Zero in Gives result (turn_fits later own) (put_in_turn later own) }
 {
     let own = &values[place];
-    in_turn(alloc, &variables[place + 1..], &values[place + 1..], own)
+    in_turn_rebuilt(alloc, &variables[place + 1..], &values[place + 1..], own)
 }
 
 /// Puts the value at the place.

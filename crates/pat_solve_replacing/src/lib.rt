@@ -1,5 +1,5 @@
 //! Patterns in which variables are replaced, and derivatives by a variable: each stops where what it makes is too large.
-//! Neither recurses: what is still to be done, and what is made, stand on stacks.
+//! Calls walk down the first levels of a pattern alone: below, what is still to be done, and what is made, stand on stacks.
 #![tactic(auto)]
 
 mod derivatives;

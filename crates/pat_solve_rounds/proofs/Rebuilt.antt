@@ -1,6 +1,7 @@
 -- A pattern as the simplifying forms make it stays so, and a variable that it doesn't have is replaced in vain.
-use Rattle.std.proofs.Common.{◌≡◌, ℕ, false, ◌||◌, if◌then◌else◌, refl, ap, ◌∙◌}
-use Rattle.std.specs.Prelude.{nat_eq}
+use Rattle.std.proofs.Common.{◌≡◌, ℕ, zero, suc, false, ◌||◌, if◌then◌else◌, List, [], ◌∷◌, refl, ap, ◌∙◌}
+use Rattle.std.specs.Prelude.{nat_eq, get_or}
+use Rattle.std.specs.List.{AllByRecursion}
 use Rattle.std.proofs.lemmas.Bool.{cond_both, cond-false, or_parts}
 use Rattle.pat_words.specs.Patterns.{Pat, Zero, One, Tag, Sum, Prod, Star, Var, is_zero, is_one, pat_eq, sum_of, prod_of, star_of, subst_of}
 use Rattle.pat_solving.specs.Assignments.{put_one, base_of, slope_of, solved_for, derivative}
@@ -70,3 +71,9 @@ rebuilt_solution k f =
     rebuilt_prod (star_of (slope_of k f)) (base_of k f)
     (rebuilt_star (slope_of k f) (rebuilt_one k (base_of k f) (derivative k f) base))
     base
+
+-- each of some that all are rebuilt
+pub all_at : (vs : List Pat) (i : ℕ) → AllByRecursion IsRebuilt vs → IsRebuilt (get_or vs i Zero)
+all_at [] i h = refl
+all_at (v ∷ vs) zero h = h.0
+all_at (v ∷ vs) (suc i) h = all_at vs i h.1

@@ -11,12 +11,7 @@ use Rattle.pat_solve_rounds.specs.Rounds.{has_var, IsRebuilt, turn_fits}
 use Rattle.pat_solve_rounds.specs.Results.{Gives}
 use Rattle.pat_solve_rounds.specs.declared.error.RoundError.{RoundError}
 use Rattle.pat_solve_rounds.specs.declared.error.RoundError.TheVariants.{TooLarge, NoMemory}
-use Rattle.pat_solve_rounds.proofs.Rebuilt.{in_vain, rebuilt_one}
-
-pub all_at : (vs : List Pat) (i : ℕ) → AllByRecursion IsRebuilt vs → IsRebuilt (get_or vs i Zero)
-all_at [] i h = refl
-all_at (v ∷ vs) zero h = h.0
-all_at (v ∷ vs) (suc i) h = all_at vs i h.1
+use Rattle.pat_solve_rounds.proofs.Rebuilt.{in_vain, rebuilt_one, all_at}
 
 module _ (ks : List ℕ) (vs : List Pat) where
   -- the variables from a place on, with their values
@@ -56,6 +51,15 @@ module _ (ks : List ℕ) (vs : List Pat) (as_many : length ks ≡ length vs) whe
       let rest = passed n (suc i) e (omega arith) r s (λ j a b. none j (omega arith) (omega arith)) in
       let same : suc i + n ≡ i + suc n = omega arith in
       subst (λ j. Alike ks vs i j e) same (first.0 ∙ rest.0, first.1 ∙ rest.1)
+
+  -- the turns before the place change nothing of a pattern that is rebuilt
+  pub begun_from : (f : Pat) (start : ℕ) → start ≤ length ks → is_small f ≡ true → (0 < start → IsRebuilt f) → ((j : ℕ) → j < start → has_var (get_or ks j 0) f ≡ false) → Turned ks vs f start f
+  begun_from f zero w s r none = begun ks vs f
+  begun_from f (suc n) w s r none =
+      let none_before : (j : ℕ) → 0 ≤ j → j < 0 + suc n → has_var (get_or ks j 0) f ≡ false = λ j a b. none j (omega arith) in
+      let there : 0 + suc n ≡ suc n = omega arith in
+      let skip : Alike ks vs 0 (suc n) f = subst (λ j. Alike ks vs 0 j f) there (passed (suc n) 0 f (omega arith) (r (omega arith)) s none_before) in
+      record { within = w; fits = sym skip.0; whole = sym skip.1 }
 
   -- one more, after which those up to the next place are passed over
   pub turned : (f : Pat) (place : ℕ) (made new : Pat) (next : ℕ) → AllByRecursion IsRebuilt vs → Turned ks vs f place made → place < length ks → new ≡ put_one (get_or ks place 0) (get_or vs place Zero) made → is_small new ≡ true → suc place ≤ next → next ≤ length ks → ((j : ℕ) → suc place ≤ j → j < next → has_var (get_or ks j 0) new ≡ false) → Turned ks vs f next new

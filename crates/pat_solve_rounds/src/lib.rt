@@ -9,4 +9,4 @@ mod turns;
 
 pub use error::RoundError;
 pub use replacing::{put_one, solve_for};
-pub use turns::in_turn;
+pub use turns::{in_turn, in_turn_rebuilt};

@@ -1,12 +1,12 @@
 // Variables replaced one after another.
-ghost use Rattle.std.specs.Prelude.{◌≡◌, ◌<◌, length, get_or};
+ghost use Rattle.std.specs.Prelude.{◌≡◌, ◌<◌, ◌≤◌, ℕ, false, length, get_or};
 ghost use Rattle.std.specs.List.{AllByRecursion};
 ghost use Rattle.pat_words.specs.Patterns.{Zero};
 ghost use Rattle.pat_inclusions.specs.ClosedForms.{is_small};
 ghost use Rattle.pat_solving.specs.Assignments.{put_one as put_one_of, put_in_turn};
 ghost use Rattle.pat_solve_sizes.specs.Views.{measured_view, measured_list};
 ghost use Rattle.pat_solve_replacing.specs.Ascending.{IsAscending, paired};
-ghost use Rattle.pat_solve_rounds.specs.Rounds.{IsRebuilt, turn_fits};
+ghost use Rattle.pat_solve_rounds.specs.Rounds.{IsRebuilt, has_var, turn_fits};
 ghost use Rattle.pat_solve_rounds.specs.Results.{Gives};
 
 use crate::error::RoundError;
@@ -29,23 +29,45 @@ pub fn in_turn(
     ensures { let vs = paired variables.now (measured_list values.now) in Gives result (turn_fits vs (measured_view f.now)) (put_in_turn vs (measured_view f.now)) }
 {
     let copy = f.copy()?;
-    each_turn(alloc, variables, values, copy)
+    turns_from(alloc, variables, values, 0, copy)
 }
 
-/// So in a pattern of one's own.
-fn each_turn(
+/// So in a pattern that is as the simplifying forms make it: there a variable that doesn't occur is passed over from the first on.
+pub fn in_turn_rebuilt(
     alloc: Global,
     variables: &[u32],
     values: &[Measured],
+    f: &Measured,
+) -> Result<Measured, RoundError>
+    requires ascending { IsAscending variables.now }
+    requires as_many { length variables.now ≡ length values.now }
+    requires rebuilt { AllByRecursion IsRebuilt (measured_list values.now) }
+    requires own { IsRebuilt (measured_view f.now) }
+    ensures { let vs = paired variables.now (measured_list values.now) in Gives result (turn_fits vs (measured_view f.now)) (put_in_turn vs (measured_view f.now)) }
+{
+    let copy = f.copy()?;
+    let start = next_place(alloc, &copy.pattern, variables, 0)?;
+    turns_from(alloc, variables, values, start, copy)
+}
+
+/// So in a pattern of one's own, where the variables before the place may be passed over.
+fn turns_from(
+    alloc: Global,
+    variables: &[u32],
+    values: &[Measured],
+    start: usize,
     f: Measured,
 ) -> Result<Measured, RoundError>
     requires ascending { IsAscending variables.now }
     requires as_many { length variables.now ≡ length values.now }
     requires rebuilt { AllByRecursion IsRebuilt (measured_list values.now) }
+    requires within { start ≤ length variables.now }
+    requires own { 0 < start → IsRebuilt (measured_view f) }
+    requires absent { (j : ℕ) → j < start → has_var (get_or variables.now j 0) (measured_view f) ≡ false }
     ensures { let vs = paired variables.now (measured_list values.now) in Gives result (turn_fits vs (measured_view f)) (put_in_turn vs (measured_view f)) }
 {
     let mut made = f;
-    let mut place = 0;
+    let mut place = start;
     while place < variables.len() {
         made = turn(alloc, variables, values, place, &made)?;
         place = next_place(alloc, &made.pattern, variables, place + 1)?;

@@ -9,4 +9,4 @@ use Rattle.pat_solve_rounds.proofs.turns.in_turn.Goals as goal
 pub returns : goal.returns
 returns c =
     let vs = paired c.args.variables.now (measured_list c.args.values.now) in
-    subst (λ f. Gives c.each_turn.result (turn_fits vs f) (put_in_turn vs f)) c.in_ok-copy.ensures c.each_turn.ensures
+    subst (λ f. Gives c.turns_from.result (turn_fits vs f) (put_in_turn vs f)) c.in_ok-copy.ensures c.turns_from.ensures
