@@ -1,2 +1,2 @@
 mod Listing
-mod Meaning
+pub mod Meaning

@@ -73,21 +73,26 @@ least_board b system fits tags points limit given symbols = record {
   given = subst (AreGrids b.k b.tags) (sym given) (λ j grid e. absurd (cc));
 }
 
-pub least_point : (b : Board) (system : List Pat) (entries slice : List ℕ) (grids : List Grid) → AreRows b slice b.roots.now grids → slice ≡ entries → b.points ≡ points_in b.k b.tags → IsDone (setting_of b) (table_of (setting_of b) entries) → symbols_view b.symbols.now ≡ laid_all [] system → b.roots.now ≡ roots_all [] system → (j : ℕ) (grid : Grid) (u : Word) → slice_get grids j ≡ Some grid → IsPoint b.k b.tags u → HasPoint grid u ↔ CutOf b.k (derivable (bounds_of system) j) u
-least_point b system entries slice grids rows_there same points done symbols roots j grid u found p =
+-- the rows of the bounds' own symbols are the least grids, whatever else is laid out behind the system
+pub rows_point : (b : Board) (lower : ℕ → Pat) (entries slice : List ℕ) (grids : List Grid) → AreRows b slice b.roots.now grids → slice ≡ entries → b.points ≡ points_in b.k b.tags → IsDone (setting_of b) (table_of (setting_of b) entries) → IsFlatOf lower (setting_of b).flat → (j : ℕ) (grid : Grid) (u : Word) → slice_get grids j ≡ Some grid → IsPoint b.k b.tags u → HasPoint grid u ↔ CutOf b.k (derivable lower j) u
+rows_point b lower entries slice grids rows_there same points done flat j grid u found p =
     let rows = subst (λ es. AreRows b es b.roots.now grids) same rows_there in
     let g = setting_of b in
-    let lower = bounds_of system in
     let at = row_at b entries b.roots.now grids j grid rows found in
     let s = at.0 in
-    let flat : IsFlatOf lower g.flat =
-    λ k. subst (λ ys. RootStands ys (lower k) (slice_get b.roots.now k)) (sym symbols)
-    (subst (λ rs. RootStands (laid_all [] system) (lower k) (slice_get rs k)) (sym roots) (all_stand [] system (laid_all [] system) (goes_none (laid_all [] system)) k)) in
     let stands : Stands g.flat.symbols LowerSymbol (lower j) s = subst (RootStands g.flat.symbols (lower j)) at.1 (flat j) in
     let point = row_point b entries s grid u points at.2 p in (
       λ h. let c = known_derivable g (table_of g entries) lower (lower j) s flat stands done u p (point.0 h) in (c.0, lower_derivable lower j c.0 c.1, c.2),
       λ h. point.1 (derivable_known g (table_of g entries) lower (lower j) s flat stands done u (h.0, derivable_lower lower j h.0 h.1, h.2)),
     )
+
+pub least_point : (b : Board) (system : List Pat) (entries slice : List ℕ) (grids : List Grid) → AreRows b slice b.roots.now grids → slice ≡ entries → b.points ≡ points_in b.k b.tags → IsDone (setting_of b) (table_of (setting_of b) entries) → symbols_view b.symbols.now ≡ laid_all [] system → b.roots.now ≡ roots_all [] system → (j : ℕ) (grid : Grid) (u : Word) → slice_get grids j ≡ Some grid → IsPoint b.k b.tags u → HasPoint grid u ↔ CutOf b.k (derivable (bounds_of system) j) u
+least_point b system entries slice grids rows same points done symbols roots =
+    let lower = bounds_of system in
+    let flat : IsFlatOf lower (setting_of b).flat =
+    λ k. subst (λ ys. RootStands ys (lower k) (slice_get b.roots.now k)) (sym symbols)
+    (subst (λ rs. RootStands (laid_all [] system) (lower k) (slice_get rs k)) (sym roots) (all_stand [] system (laid_all [] system) (goes_none (laid_all [] system)) k)) in
+    rows_point b lower entries slice grids rows same points done flat
 
 pub least_like : (b : Board) (entries : List ℕ) (grids : List Grid) → AreRows b entries b.roots.now grids → AreGrids b.k b.tags grids
 least_like b entries grids rows j grid found =
@@ -97,6 +102,10 @@ roots_count : (made : List Symbol) (es : List Pat) → length (roots_all made es
 roots_count made [] = refl
 roots_count made (e ∷ es) = ap suc (roots_count (laid LowerSymbol made e) es)
 
+pub rows_many : (b : Board) (entries : List ℕ) (grids : List Grid) (system : List Pat) → AreRows b entries b.roots.now grids → b.roots.now ≡ roots_all [] system → length grids ≡ length system
+rows_many b entries grids system rows roots =
+    rows_count b entries b.roots.now grids rows ∙ ap length roots ∙ roots_count [] system
+
 pub least_count : (b : Board) (entries : List ℕ) (grids : List Grid) (system : List Pattern) → AreRows b entries b.roots.now grids → b.roots.now ≡ roots_all [] (patterns_view system) → length grids ≡ length system
 least_count b entries grids system rows roots =
-    rows_count b entries b.roots.now grids rows ∙ ap length roots ∙ roots_count [] (patterns_view system) ∙ length-map system pattern_view
+    rows_many b entries grids (patterns_view system) rows roots ∙ length-map system pattern_view

@@ -14,7 +14,7 @@ ghost use Rattle.pat_grid_points.specs.declared.grid.Grid.{Grid as GridValue};
 ghost use Rattle.pat_grid_points.specs.Views.{HasPoint};
 ghost use Rattle.pat_grid_tables.specs.Views.{given_words, AreGrids};
 
-use crate::rows::{row, rows};
+use crate::rows::{row, row_grids};
 use pat_grid_points::{Grid, count_points};
 use pat_grid_symbols::{Role, lay_out, lay_out_all};
 use pat_grid_tables::{Board, least_sizes};
@@ -73,6 +73,6 @@ pub fn least(
         given: &[],
     };
     let entries = least_sizes(alloc, &board)?;
-    let grids = rows(alloc, &board, &entries, board.roots)?;
+    let grids = row_grids(alloc, &board, &entries, board.roots)?;
     Ok(grids)
 }

@@ -6,3 +6,4 @@ mod rows;
 
 pub use grids::{eval, least};
 pub use pat_grid_points::Grid;
+pub use rows::row_grids;

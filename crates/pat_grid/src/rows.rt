@@ -30,7 +30,7 @@ pub fn row(
 }
 
 /// Those of each symbol of a list.
-pub fn rows(
+pub fn row_grids(
     alloc: Global,
     board: &Board,
     entries: &SparseList<u16>,

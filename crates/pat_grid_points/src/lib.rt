@@ -9,12 +9,14 @@ ghost use Rattle.pat_grid_points.specs.Views.{HasPoint, points_of};
 
 mod blocks;
 mod grid;
+mod lists;
 mod making;
 mod numbers;
 mod reading;
 mod sparse;
 
 pub use grid::Grid;
+pub use lists::{empty_lists, forget, push_if, take};
 pub use numbers::{bag_of, count_points, number_of, sum_of};
 pub use reading::next_held;
 pub use sparse::SparseList;

@@ -1,12 +1,13 @@
 // Lists of the numbers that are looked at.
-ghost use Rattle.std.specs.Prelude.{◌≡◌, ◌<◌, ◌≤◌, ◌++◌, ◌∷◌, [], OnOk, if◌then◌else◌};
+ghost use Rattle.std.specs.Prelude.{◌≡◌, ◌<◌, ◌≤◌, OnOk};
 ghost use Rattle.pat_bounds.specs.Tables.{IsKnown};
 ghost use Rattle.pat_bounds.specs.Numbers.{HasAllEntries};
 ghost use Rattle.pat_grid_tables.specs.Views.{setting_of, IsBoard};
 ghost use Rattle.pat_grid_tables.specs.Moves.{entry_at, HasLists, Lists};
 
 use crate::board::Board;
-use crate::sizes::{Sizes, forget, reached_at};
+use crate::sizes::{Sizes, reached_at};
+use pat_grid_points::{forget, push_if};
 use pat_sequences::Sequence;
 use std::alloc::AllocError;
 
@@ -28,16 +29,6 @@ pub fn known(
     for number in reached {
         let number = *number as usize;
         push_if(number >= from, number, numbers)?;
-    }
-    Ok(())
-}
-
-/// Appends the number, if it is asked for.
-fn push_if(wanted: bool, number: usize, numbers: &mut Sequence<usize>) -> Result<(), AllocError>
-    ensures { OnOk result (numbers.new ≡ numbers.old ++ (if wanted then number ∷ [] else [])) }
-{
-    if wanted {
-        numbers.push(number)?;
     }
     Ok(())
 }

@@ -6,10 +6,10 @@ ghost use Rattle.pat_grid_tables.specs.Views.{setting_of, IsBoard};
 ghost use Rattle.pat_grid_tables.specs.Waiting.{HasUsers, Begins, Stands, with_waits, Looked, Passed};
 
 use crate::board::Board;
-use crate::sizes::{Scratch, Sizes, empty_lists, forget};
+use crate::sizes::{Scratch, Sizes};
 use crate::symbols::relax_symbol;
 use crate::users::users_of;
-use pat_grid_points::SparseList;
+use pat_grid_points::{SparseList, empty_lists, forget};
 use pat_sequences::Sequence;
 use std::alloc::{AllocError, Global};
 

@@ -1,11 +1,10 @@
 // Sizes of least trees, and where they are known.
-ghost use Rattle.std.specs.Prelude.{◌≡◌, [], get_or, replicate, IfOk, OnOk, if◌then◌else◌};
+ghost use Rattle.std.specs.Prelude.{◌≡◌, [], get_or, OnOk, if◌then◌else◌};
 ghost use Rattle.pat_grid_tables.specs.Waiting.{noted};
 
 use pat_grid_points::SparseList;
 use pat_sequences::Sequence;
-use std::alloc::{AllocError, Global};
-use std::mem;
+use std::alloc::AllocError;
 
 /// The sizes of least trees as far as they are known. Mostly a symbol has trees at a handful of points, so these are also
 /// listed.
@@ -61,34 +60,4 @@ pub fn note<T: Drop>(lists: &mut Sequence<Sequence<T>>, s: usize, item: T) -> Re
         lists.items[s].push(item)?;
     }
     Ok(())
-}
-
-/// So many empty lists.
-pub fn empty_lists<T: Drop>(
-    alloc: Global,
-    count: usize,
-) -> Result<Sequence<Sequence<T>>, AllocError>
-    ensures { IfOk result (λ lists. lists ≡ replicate count []) }
-{
-    let mut lists = Sequence::from_vec(Vec::with_capacity(alloc, count)?);
-    for _ in 0..count {
-        lists.push(Sequence::new(alloc))?;
-    }
-    Ok(lists)
-}
-
-/// From now on nothing is listed.
-pub fn forget(numbers: &mut Sequence<usize>)
-    ensures { numbers.new ≡ [] }
-{
-    numbers.items.clear();
-}
-
-/// Lists what is new, in place of what was listed; from now on nothing is new.
-pub fn take(news: &mut Sequence<usize>, numbers: &mut Sequence<usize>)
-    ensures old { numbers.new ≡ news.old }
-    ensures now { news.new ≡ [] }
-{
-    forget(numbers);
-    mem::swap(news, numbers);
 }

@@ -4,8 +4,9 @@ ghost use Rattle.pat_grid_tables.specs.Views.{setting_of};
 ghost use Rattle.pat_grid_tables.specs.Waiting.{IsPart, HasUsers, Notes};
 
 use crate::board::Board;
-use crate::sizes::{empty_lists, note};
+use crate::sizes::note;
 use crate::symbols::{root_of, symbol_at};
+use pat_grid_points::empty_lists;
 use pat_grid_symbols::Symbol;
 use pat_sequences::Sequence;
 use std::alloc::{AllocError, Global};

@@ -15,9 +15,12 @@ use Rattle.pat_bounds.specs.Numbers.{points_in, table_of}
 use Rattle.pat_bounds.specs.Searches.{IsAnswer}
 use Rattle.pat_bounds_laws.specs.Laws.{SearchLaw}
 use Rattle.pat_bounds_laws.proofs.LayoutLaws.{Goes, goes_none, goes_both, kept_in, laid_goes, laid_stands, all_stand, TagFits, laid_fit, all_fit, symbols_fit}
+use Rattle.pat_grid_points.specs.declared.grid.Grid.{Grid}
 use Rattle.pat_grid_symbols.specs.Views.{symbols_view}
 use Rattle.pat_grid_tables.specs.declared.board.Board.{Board}
 use Rattle.pat_grid_tables.specs.Views.{setting_of, IsBoard, AreGrids}
+use Rattle.pat_grid.specs.Rows.{AreRows}
+use Rattle.pat_grid.proofs.Meaning.{rows_many, rows_point, least_like}
 use Rattle.pat_certs_searches.specs.Readings.{IsRead}
 use Rattle.pat_certs_searches.proofs.Search.{read_right}
 use Rattle.pat_solving.specs.Answers.{most_nodes}
@@ -26,6 +29,7 @@ use Rattle.pat_solve_renaming.specs.Systems.{side_at, picked}
 use Rattle.pat_solve_renaming.proofs.Renames.{renamed_tags}
 use Rattle.pat_solve_grids.specs.Findings.{Findings, SidesSearched, IsSearchable, RightSearchable, AreFound}
 use Rattle.pat_solve_grids.specs.Laying.{laid_if, last_if, laid_side, side_places, laid_sides, all_places, IsReadyFor, AreReady, IsNoted}
+use Rattle.pat_solve_grids.specs.Least.{AreLeastOf}
 use Rattle.pat_solve_grids.proofs.Turning.{turn, each_at}
 
 -- ---- layouts
@@ -149,6 +153,14 @@ module _ (b : Board) (system : List Pat) (place : ℕ → ℕ) (zs : List Constr
     flat k =
         subst (λ ys. RootStands ys (bounds_of system k) (slice_get b.roots.now k)) (sym symbols)
         (subst (λ rs. RootStands all (bounds_of system k) (slice_get rs k)) (sym roots) (all_stand [] system all (sides_go (renamed place) base cs) k))
+
+    -- the rows of the roots are the least grids
+    pub batch_least : b.points ≡ points_in b.k b.tags → (grids : List Grid) → AreRows b slice b.roots.now grids → AreLeastOf b.k b.tags system grids
+    batch_least points grids rows = record {
+      count = rows_many b slice grids system rows roots;
+      like = least_like b slice grids rows;
+      points = rows_point b (bounds_of system) entries slice grids rows same points done flat;
+    }
 
     ready_by : (left : Pat) (r : Right) (side : Option (ℕ × ℕ)) → RightSearchable b.k b.tags r → StandFor (renamed place) all left r side → IsReadyFor b slice (bounds_of system) left r side
     ready_by left (VarRight k) side fits stand = stand

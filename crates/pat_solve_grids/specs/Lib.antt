@@ -5,3 +5,4 @@ pub mod Views
 pub mod Points
 pub mod Grids
 pub mod Laying
+pub mod Least

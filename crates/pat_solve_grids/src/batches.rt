@@ -2,14 +2,17 @@
 //
 // A table is made for the system and the sides of several constraints, which are about as large as the system is. So all tables
 // together take time in proportion to the system and the sides, and each of them memory in proportion to the system.
-ghost use Rattle.std.specs.Prelude.{◌≡◌, ◌<◌, ◌≤◌, ◌+◌, ℕ, List, length, IfOk, IsTrue};
+ghost use Rattle.std.specs.Prelude.{◌≡◌, ◌<◌, ◌≤◌, ◌+◌, ℕ, List, length, true, IfOk, IsTrue};
 ghost use Rattle.std.specs.List.{AllByRecursion};
 ghost use Rattle.pat_words.specs.Tags.{tags_below};
 ghost use Rattle.pat_inclusions.specs.Points.{grid_fits};
 ghost use Rattle.pat_words.specs.Patterns.{Pat};
 ghost use Rattle.pat_bounds.specs.Trees.{bounds_of};
 ghost use Rattle.pat_bounds.specs.Assignments.{Constraint as GhostConstraint};
+ghost use Rattle.pat_bounds.specs.Numbers.{HasAllEntries};
 ghost use Rattle.pat_patterns.specs.Views.{patterns_view};
+ghost use Rattle.pat_grid_tables.specs.Views.{setting_of, IsBoard};
+ghost use Rattle.pat_grid.specs.Rows.{AreRows};
 ghost use Rattle.pat_certs_searches.specs.Choices.{IsReady};
 ghost use Rattle.pat_solve_lowers.specs.Sides.{sides_list};
 ghost use Rattle.pat_solve_replacing.specs.Ascending.{IsAscending};
@@ -17,13 +20,15 @@ ghost use Rattle.pat_solve_renaming.specs.Renaming.{place_in, renamed as renamed
 ghost use Rattle.pat_solve_renaming.specs.Systems.{side_at, picked};
 ghost use Rattle.pat_solve_grids.specs.Findings.{IsSearchable, AreFound};
 ghost use Rattle.pat_solve_grids.specs.Laying.{AreReady, IsNoted};
+ghost use Rattle.pat_solve_grids.specs.Least.{AreLeastOf};
 ghost use Rattle.pat_solve_grids.specs.Views.{findings_view};
 
 use crate::findings::{Findings, note};
 use crate::laying::lay_each;
 use pat_bounds_laws::closed_laws;
 use pat_certs_searches::read_answer;
-use pat_grid_points::{SparseList, count_points};
+use pat_grid::row_grids;
+use pat_grid_points::{Grid, SparseList, count_points};
 use pat_grid_symbols::lay_out_all;
 use pat_grid_tables::{Board, least_sizes};
 use pat_infer_problems::Constraint;
@@ -50,6 +55,17 @@ pub fn batch_end(constraints: &[Constraint], numbers: &[usize], from: usize, roo
         }
     }
     numbers.len()
+}
+
+/// Where the first batch ends, which may have no constraint.
+pub fn first_end(constraints: &[Constraint], numbers: &[usize], room: usize) -> usize
+    ensures { result ≤ length numbers.now }
+{
+    if numbers.is_empty() {
+        0
+    } else {
+        batch_end(constraints, numbers, 0, room)
+    }
 }
 
 /// About how many symbols the lower bounds by these constraints have.
@@ -84,7 +100,8 @@ fn sides_size(constraints: &[Constraint], number: usize) -> usize {
     }
 }
 
-/// Searches the constraints whose numbers stand at places from `from` to `to`, by one table.
+/// Searches the constraints whose numbers stand at places from `from` to `to`, by one table. The first one shows the least grids
+/// of the system as well.
 pub fn search_batch(
     alloc: Global,
     system: &[Pattern],
@@ -96,7 +113,7 @@ pub fn search_batch(
     k: u32,
     tags: u8,
     findings: Findings,
-) -> Result<Findings, AllocError>
+) -> Result<(Sequence<Grid>, Findings), AllocError>
     requires ascending { IsAscending variables.now }
     requires fits { IsTrue (grid_fits k tags) }
     requires system { AllByRecursion (λ e. IsTrue (tags_below tags e)) (patterns_view system.now) }
@@ -104,7 +121,8 @@ pub fn search_batch(
     requires from { from ≤ to }
     requires to { to ≤ length numbers.now }
     requires found { AreFound (bounds_of (patterns_view system.now)) (renamed_by (place_in variables.now)) (picked (sides_list constraints.now) numbers.now) numbers.now from (findings_view findings) }
-    ensures { IfOk result (λ f. AreFound (bounds_of (patterns_view system.now)) (renamed_by (place_in variables.now)) (picked (sides_list constraints.now) numbers.now) numbers.now to (findings_view f)) }
+    ensures least { IfOk result (λ r. from ≡ 0 → AreLeastOf k tags (patterns_view system.now) r.0) }
+    ensures found { IfOk result (λ r. AreFound (bounds_of (patterns_view system.now)) (renamed_by (place_in variables.now)) (picked (sides_list constraints.now) numbers.now) numbers.now to (findings_view r.1)) }
 {
     closed_laws();
     let mut symbols = Sequence::new(alloc);
@@ -127,15 +145,28 @@ pub fn search_batch(
         given: &[],
     };
     let entries = least_sizes(alloc, &board)?;
-    read_each(
-        alloc,
-        &board,
-        &entries,
-        sides.as_slice(),
-        numbers,
-        from,
-        findings,
-    )
+    let grids = rows_if(alloc, from == 0, &board, &entries)?;
+    let listed = sides.as_slice();
+    let found = read_each(alloc, &board, &entries, listed, numbers, from, findings)?;
+    Ok((grids, found))
+}
+
+/// The rows of the roots, if they are asked for.
+fn rows_if(
+    alloc: Global,
+    wanted: bool,
+    board: &Board,
+    entries: &SparseList<u16>,
+) -> Result<Sequence<Grid>, AllocError>
+    requires board { IsBoard board.now }
+    requires all { HasAllEntries (setting_of board.now) entries.now }
+    ensures { IfOk result (λ grids. wanted ≡ true → AreRows board.now entries.now board.now.roots.now grids) }
+{
+    if wanted {
+        row_grids(alloc, board, entries, board.roots)
+    } else {
+        Ok(Sequence::new(alloc))
+    }
 }
 
 /// Notes the answers for the sides one after another; `from` is the place of the first one's number.

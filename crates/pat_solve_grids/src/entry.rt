@@ -13,7 +13,6 @@ ghost use Rattle.pat_solve_grids.specs.Grids.{AreGridsOf};
 use crate::points::list_points;
 use crate::searches::search_each;
 use pat_bags::Bag;
-use pat_certs_grids::least;
 use pat_certs_trees::Refutation;
 use pat_core::Program;
 use pat_grid_points::points_law;
@@ -61,9 +60,7 @@ pub fn interface_grids(
     let numbers = index.constraints_of(interface as usize);
     let variables = index.variables_of(interface as usize);
     let system = system_of(alloc, constraints, numbers, variables)?;
-    let grids = least(alloc, system.as_slice(), k, tags)?;
-    let points = list_points(alloc, grids.as_slice())?;
-    let findings = search_each(
+    let (grids, findings) = search_each(
         alloc,
         system.as_slice(),
         constraints,
@@ -72,6 +69,7 @@ pub fn interface_grids(
         k,
         tags,
     )?;
+    let points = list_points(alloc, grids.as_slice())?;
     let_go(system);
     Ok(InterfaceGrids {
         points,

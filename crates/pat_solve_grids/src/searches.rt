@@ -10,16 +10,20 @@ ghost use Rattle.pat_solve_replacing.specs.Ascending.{IsAscending};
 ghost use Rattle.pat_solve_renaming.specs.Renaming.{place_in, renamed as renamed_by};
 ghost use Rattle.pat_solve_renaming.specs.Systems.{picked};
 ghost use Rattle.pat_solve_grids.specs.Findings.{IsSearchable, AreFound};
+ghost use Rattle.pat_solve_grids.specs.Least.{AreLeastOf};
 ghost use Rattle.pat_solve_grids.specs.Views.{findings_view};
 
-use crate::batches::{batch_end, search_batch, system_size};
+use crate::batches::{batch_end, first_end, search_batch, system_size};
 use crate::findings::Findings;
+use pat_certs_grids::Grid;
 use pat_infer_problems::Constraint;
 use pat_patterns::Pattern;
+use pat_sequences::Sequence;
 use std::alloc::{AllocError, Global};
 
-/// Searches the constraints with these numbers, in order, for derivable words of the left that the right lacks. The system has the
-/// lower bounds of the variables, numbered by their places; there are 65,536 points at most.
+/// The least grids of the system; and what searches of the constraints with these numbers find, in order, for derivable words of the
+/// left that the right lacks. The system has the lower bounds of the variables, numbered by their places; there are 65,536 points at
+/// most.
 pub fn search_each(
     alloc: Global,
     system: &[Pattern],
@@ -28,22 +32,37 @@ pub fn search_each(
     variables: &[u32],
     k: u32,
     tags: u8,
-) -> Result<Findings, AllocError>
+) -> Result<(Sequence<Grid>, Findings), AllocError>
     requires ascending { IsAscending variables.now }
     requires fits { IsTrue (grid_fits k tags) }
     requires system { AllByRecursion (λ e. IsTrue (tags_below tags e)) (patterns_view system.now) }
     requires sides { AllByRecursion (IsSearchable k tags) (picked (sides_list constraints.now) numbers.now) }
-    ensures { IfOk result (λ f. AreFound (bounds_of (patterns_view system.now)) (renamed_by (place_in variables.now)) (picked (sides_list constraints.now) numbers.now) numbers.now (length numbers.now) (findings_view f)) }
+    ensures least { IfOk result (λ r. AreLeastOf k tags (patterns_view system.now) r.0) }
+    ensures found { IfOk result (λ r. AreFound (bounds_of (patterns_view system.now)) (renamed_by (place_in variables.now)) (picked (sides_list constraints.now) numbers.now) numbers.now (length numbers.now) (findings_view r.1)) }
 {
-    let mut findings = Findings {
+    let none = Findings {
         refuted: None,
         is_oversized: false,
     };
     let room = system_size(constraints, numbers).saturating_add(variables.len());
-    let mut place = 0;
+    let end = first_end(constraints, numbers, room);
+    let (grids, first) = search_batch(
+        alloc,
+        system,
+        constraints,
+        numbers,
+        0,
+        end,
+        variables,
+        k,
+        tags,
+        none,
+    )?;
+    let mut findings = first;
+    let mut place = end;
     while place < numbers.len() {
         let end = batch_end(constraints, numbers, place, room);
-        findings = search_batch(
+        let (_, found) = search_batch(
             alloc,
             system,
             constraints,
@@ -55,7 +74,8 @@ pub fn search_each(
             tags,
             findings,
         )?;
+        findings = found;
         place = end;
     }
-    Ok(findings)
+    Ok((grids, findings))
 }

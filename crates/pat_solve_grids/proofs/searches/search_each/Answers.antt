@@ -1,4 +1,3 @@
-use Rattle.std.proofs.Common.{arith}
 use Rattle.pat_bounds.specs.Trees.{bounds_of}
 use Rattle.pat_patterns.specs.Views.{patterns_view}
 use Rattle.pat_solve_lowers.specs.Sides.{sides_list}
@@ -7,8 +6,5 @@ use Rattle.pat_solve_renaming.specs.Systems.{picked}
 use Rattle.pat_solve_grids.proofs.Turning.{nothing_yet}
 use Rattle.pat_solve_grids.proofs.searches.search_each.Goals as goal
 
-pub loop-place-init : goal.loop-place-init
-loop-place-init c = (
-  omega arith,
-  nothing_yet (bounds_of (patterns_view c.args.system.now)) (renamed (place_in c.args.variables.now)) (picked (sides_list c.args.constraints.now) c.args.numbers.now) c.args.numbers.now,
-)
+pub search_batch-requires-clause-found : goal.search_batch-requires-clause-found
+search_batch-requires-clause-found c = nothing_yet (bounds_of (patterns_view c.args.system.now)) (renamed (place_in c.args.variables.now)) (picked (sides_list c.args.constraints.now) c.args.numbers.now) c.args.numbers.now

@@ -1,5 +1,5 @@
 use Rattle.pat_grid.proofs.Listing.{rows_turn}
-use Rattle.pat_grid.proofs.rows.rows.Goals as goal
+use Rattle.pat_grid.proofs.rows.row_grids.Goals as goal
 
 pub loop-number-preserved : goal.loop-number-preserved
 loop-number-preserved c =

@@ -1,0 +1,16 @@
+-- The least grids of a system.
+use Rattle.std.specs.Prelude.{◌≡◌, ◌↔◌, ℕ, List, length, Some, slice_get}
+use Rattle.pat_words.specs.Words.{Word}
+use Rattle.pat_words.specs.Patterns.{Pat}
+use Rattle.pat_words.specs.Cuts.{CutOf}
+use Rattle.pat_bounds.specs.Trees.{bounds_of, derivable}
+use Rattle.pat_bounds.specs.CutSets.{IsPoint}
+use Rattle.pat_grid_points.specs.declared.grid.Grid.{Grid}
+use Rattle.pat_grid_points.specs.Views.{HasPoint}
+use Rattle.pat_grid_tables.specs.Views.{AreGrids}
+
+-- a grid for each variable, with its derivable words, each cut at k
+pub record AreLeastOf (k tags : ℕ) (system : List Pat) (grids : List Grid) : Type 0 where
+  pub count : length grids ≡ length system
+  pub like : AreGrids k tags grids
+  pub points : (j : ℕ) (g : Grid) (u : Word) → slice_get grids j ≡ Some g → IsPoint k tags u → HasPoint g u ↔ CutOf k (derivable (bounds_of system) j) u
