@@ -27,7 +27,7 @@ fn no_interface(alloc: Global) -> Interface
     ensures tags { result.tags ≡ [] }
 {
     Interface {
-        name: Text::from_vec(Vec::new(alloc)),
+        name: Text::empty(),
         tags: Sequence::new(alloc),
     }
 }

@@ -13,7 +13,6 @@ use pat_lexer_fronts::{
 use pat_sequences::Text;
 use pat_syntax::{Mark, Span, Token, TokenKind};
 use std::alloc::Global;
-use std::mem;
 use unicode_ident::{is_xid_continue, is_xid_start};
 
 /// What was read so far.
@@ -431,9 +430,10 @@ impl Reader {
         requires characters { self.old.character.items ≡ [] }
         ensures { Advances self.old self.new text.now result }
     {
-        let content = mem::replace(&mut self.text, Vec::new(self.alloc));
+        let content = Text::from_slice(self.alloc, self.text.as_slice())?;
+        self.text.clear();
         self.position += 1;
-        self.push(TokenKind::Str(Text::from_vec(content)))?;
+        self.push(TokenKind::Str(content))?;
         Ok(1)
     }
 
