@@ -1,4 +1,4 @@
-use Rattle.std.proofs.Common.{rules, ◌≡◌, ◌+◌, ◌∷◌, [], List, ℕ, refl, ap, subst, ◌∙◌}
+use Rattle.std.proofs.Common.{rules, ◌≡◌, ◌+◌, ◌∷◌, [], List, ℕ, ap, subst, ◌∙◌}
 use Rattle.pat_lexical.specs.Tokens.{Str}
 use Rattle.pat_lexer.specs.Progress.{Progress, Stands}
 use Rattle.pat_lexer.specs.Changes.{with_token}
@@ -11,8 +11,7 @@ pub returns : goal.returns
 returns c =
     let p = progress c.args.self.now in
     let bytes = c.args.text.now in
-    let emptied : c.replace-content.new.dest.items ≡ [] = rw (c.replace-content.ensures.after, c.new.ensures.items) refl in
-    let content : c.from_vec.result ≡ p.text = c.from_vec.ensures ∙ rw c.replace-content.ensures.value refl in
-    let first : List ℕ → Progress = λ l. with_token (record p { position = p.position + 1; text = l }) (Str c.from_vec.result) in
+    let content : c.in_ok-content.content ≡ p.text = search rules in
+    let first : List ℕ → Progress = λ l. with_token (record p { position = p.position + 1; text = l }) (Str c.in_ok-content.content) in
     let second : List ℕ → Progress = λ l. with_token (record p { position = p.position + 1; text = [] }) (Str l) in
-    (search rules, search rules, search rules, at_first p (progress c.push.new.self) bytes c.requires.some (λ text more s. moved _ (progress c.push.new.self) text more (c.in_ok-push.ensures.pushed ∙ ap first emptied ∙ ap second content) (string_closes p text more c.requires.kind c.requires.characters (subst (λ b. Stands p text (b ∷ more)) c.requires.quote s))))
+    (search rules, search rules, search rules, at_first p (progress c.push.new.self) bytes c.requires.some (λ text more s. moved _ (progress c.push.new.self) text more (c.in_ok-push.ensures.pushed ∙ ap first c.clear.ensures.items ∙ ap second content) (string_closes p text more c.requires.kind c.requires.characters (subst (λ b. Stands p text (b ∷ more)) c.requires.quote s))))
