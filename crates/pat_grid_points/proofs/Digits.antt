@@ -3,12 +3,12 @@ use Rattle.std.proofs.Common.{◌≡◌, ℕ, zero, suc, ◌+◌, ◌-◌, ◌*�
 use Rattle.std.specs.Prelude.{nat_eq, nat_le}
 use Rattle.std.proofs.lemmas.Bool.{and_parts, leb-true, cases_eq, cases_lt, cond-true, cond-false, eq-eqb, ne_eqb}
 use Rattle.std.proofs.lemmas.List.{get_or-set_same, get_or-set_other, get_or-replicate, length-replicate, get_or_past}
-use Rattle.std.proofs.Math.Nat.{pow-le-pow_right, pow-le-pow_left, pow-suc, mul_comm, mul_assoc, add-mul, mul-le-mul_left, one-le-pow}
+use Rattle.std.proofs.Math.Nat.{pow-le-pow_right, pow-le-pow_left, pow-suc, mul_comm, mul_assoc, add-mul, mul-le-mul_left, one-le-pow, zero-div, zero-mod}
 use Rattle.pat_words.specs.Words.{Word, plus}
 use Rattle.pat_words.specs.Cuts.{cut_at}
 use Rattle.pat_inclusions.specs.Points.{grid_fits}
 use Rattle.pat_bounds.specs.Numbers.{points_in, number_of, point_of}
-use Rattle.pat_bounds_laws.proofs.NumberLaws.{number_below, point_fits}
+use Rattle.pat_bounds_laws.proofs.NumberLaws.{number_below, point_counts, point_fits, point_number}
 use Rattle.pat_grid_points.specs.Views.{summed}
 
 -- ---- grids that are worked with
@@ -107,6 +107,28 @@ summed_one k v w m n e =
 
 pub summed_below : (k n v w : ℕ) → summed k n v w < points_in k n
 summed_below k n v w = number_below k n (cut_at k (plus (point_of k n v) (point_of k n w))) (λ t. omega arith)
+
+-- the empty word is the point with number 0
+zero_point : (k n t : ℕ) → point_of k n 0 t ≡ 0
+zero_point k zero t = refl
+zero_point k (suc n) t =
+    ⊎_elim
+    (λ e. cond-true (nat_eq t n) (0 % (k + 1)) (point_of k n (0 / (k + 1)) t) (eq-eqb t n e) ∙ zero-mod (k + 1))
+    (λ d. cond-false (nat_eq t n) (0 % (k + 1)) (point_of k n (0 / (k + 1)) t) (ne_eqb t n d) ∙ ap (λ c. point_of k n c t) (zero-div (k + 1)) ∙ zero_point k n t)
+    (cases_eq t n)
+
+-- what is added to it stays as it is
+pub summed_zero_left : (k n w : ℕ) → w < points_in k n → w ≡ summed k n 0 w
+summed_zero_left k n w l =
+    sym (point_number k n w l)
+    ∙ number_same k n (point_of k n w) (cut_at k (plus (point_of k n 0) (point_of k n w)))
+    (λ t m. let z = zero_point k n t in let few = point_counts k n (point_of k n w) (point_fits k n w) t in omega arith)
+
+pub summed_zero_right : (k n v : ℕ) → v < points_in k n → v ≡ summed k n v 0
+summed_zero_right k n v l =
+    sym (point_number k n v l)
+    ∙ number_same k n (point_of k n v) (cut_at k (plus (point_of k n v) (point_of k n 0)))
+    (λ t m. let z = zero_point k n t in let few = point_counts k n (point_of k n v) (point_fits k n v) t in omega arith)
 
 -- the digits from the last one on are added; those of the first tags are to come
 pub record Adding (k n first second left one other number worth : ℕ) : Type 0 where

@@ -3,3 +3,4 @@ pub mod Sets
 pub mod Members
 mod Listed
 mod InBlocks
+mod Linked

@@ -8,6 +8,7 @@ ghost use Rattle.pat_grid_points.specs.declared.grid.Grid.{Grid as GridValue};
 ghost use Rattle.pat_grid_points.specs.Views.{HasPoint, points_of};
 
 mod blocks;
+mod chains;
 mod grid;
 mod lists;
 mod making;
@@ -15,9 +16,10 @@ mod numbers;
 mod reading;
 mod sparse;
 
+pub use chains::Chains;
 pub use grid::Grid;
-pub use lists::{empty_lists, forget, push_if, take};
-pub use numbers::{bag_of, count_points, number_of, sum_of};
+pub use lists::{count_same, forget, take};
+pub use numbers::{bag_of, count_points, number_of, sum_of, sum_of_points};
 pub use reading::next_held;
 pub use sparse::SparseList;
 

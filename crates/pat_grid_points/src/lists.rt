@@ -1,23 +1,9 @@
-// Lists of numbers that are filled anew.
-ghost use Rattle.std.specs.Prelude.{◌≡◌, ◌++◌, ◌∷◌, [], replicate, IfOk, OnOk, if◌then◌else◌};
+// Lists of numbers that are filled anew, and runs of numbers.
+ghost use Rattle.std.specs.Prelude.{◌≡◌, ◌<◌, ◌≤◌, ℕ, length, get_or, ◌++◌, ◌∷◌, [], OnOk, if◌then◌else◌};
 
 use pat_sequences::Sequence;
-use std::alloc::{AllocError, Global};
+use std::alloc::AllocError;
 use std::mem;
-
-/// So many empty lists.
-pub fn empty_lists<T: Drop>(
-    alloc: Global,
-    count: usize,
-) -> Result<Sequence<Sequence<T>>, AllocError>
-    ensures { IfOk result (λ lists. lists ≡ replicate count []) }
-{
-    let mut lists = Sequence::from_vec(Vec::with_capacity(alloc, count)?);
-    for _ in 0..count {
-        lists.push(Sequence::new(alloc))?;
-    }
-    Ok(lists)
-}
 
 /// From now on nothing is listed.
 pub fn forget(numbers: &mut Sequence<usize>)
@@ -43,4 +29,19 @@ pub fn push_if(wanted: bool, number: usize, numbers: &mut Sequence<usize>) -> Re
         numbers.push(number)?;
     }
     Ok(())
+}
+
+/// How many items from the first one on are the same.
+pub fn count_same(items: &[u16]) -> usize
+    requires { 0 < length items.now }
+    ensures within { result ≤ length items.now }
+    ensures same { (j d : ℕ) → j < result → get_or items.now j d ≡ get_or items.now 0 d }
+{
+    let first = items[0];
+    for place in 1..items.len() {
+        if items[place] != first {
+            return place;
+        }
+    }
+    items.len()
 }

@@ -66,3 +66,20 @@ pub fn sum_of(first: usize, second: usize, k: u32, tags: u8) -> usize
     }
     number
 }
+
+/// The same of two points of the grid.
+pub fn sum_of_points(first: usize, second: usize, k: u32, tags: u8) -> usize
+    requires few { points_in k tags < 65537 }
+    requires first { first < points_in k tags }
+    requires second { second < points_in k tags }
+    ensures { result ≡ summed k tags first second }
+{
+    // The empty word is one of many, and its sum is at hand.
+    if first == 0 {
+        return second;
+    }
+    if second == 0 {
+        return first;
+    }
+    sum_of(first, second, k, tags)
+}

@@ -57,6 +57,18 @@ impl<T: Copy + Drop> SparseList<T> {
         self.blocks.as_slice()[start * BLOCK + place % BLOCK]
     }
 
+    /// The items from the place on to the end of its block. The last block may reach past the end of the list.
+    pub fn rest_of_block(&self, place: usize) -> &[T]
+        requires { place < length self.now }
+        ensures some { 0 < length result.now }
+        ensures few { length result.now ≤ 16 }
+        ensures same { (j : ℕ) (d : T) → j < length result.now → place + j < length self.now → get_or self.now (place + j) d ≡ get_or result.now j d }
+    {
+        let blocks = self.blocks.as_slice();
+        let start = self.starts.get(place / BLOCK) * BLOCK;
+        &blocks[start + place % BLOCK..start + BLOCK]
+    }
+
     /// Puts an item at the place. An error leaves the list as it was.
     pub fn set(&mut self, place: usize, item: T) -> Result<(), AllocError>
         requires { place < length self.old }

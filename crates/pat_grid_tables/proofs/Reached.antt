@@ -1,22 +1,25 @@
 -- Lists of the numbers at which symbols have trees.
-use Rattle.std.proofs.Common.{◌≡◌, ℕ, ◌+◌, ◌<◌, ◌≤◌, ◌⊎◌, inl, inr, ⊎_elim, Bool, true, false, List, [], ◌∷◌, ◌++◌, length, length-set, length-append, append-nil, get_or, refl, sym, ap, ◌∙◌, subst, arith}
-use Rattle.std.specs.Prelude.{if◌then◌else◌}
-use Rattle.std.proofs.lemmas.Bool.{cases_lt, cases_eq}
+use Rattle.std.proofs.Common.{◌≡◌, ℕ, zero, suc, ◌<◌, ◌≤◌, ◌⊎◌, inl, inr, ⊎_elim, Bool, true, false, List, [], ◌∷◌, ◌++◌, length, length-set, length-append, get_or, refl, sym, ap, ◌∙◌, subst, arith}
+use Rattle.std.specs.Prelude.{if◌then◌else◌, nat_le}
+use Rattle.std.proofs.lemmas.Bool.{cases_lt, cases_eq, leb-true, le-leb}
 use Rattle.std.proofs.lemmas.List.{get_or-set_same, get_or-set_other, get_or_append_left, get_or_at, set_past}
 use Rattle.pat_bounds.specs.Tables.{Setting, IsKnown}
 use Rattle.pat_bounds.specs.Numbers.{points_in}
 use Rattle.pat_grid_tables.specs.declared.sizes.Sizes.{Sizes}
-use Rattle.pat_grid_tables.specs.Moves.{entry_at, Among, ArePoints, HasLists, Picks}
-use Rattle.pat_grid_tables.specs.Waiting.{noted}
+use Rattle.pat_grid_tables.specs.Moves.{entry_at, Among, ArePoints, HasLists}
+use Rattle.pat_grid_points.specs.Chains.{noted, from_on}
 
 -- ---- what is in a list to which a number is put
 
-pub among_pushed : (t s : ℕ) (xs : List ℕ) → Among t xs → Among t (xs ++ (s ∷ []))
-among_pushed t s xs h =
-    (h.0, let l = length-append xs (s ∷ []) in let i = h.1 in omega arith, get_or_append_left xs (s ∷ []) 0 h.0 h.1 ∙ h.2)
+among_put : (t s : ℕ) (xs : List ℕ) → Among t xs → Among t (s ∷ xs)
+among_put t s xs h = (suc h.0, let i = h.1 in omega arith, h.2)
 
-pub among_last : (s : ℕ) (xs : List ℕ) → Among s (xs ++ (s ∷ []))
-among_last s xs = (length xs, let l = length-append xs (s ∷ []) in omega arith, get_or_at xs s [] 0 (length xs) refl)
+among_first : (s : ℕ) (xs : List ℕ) → Among s (s ∷ xs)
+among_first s xs = (0, omega arith, refl)
+
+points_put : (g : Setting) (c : ℕ) (xs : List ℕ) → c < points_in g.bound g.tags → ArePoints g xs → ArePoints g (c ∷ xs)
+points_put g c xs l h zero m = l
+points_put g c xs l h (suc i) m = h i (omega arith)
 
 pub points_pushed : (g : Setting) (c : ℕ) (xs : List ℕ) → c < points_in g.bound g.tags → ArePoints g xs → ArePoints g (xs ++ (c ∷ []))
 points_pushed g c xs l h i m =
@@ -30,25 +33,25 @@ noted_kept users a s b t h =
     ⊎_elim
     (λ l. ⊎_elim
     (λ e. subst (λ i. Among t (get_or (noted users a s) i [])) (sym e)
-    (subst (Among t) (sym (get_or-set_same users a (get_or users a [] ++ (s ∷ [])) [] l)) (among_pushed t s (get_or users a []) (subst (λ i. Among t (get_or users i [])) e h))))
-    (λ n. subst (Among t) (sym (get_or-set_other users a b (get_or users a [] ++ (s ∷ [])) [] n)) h)
+    (subst (Among t) (sym (get_or-set_same users a (s ∷ get_or users a []) [] l)) (among_put t s (get_or users a []) (subst (λ i. Among t (get_or users i [])) e h))))
+    (λ n. subst (Among t) (sym (get_or-set_other users a b (s ∷ get_or users a []) [] n)) h)
     (cases_eq b a))
-    (λ l. subst (λ us. Among t (get_or us b [])) (sym (set_past users a (get_or users a [] ++ (s ∷ [])) l)) h)
+    (λ l. subst (λ us. Among t (get_or us b [])) (sym (set_past users a (s ∷ get_or users a []) l)) h)
     (cases_lt a (length users))
 
 pub noted_there : (users : List (List ℕ)) (a s : ℕ) → a < length users → Among s (get_or (noted users a s) a [])
 noted_there users a s l =
-    subst (Among s) (sym (get_or-set_same users a (get_or users a [] ++ (s ∷ [])) [] l)) (among_last s (get_or users a []))
+    subst (Among s) (sym (get_or-set_same users a (s ∷ get_or users a []) [] l)) (among_first s (get_or users a []))
 
 pub noted_many : (users : List (List ℕ)) (a s : ℕ) → length (noted users a s) ≡ length users
-noted_many users a s = length-set users a (get_or users a [] ++ (s ∷ []))
+noted_many users a s = length-set users a (s ∷ get_or users a [])
 
 noted_points : (g : Setting) (users : List (List ℕ)) (a c b : ℕ) → a < length users → c < points_in g.bound g.tags → ((i : ℕ) → ArePoints g (get_or users i [])) → ArePoints g (get_or (noted users a c) b [])
 noted_points g users a c b l m h =
     ⊎_elim
     (λ e. subst (λ i. ArePoints g (get_or (noted users a c) i [])) (sym e)
-    (subst (ArePoints g) (sym (get_or-set_same users a (get_or users a [] ++ (c ∷ [])) [] l)) (points_pushed g c (get_or users a []) m (h a))))
-    (λ n. subst (ArePoints g) (sym (get_or-set_other users a b (get_or users a [] ++ (c ∷ [])) [] n)) (h b))
+    (subst (ArePoints g) (sym (get_or-set_same users a (c ∷ get_or users a []) [] l)) (points_put g c (get_or users a []) m (h a))))
+    (λ n. subst (ArePoints g) (sym (get_or-set_other users a b (c ∷ get_or users a []) [] n)) (h b))
     (cases_eq b a)
 
 -- ---- an entry was written
@@ -109,27 +112,36 @@ lists_forgotten g x y e f n h = record {
 
 -- ---- the numbers of a list from a number on
 
-pub picks_none : (from upto : ℕ) (list numbers : List ℕ) → numbers ≡ [] → Picks from upto list 0 numbers
-picks_none from upto list numbers e = subst (Picks from upto list 0) (sym e) (record {
-  within = λ i l. absurd (omega arith);
-  all = λ j l k. absurd (omega arith);
-})
+from_there : (b : Bool) (x : ℕ) (xs : List ℕ) → b ≡ true → Among x (if b then x ∷ xs else xs)
+from_there true x xs e = among_first x xs
+from_there false x xs e = absurd (cc)
 
-pub picks_more : (from upto m : ℕ) (list : List ℕ) (wanted : Bool) (old new : List ℕ) → get_or list m 0 < upto → Picks from upto list m old → (wanted ≡ true → from ≤ get_or list m 0) → (wanted ≡ false → get_or list m 0 < from) → new ≡ old ++ (if wanted then get_or list m 0 ∷ [] else []) → Picks from upto list (m + 1) new
-picks_more from upto m list true old new l h w v e = subst (Picks from upto list (m + 1)) (sym e) (record {
-  within = λ i k. ⊎_elim
-      (λ s. let p = h.within i s in let q = get_or_append_left old (get_or list m 0 ∷ []) 0 i s in (omega arith, omega arith))
-      (λ s. let z = length-append old (get_or list m 0 ∷ []) in let f : length old ≡ i = omega arith in let q = get_or_at old (get_or list m 0) [] 0 i f in let o = w refl in (omega arith, omega arith))
-      (cases_lt i (length old));
-  all = λ j k o. ⊎_elim
-      (λ s. among_pushed (get_or list j 0) (get_or list m 0) old (h.all j s o))
-      (λ s. let f : m ≡ j = omega arith in subst (λ i. Among (get_or list i 0) (old ++ (get_or list m 0 ∷ []))) f (among_last (get_or list m 0) old))
-      (cases_lt j m);
-})
-picks_more from upto m list false old new l h w v e = subst (Picks from upto list (m + 1)) (sym (e ∙ append-nil old)) (record {
-  within = h.within;
-  all = λ j k o. ⊎_elim
-      (λ s. h.all j s o)
-      (λ s. let f : j ≡ m = omega arith in let less = v refl in let at = ap (λ i. get_or list i 0) f in absurd (omega arith))
-      (cases_lt j m);
-})
+from_kept : (b : Bool) (t x : ℕ) (xs : List ℕ) → Among t xs → Among t (if b then x ∷ xs else xs)
+from_kept true t x xs h = among_put t x xs h
+from_kept false t x xs h = h
+
+pub from_among : (from t : ℕ) (xs : List ℕ) → from ≤ t → Among t xs → Among t (from_on from xs)
+from_among from t [] l h = let i = h.1 in absurd (omega arith)
+from_among from t (x ∷ xs) l (zero, m, e) =
+    subst (λ i. Among i (from_on from (x ∷ xs))) e (from_there (nat_le from x) x (from_on from xs) (le-leb from x (omega arith)))
+from_among from t (x ∷ xs) l (suc i, m, e) =
+    from_kept (nat_le from x) t x (from_on from xs) (from_among from t xs l (i, omega arith, e))
+
+-- the numbers lie between both
+abbrev Between : ℕ → ℕ → List ℕ → Type 0
+Between from upto numbers = (i : ℕ) → i < length numbers → (from ≤ get_or numbers i 0) × (get_or numbers i 0 < upto)
+
+between_put : (from upto x : ℕ) (xs : List ℕ) (b : Bool) → nat_le from x ≡ b → x < upto → Between from upto xs → Between from upto (if b then x ∷ xs else xs)
+between_put from upto x xs true e l h zero m = (leb-true from x e, l)
+between_put from upto x xs true e l h (suc i) m = h i (omega arith)
+between_put from upto x xs false e l h i m = h i m
+
+pub from_within : (from upto : ℕ) (xs : List ℕ) → ((i : ℕ) → i < length xs → get_or xs i 0 < upto) → Between from upto (from_on from xs)
+from_within from upto [] h = λ i l. absurd (omega arith)
+from_within from upto (x ∷ xs) h =
+    between_put from upto x (from_on from xs) (nat_le from x) refl (h 0 (omega arith)) (from_within from upto xs (λ i l. h (suc i) (omega arith)))
+
+pub from_all : (xs : List ℕ) → from_on 0 xs ≡ xs
+from_all [] = refl
+from_all (x ∷ xs) =
+    ap (λ b. if b then x ∷ from_on 0 xs else from_on 0 xs) (le-leb 0 x (omega arith)) ∙ ap (λ ys. x ∷ ys) (from_all xs)

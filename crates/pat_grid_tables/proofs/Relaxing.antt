@@ -12,15 +12,15 @@ use Rattle.pat_bounds.specs.Tables.{Setting, IsSound, IsKnown, Step, StepByOne, 
 use Rattle.pat_bounds.specs.Numbers.{points_in, point_of, place_of, table_of, unknown, HasAllEntries}
 use Rattle.pat_bounds_laws.proofs.NumberLaws.{number_point, point_number, point_fits, write_steps, write_falls}
 use Rattle.pat_bounds_laws.proofs.TableLaws.{steps_sound}
+use Rattle.pat_grid_points.specs.Chains.{noted, from_on}
 use Rattle.pat_grid_points.specs.Views.{summed}
 use Rattle.pat_grid_points.proofs.Digits.{summed_below as summed_small}
 use Rattle.pat_grid_symbols.specs.Views.{symbol_view}
 use Rattle.pat_grid_tables.specs.declared.board.Board.{Board}
 use Rattle.pat_grid_tables.specs.declared.sizes.Sizes.{Sizes}
 use Rattle.pat_grid_tables.specs.Views.{setting_of, IsBoard}
-use Rattle.pat_grid_tables.specs.Moves.{entry_at, total, IsPlace, Lowers, Moved, PartAt, PartBefore, ListedBefore, AreOthers, PairAt, RowBefore, RowsBefore, HeldBefore, Among, HasLists, Lists, Picks}
-use Rattle.pat_grid_tables.specs.Waiting.{noted}
-use Rattle.pat_grid_tables.proofs.Reached.{lists_written, lists_forgotten}
+use Rattle.pat_grid_tables.specs.Moves.{entry_at, total, IsPlace, Lowers, Moved, PartAt, PartBefore, ListedBefore, AreOthers, PairAt, RowBefore, RowsBefore, HeldBefore, HasLists, Lists}
+use Rattle.pat_grid_tables.proofs.Reached.{lists_written, lists_forgotten, from_among, from_within}
 
 -- ---- rows
 
@@ -295,22 +295,17 @@ before_more P m before here c l =
 -- ---- lists of numbers
 
 -- the list of a symbol, from a number on
-pub known_listed : (b : Board) (x : Sizes) (s from : ℕ) (list numbers : List ℕ) → IsBoard b → HasAllEntries (setting_of b) x.entries → HasLists (setting_of b) x → list ≡ get_or x.reached s [] → Picks from b.points list (length list) numbers → Lists (λ c. IsKnown (setting_of b).limit (entry_at (setting_of b) x.entries s c)) from b.points numbers
-known_listed b x s from list numbers board all lists e h = record {
-  within = h.within;
-  all = λ c l m known. ⊎_elim
-      (λ there.
-      let i : Among c list = subst (Among c) (sym e) (lists.all s c there (let p = board.points in omega arith) known) in
-      subst (λ d. Among d numbers) i.2 (h.all i.0 i.1 (let f = i.2 in omega arith)))
-      (λ past. let f = entry_past (setting_of b) x.entries s c all past in absurd (omega arith))
-      (cases_lt s (length (setting_of b).flat.symbols));
-}
-
--- what is listed are numbers of points of the board
-pub listed_points : (b : Board) (x : Sizes) (s i : ℕ) (list : List ℕ) → IsBoard b → HasLists (setting_of b) x → list ≡ get_or x.reached s [] → i < length list → get_or list i 0 < b.points
-listed_points b x s i list board lists e l =
-    subst (λ p. get_or list i 0 < p) (sym board.points)
-    (subst (λ ns. get_or ns i 0 < points_in b.k b.tags) (sym e) (lists.within s i (subst (λ ns. i < length ns) e l)))
+pub known_listed : (b : Board) (x : Sizes) (s from : ℕ) (numbers : List ℕ) → IsBoard b → HasAllEntries (setting_of b) x.entries → HasLists (setting_of b) x → numbers ≡ from_on from (get_or x.reached s []) → Lists (λ c. IsKnown (setting_of b).limit (entry_at (setting_of b) x.entries s c)) from b.points numbers
+known_listed b x s from numbers board all lists e =
+    let g = setting_of b in
+    let points = board.points in
+    subst (Lists (λ c. IsKnown g.limit (entry_at g x.entries s c)) from b.points) (sym e) (record {
+      within = from_within from b.points (get_or x.reached s []) (λ i l. let w = lists.within s i l in omega arith);
+      all = λ c l m known. ⊎_elim
+          (λ there. from_among from c (get_or x.reached s []) l (lists.all s c there (omega arith) known))
+          (λ past. let f = entry_past g x.entries s c all past in absurd (omega arith))
+          (cases_lt s (length g.flat.symbols));
+    })
 
 -- where the part has no tree, nothing is claimed
 pub listed_whole : (b : Board) (s a : ℕ) (numbers : List ℕ) (x y : Sizes) (p q : Bool) → IsBoard b → Lists (λ c. IsKnown (setting_of b).limit (entry_at (setting_of b) x.entries a c)) 0 b.points numbers → Moved (setting_of b) s (a ≡ s → ⊥) (ListedBefore (setting_of b) s a numbers (length numbers)) x p y q → Moved (setting_of b) s (a ≡ s → ⊥) (PartBefore (setting_of b) s a b.points) x p y q

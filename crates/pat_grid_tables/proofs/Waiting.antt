@@ -11,12 +11,13 @@ use Rattle.pat_bounds.specs.Tables.{Setting, IsKnown, IsDone, StepAt, StepByOne,
 use Rattle.pat_bounds.specs.Numbers.{points_in, number_of, table_of}
 use Rattle.pat_bounds_laws.proofs.NumberLaws.{number_small, pass_closed}
 use Rattle.pat_bounds_laws.proofs.TableLaws.{start_sound}
+use Rattle.pat_grid_points.specs.Chains.{noted}
 use Rattle.pat_grid_symbols.specs.Views.{symbol_view}
 use Rattle.pat_grid_tables.specs.declared.board.Board.{Board}
 use Rattle.pat_grid_tables.specs.declared.sizes.Sizes.{Sizes}
 use Rattle.pat_grid_tables.specs.Views.{setting_of, IsBoard}
 use Rattle.pat_grid_tables.specs.Moves.{entry_at, Among, Lowers, Moved, ClosedAt}
-use Rattle.pat_grid_tables.specs.Waiting.{IsPartOf, IsPart, IsNoPart, HasUsersBefore, HasUsers, noted, Notes, Begins, Stands, with_waits, Waits, Looked, Passed}
+use Rattle.pat_grid_tables.specs.Waiting.{IsPartOf, IsPart, IsNoPart, HasUsersBefore, HasUsers, Notes, Begins, Stands, with_waits, Waits, Looked, Passed}
 use Rattle.pat_grid_tables.proofs.Done.{board_fit}
 use Rattle.pat_grid_tables.proofs.Reached.{noted_kept, noted_there, noted_many}
 

@@ -122,11 +122,6 @@ pub record Lists (P : ℕ → Type 0) (from upto : ℕ) (numbers : List ℕ) : T
   pub within : (i : ℕ) → i < length numbers → (from ≤ get_or numbers i 0) × (get_or numbers i 0 < upto)
   pub all : (c : ℕ) → from ≤ c → c < upto → P c → Among c numbers
 
--- the numbers lie between both, and those of the first m of the list that do are all there
-pub record Picks (from upto : ℕ) (list : List ℕ) (m : ℕ) (numbers : List ℕ) : Type 0 where
-  pub within : (i : ℕ) → i < length numbers → (from ≤ get_or numbers i 0) × (get_or numbers i 0 < upto)
-  pub all : (j : ℕ) → j < m → from ≤ get_or list j 0 → Among (get_or list j 0) numbers
-
 -- ---- given points
 
 -- the entry is 1 at most, if the point is held

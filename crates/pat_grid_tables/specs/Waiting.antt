@@ -1,5 +1,5 @@
 -- Which symbols wait to be looked at: those at which a step may give less than the table has.
-use Rattle.std.specs.Prelude.{◌≡◌, ℕ, ◌<◌, ◌≤◌, ◌⊎◌, Bool, true, false, List, [], ◌∷◌, ◌++◌, length, get_or, set}
+use Rattle.std.specs.Prelude.{◌≡◌, ℕ, ◌<◌, ◌≤◌, ◌⊎◌, Bool, true, false, List, [], ◌∷◌, length, get_or, set}
 use Rattle.pat_bounds.specs.Symbols.{Symbol, SumSymbol, ProdSymbol, StarSymbol, LowerSymbol, Flat, symbol_at, root_at}
 use Rattle.pat_bounds.specs.Tables.{Setting, IsSound}
 use Rattle.pat_bounds.specs.Numbers.{table_of, HasAllEntries}
@@ -30,10 +30,6 @@ pub record HasUsersBefore (g : Setting) (m : ℕ) (users : List (List ℕ)) : Ty
 -- of each symbol all that are made of it are listed
 abbrev pub HasUsers : Setting → List (List ℕ) → Type 0
 HasUsers g users = HasUsersBefore g (length g.flat.symbols) users
-
--- the item is noted in the list of symbol a, if there is such a symbol
-abbrev pub noted : {A : Type 0} → List (List A) → ℕ → A → List (List A)
-noted lists a item = set lists a (get_or lists a [] ++ (item ∷ []))
 
 -- the number s is noted for symbols that are all its parts, if they are there
 pub record Notes (g : Setting) (s : ℕ) (old new : List (List ℕ)) : Type 0 where

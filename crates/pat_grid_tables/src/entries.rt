@@ -7,7 +7,7 @@ ghost use Rattle.pat_grid_tables.specs.Moves.{entry_at, IsPlace, Moved};
 
 use crate::board::Board;
 use crate::sizes::{Sizes, note_if};
-use pat_grid_points::SparseList;
+use pat_grid_points::{SparseList, count_same};
 use std::alloc::AllocError;
 
 /// The entry of the symbol at the point with the number; that of no tree where there is no such symbol.
@@ -70,8 +70,9 @@ fn unknown_until(board: &Board, entries: &SparseList<u16>, s: usize, number: usi
         return number + 1;
     }
     let place = place_of(board, entries, s, number);
-    let until = entries.same_until(place);
-    (until - place + number).min(board.points)
+    let jump = entries.same_until(place) - place;
+    let run = count_same(entries.rest_of_block(place));
+    (number + jump.max(run)).min(board.points)
 }
 
 /// Lowers the entry of the symbol at the point with the number, if it is greater.
@@ -94,17 +95,9 @@ pub fn lower(
     if size >= old {
         return Ok(());
     }
-    note_if(old > board.limit + 1, &mut sizes.reached, s, short(number))?;
+    note_if(old > board.limit + 1, &mut sizes.reached, s, number)?;
     sizes.news.push(number)?;
     sizes.entries.set(place, size)?;
     *changed = true;
     Ok(())
-}
-
-/// A number of a point. There are 65,536 at most.
-fn short(number: usize) -> u16
-    requires { number < 65536 }
-    ensures { result ≡ number }
-{
-    number as u16
 }

@@ -6,8 +6,7 @@ ghost use Rattle.pat_grid_tables.specs.Views.{setting_of, IsBoard};
 ghost use Rattle.pat_grid_tables.specs.Moves.{entry_at, HasLists, Lists};
 
 use crate::board::Board;
-use crate::sizes::{Sizes, reached_at};
-use pat_grid_points::{forget, push_if};
+use crate::sizes::Sizes;
 use pat_sequences::Sequence;
 use std::alloc::AllocError;
 
@@ -24,11 +23,5 @@ pub fn known(
     requires lists { HasLists (setting_of board.now) sizes.now }
     ensures { let g = setting_of board.now in OnOk result (Lists (λ c. IsKnown g.limit (entry_at g sizes.now.entries s c)) from board.now.points numbers.new) }
 {
-    let reached = reached_at(sizes, s);
-    forget(numbers);
-    for number in reached {
-        let number = *number as usize;
-        push_if(number >= from, number, numbers)?;
-    }
-    Ok(())
+    sizes.reached.list_from(s, from, numbers)
 }

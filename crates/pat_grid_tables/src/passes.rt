@@ -1,5 +1,5 @@
 // Passes over the symbols that wait, until none does.
-ghost use Rattle.std.specs.Prelude.{◌≡◌, ◌<◌, [], length, get_or, set, replicate, ◌*◌, ◌+◌, IfOk, OnOk, true, false};
+ghost use Rattle.std.specs.Prelude.{◌≡◌, ◌<◌, length, get_or, set, replicate, ◌*◌, ◌+◌, IfOk, OnOk, true, false};
 ghost use Rattle.pat_bounds.specs.Tables.{IsDone};
 ghost use Rattle.pat_bounds.specs.Numbers.{HasAllEntries, table_of};
 ghost use Rattle.pat_grid_tables.specs.Views.{setting_of, IsBoard};
@@ -9,7 +9,7 @@ use crate::board::Board;
 use crate::sizes::{Scratch, Sizes};
 use crate::symbols::relax_symbol;
 use crate::users::users_of;
-use pat_grid_points::{SparseList, empty_lists, forget};
+use pat_grid_points::{Chains, SparseList, forget};
 use pat_sequences::Sequence;
 use std::alloc::{AllocError, Global};
 
@@ -29,13 +29,7 @@ pub fn least_sizes(alloc: Global, board: &Board) -> Result<SparseList<u16>, Allo
     };
     let mut waits = vec![in alloc; true; board.symbols.len()]?;
     loop {
-        let changed = pass(
-            board,
-            users.as_slice(),
-            &mut sizes,
-            &mut scratch,
-            &mut waits,
-        )?;
+        let changed = pass(board, &users, &mut sizes, &mut scratch, &mut waits)?;
         if !changed {
             return Ok(sizes.entries);
         }
@@ -48,7 +42,7 @@ fn unknown_sizes(alloc: Global, board: &Board) -> Result<Sizes, AllocError>
     ensures { IfOk result (λ sizes. Begins (setting_of board.now) sizes) }
 {
     let entries = unknown_entries(alloc, board)?;
-    let reached = empty_lists(alloc, board.symbols.len())?;
+    let reached = Chains::empty(alloc, board.symbols.len())?;
     Ok(Sizes {
         entries,
         reached,
@@ -73,7 +67,7 @@ fn unknown_entries(alloc: Global, board: &Board) -> Result<SparseList<u16>, Allo
 /// Looks once at each symbol that waits, and says whether an entry was lowered.
 fn pass(
     board: &Board,
-    users: &[Sequence<usize>],
+    users: &Chains,
     sizes: &mut Sizes,
     scratch: &mut Scratch,
     waits: &mut [bool],
@@ -93,7 +87,7 @@ fn pass(
 /// Looks at the symbol, if it waits. Where an entry is lowered, those that are made of it wait.
 fn look(
     board: &Board,
-    users: &[Sequence<usize>],
+    users: &Chains,
     s: usize,
     sizes: &mut Sizes,
     scratch: &mut Scratch,
@@ -114,8 +108,9 @@ fn look(
     forget(&mut sizes.news);
     relax_symbol(board, sizes, scratch, s, &mut lowered)?;
     if lowered {
-        let numbers = users_at(users, s);
-        let_wait(numbers, waits);
+        let numbers = &mut scratch.firsts;
+        users.list_from(s, 0, numbers)?;
+        let_wait(numbers.as_slice(), waits);
         *changed = true;
     }
     Ok(())
@@ -130,14 +125,6 @@ fn stop_waiting(waits: &mut [bool], s: usize) -> bool
     let waited = waits[s];
     waits[s] = false;
     waited
-}
-
-/// The symbols that are made of the symbol with the number.
-fn users_at<'a>(users: &'a [Sequence<usize>], s: usize) -> &'a [usize]
-    requires { s < length users.now }
-    ensures { result.now ≡ get_or users.now s [] }
-{
-    users[s].as_slice()
 }
 
 /// All these symbols wait from now on.

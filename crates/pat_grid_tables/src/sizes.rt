@@ -1,8 +1,8 @@
 // Sizes of least trees, and where they are known.
-ghost use Rattle.std.specs.Prelude.{◌≡◌, [], get_or, OnOk, if◌then◌else◌};
-ghost use Rattle.pat_grid_tables.specs.Waiting.{noted};
+ghost use Rattle.std.specs.Prelude.{◌≡◌, OnOk, if◌then◌else◌};
+ghost use Rattle.pat_grid_points.specs.Chains.{noted};
 
-use pat_grid_points::SparseList;
+use pat_grid_points::{Chains, SparseList};
 use pat_sequences::Sequence;
 use std::alloc::AllocError;
 
@@ -12,8 +12,8 @@ use std::alloc::AllocError;
 pub struct Sizes {
     /// For each symbol an entry for each point.
     pub entries: SparseList<u16>,
-    /// Of each symbol the numbers of the points at which it has a tree, as they were reached.
-    pub reached: Sequence<Sequence<u16>>,
+    /// Of each symbol the numbers of the points at which it has a tree, the last one that was reached in front.
+    pub reached: Chains,
     /// The numbers at which an entry was lowered since the look at a symbol began.
     pub news: Sequence<usize>,
 }
@@ -25,39 +25,17 @@ pub struct Scratch {
     pub seconds: Sequence<usize>,
 }
 
-/// The numbers at which the symbol has a tree.
-pub fn reached_at<'a>(sizes: &'a Sizes, s: usize) -> &'a [u16]
-    ensures { result.now ≡ get_or sizes.now.reached s [] }
-{
-    let reached = sizes.reached.as_slice();
-    if s < reached.len() {
-        reached[s].as_slice()
-    } else {
-        &[]
-    }
-}
-
 /// Notes that the symbol has a tree at the number, if it is asked for.
 pub fn note_if(
     wanted: bool,
-    reached: &mut Sequence<Sequence<u16>>,
+    reached: &mut Chains,
     s: usize,
-    number: u16,
+    number: usize,
 ) -> Result<(), AllocError>
     ensures { OnOk result (reached.new ≡ (if wanted then noted reached.old s number else reached.old)) }
 {
     if wanted {
-        note(reached, s, number)?;
-    }
-    Ok(())
-}
-
-/// Notes the item in the list of symbol `s`, if that is there.
-pub fn note<T: Drop>(lists: &mut Sequence<Sequence<T>>, s: usize, item: T) -> Result<(), AllocError>
-    ensures { OnOk result (lists.new ≡ noted lists.old s item) }
-{
-    if s < lists.len() {
-        lists.items[s].push(item)?;
+        reached.note(s, number)?;
     }
     Ok(())
 }

@@ -8,7 +8,7 @@ use crate::board::Board;
 use crate::entries::{entry, lower};
 use crate::listing::known;
 use crate::sizes::Sizes;
-use pat_grid_points::sum_of;
+use pat_grid_points::sum_of_points;
 use pat_sequences::Sequence;
 use std::alloc::AllocError;
 
@@ -135,7 +135,7 @@ fn relax_pair(
     if one > board.limit + 1 || other > board.limit + 1 {
         return Ok(());
     }
-    let number = sum_of(first, second, board.k, board.tags);
+    let number = sum_of_points(first, second, board.k, board.tags);
     let size = one_more(board, one as u32 + other as u32);
     lower(board, sizes, s, number, size, changed)
 }

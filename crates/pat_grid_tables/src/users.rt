@@ -1,21 +1,19 @@
 // Which symbols are made of which.
-ghost use Rattle.std.specs.Prelude.{◌≡◌, ◌<◌, ◌⊎◌, [], length, replicate, ℕ, IfOk, OnOk};
+ghost use Rattle.std.specs.Prelude.{◌≡◌, ◌<◌, ◌⊎◌, length, ℕ, IfOk, OnOk};
 ghost use Rattle.pat_grid_tables.specs.Views.{setting_of};
 ghost use Rattle.pat_grid_tables.specs.Waiting.{IsPart, HasUsers, Notes};
 
 use crate::board::Board;
-use crate::sizes::note;
 use crate::symbols::{root_of, symbol_at};
-use pat_grid_points::empty_lists;
+use pat_grid_points::Chains;
 use pat_grid_symbols::Symbol;
-use pat_sequences::Sequence;
 use std::alloc::{AllocError, Global};
 
 /// Of each symbol those that are made of it; a star is also made of itself.
-pub fn users_of(alloc: Global, board: &Board) -> Result<Sequence<Sequence<usize>>, AllocError>
+pub fn users_of(alloc: Global, board: &Board) -> Result<Chains, AllocError>
     ensures { IfOk result (λ users. HasUsers (setting_of board.now) users) }
 {
-    let mut users = empty_lists(alloc, board.symbols.len())?;
+    let mut users = Chains::empty(alloc, board.symbols.len())?;
     for s in 0..board.symbols.len() {
         note_parts(board, s, &mut users)?;
     }
@@ -23,17 +21,13 @@ pub fn users_of(alloc: Global, board: &Board) -> Result<Sequence<Sequence<usize>
 }
 
 /// Notes the symbol for each of its parts.
-fn note_parts(
-    board: &Board,
-    s: usize,
-    users: &mut Sequence<Sequence<usize>>,
-) -> Result<(), AllocError>
+fn note_parts(board: &Board, s: usize, users: &mut Chains) -> Result<(), AllocError>
     requires { s < length board.now.symbols.now }
     ensures { OnOk result (Notes (setting_of board.now) s users.old users.new) }
 {
     let parts = parts_of(board, s);
-    note(users, parts.0, s)?;
-    note(users, parts.1, s)
+    users.note(parts.0, s)?;
+    users.note(parts.1, s)
 }
 
 /// What the symbol is made of; a number past all symbols stands for no part.

@@ -1,25 +1,18 @@
-use Rattle.std.proofs.Common.{◌≡◌, subst, length, arith}
-use Rattle.pat_grid_tables.specs.Moves.{Picks}
-use Rattle.pat_grid_tables.proofs.Reached.{picks_more}
-use Rattle.pat_grid_tables.proofs.Relaxing.{known_listed, listed_points}
-use Rattle.std.proofs.lemmas.Bool.{leb-true, leb-false}
+use Rattle.std.proofs.Common.{◌≡◌, get_or, []}
+use Rattle.pat_bounds.specs.Tables.{IsKnown}
+use Rattle.pat_grid_points.specs.Chains.{from_on}
+use Rattle.pat_grid_tables.specs.Views.{setting_of}
+use Rattle.pat_grid_tables.specs.Moves.{entry_at, Lists}
+use Rattle.pat_grid_tables.proofs.Relaxing.{known_listed}
+use Rattle.pat_grid_tables.proofs.Waiting.{on_ok}
 use Rattle.pat_grid_tables.proofs.listing.known.Goals as goal
-
-pub loop-number-preserved : goal.loop-number-preserved
-loop-number-preserved c =
-    let b = c.args.board.now in
-    let list = c.reached_at-reached.result.now in
-    let i = c.loop-number.number-index in
-    picks_more c.args.from b.points i list _ c.loop-number.numbers c.push_if.new.numbers
-    (listed_points b c.args.sizes.now c.args.s i list c.requires.board c.requires.lists c.reached_at-reached.ensures c.loop-number-test.true)
-    c.loop-number.invariant
-    (λ e. leb-true _ _ e)
-    (λ e. leb-false _ _ e)
-    c.in_ok-push_if.ensures
 
 pub returns : goal.returns
 returns c =
     let b = c.args.board.now in
-    let list = c.reached_at-reached.result.now in
-    known_listed b c.args.sizes.now c.args.s c.args.from list c.loop-number.numbers c.requires.board c.requires.all c.requires.lists c.reached_at-reached.ensures
-    (subst (λ n. Picks c.args.from b.points list n c.loop-number.numbers) (let e : c.loop-number.number-index ≡ length list = omega arith in e) c.loop-number.invariant)
+    let g = setting_of b in
+    let x = c.args.sizes.now in
+    let numbers = c.list_from.new.numbers in
+    on_ok c.list_from.result (numbers ≡ from_on c.args.from (get_or x.reached c.args.s [])) (Lists (λ n. IsKnown g.limit (entry_at g x.entries c.args.s n)) c.args.from b.points numbers)
+    (λ e. known_listed b x c.args.s c.args.from numbers c.requires.board c.requires.all c.requires.lists e)
+    c.list_from.ensures

@@ -1,6 +1,7 @@
 use Rattle.std.proofs.Common.{◌≡◌}
 use Rattle.pat_grid_tables.specs.Views.{setting_of}
-use Rattle.pat_grid_tables.specs.Waiting.{Notes, noted}
+use Rattle.pat_grid_points.specs.Chains.{noted}
+use Rattle.pat_grid_tables.specs.Waiting.{Notes}
 use Rattle.pat_grid_tables.proofs.Waiting.{on_ok, notes_two}
 use Rattle.pat_grid_tables.proofs.users.note_parts.Goals as goal
 
@@ -8,6 +9,6 @@ pub returns : goal.returns
 returns c =
     let g = setting_of c.args.board.now in
     let parts = c.parts_of-parts.result in
-    on_ok c.note-2.result (c.note-2.new.lists ≡ noted c.note.new.lists parts.1 c.args.s) (Notes g c.args.s c.args.users.now c.note-2.new.lists)
-    (λ e. notes_two g c.args.s c.args.users.now parts.0 parts.1 c.note.new.lists c.note-2.new.lists c.parts_of-parts.ensures c.in_ok-note.ensures e)
+    on_ok c.note-2.result (c.note-2.new.self ≡ noted c.note.new.self parts.1 c.args.s) (Notes g c.args.s c.args.users.now c.note-2.new.self)
+    (λ e. notes_two g c.args.s c.args.users.now parts.0 parts.1 c.note.new.self c.note-2.new.self c.parts_of-parts.ensures c.in_ok-note.ensures e)
     c.note-2.ensures
