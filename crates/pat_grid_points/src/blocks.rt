@@ -10,7 +10,7 @@ use std::marker::Model;
 pub const BLOCK: usize = 16;
 
 /// Room for a few blocks, so that most lists don't move while they grow.
-const ROOM: usize = 8 * BLOCK;
+pub const ROOM: usize = 8 * BLOCK;
 
 /// A list most of whose items are the same: memory and time go to the blocks that have others. Contracts see the list.
 #[derive(Drop)]
@@ -40,7 +40,7 @@ impl<T: Copy + Drop> BlockList<T> {
         ensures { IfOk result (λ list. list ≡ replicate count common) }
     {
         let starts = vec![in alloc; 0; count / BLOCK + 1]?;
-        let blocks = copies(alloc, common)?;
+        let blocks = copies(alloc, common, ROOM)?;
         let list = of_blocks(count, common, Sequence::from_vec(starts), blocks);
         Ok(list)
     }
@@ -59,6 +59,17 @@ impl<T: Copy + Drop> BlockList<T> {
     {
         let start = self.starts.as_slice()[place / BLOCK];
         self.blocks.as_slice()[start * BLOCK + place % BLOCK]
+    }
+
+    /// The items from the place on to the end of its block. The last block may reach past the end of the list.
+    pub fn rest_of_block(&self, place: usize) -> &[T]
+        requires { place < length self.now }
+        ensures few { length result.now ≤ 16 }
+        ensures same { (j : ℕ) (d : T) → j < length result.now → place + j < length self.now → get_or self.now (place + j) d ≡ get_or result.now j d }
+    {
+        let blocks = self.blocks.as_slice();
+        let start = self.starts.as_slice()[place / BLOCK];
+        &blocks[start * BLOCK + place % BLOCK..start * BLOCK + BLOCK]
     }
 
     /// Puts an item at the place. An error leaves the list as it was.
@@ -112,11 +123,15 @@ fn of_blocks<T: Copy + Drop>(
     }
 }
 
-/// A block of the item alone.
-pub fn copies<T: Copy + Drop>(alloc: Global, item: T) -> Result<Sequence<T>, AllocError>
+/// A block of the item alone, with room for so many items.
+pub fn copies<T: Copy + Drop>(
+    alloc: Global,
+    item: T,
+    room: usize,
+) -> Result<Sequence<T>, AllocError>
     ensures { IfOk result (λ items. items ≡ replicate 16 item) }
 {
-    let mut items = Sequence::from_vec(Vec::with_capacity(alloc, ROOM)?);
+    let mut items = Sequence::from_vec(Vec::with_capacity(alloc, room)?);
     for _ in 0..BLOCK {
         items.push(item)?;
     }

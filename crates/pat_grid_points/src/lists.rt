@@ -34,6 +34,7 @@ pub fn push_if(wanted: bool, number: usize, numbers: &mut Sequence<usize>) -> Re
 /// How many items from the first one on are the same.
 pub fn count_same(items: &[u16]) -> usize
     requires { 0 < length items.now }
+    ensures some { 0 < result }
     ensures within { result ≤ length items.now }
     ensures same { (j d : ℕ) → j < result → get_or items.now j d ≡ get_or items.now 0 d }
 {

@@ -84,9 +84,12 @@ fn unheld_until(held: &SparseList<bool>, number: usize) -> usize
     ensures within { result ≤ length held.now }
     ensures none { (c : ℕ) → number ≤ c → c < result → get_or held.now c false ≡ false }
 {
+    let until = held.same_until(number);
+    if until > number + 1 {
+        return until;
+    }
     let most = held.len() - number;
     let run = count_unheld(held.rest_of_block(number));
-    let until = held.same_until(number);
     until.max(number + run.min(most))
 }
 

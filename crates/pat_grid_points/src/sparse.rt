@@ -2,7 +2,7 @@
 ghost use Rattle.std.specs.Prelude.{◌≡◌, ◌<◌, ◌≤◌, ◌+◌, ◌/◌, ℕ, length, get_or, set, replicate, IfOk, OnOk, OnErr, IfSome, IfNone};
 ghost use Rattle.pat_grid_points.specs.Sparse.{sparse, AreBlocks};
 
-use crate::blocks::{BLOCK, BlockList, copies, repeat_first};
+use crate::blocks::{BLOCK, BlockList, ROOM, copies, repeat_first};
 use pat_sequences::Sequence;
 use std::alloc::{AllocError, Global};
 use std::marker::Model;
@@ -36,7 +36,7 @@ impl<T: Copy + Drop> SparseList<T> {
         ensures { IfOk result (λ list. list ≡ replicate count common) }
     {
         let starts = BlockList::repeat(alloc, 0, count / BLOCK + 1)?;
-        let blocks = copies(alloc, common)?;
+        let blocks = copies(alloc, common, 2 * ROOM)?;
         let list = of_blocks(count, common, starts, blocks);
         Ok(list)
     }
@@ -156,7 +156,37 @@ fn next_begun(starts: &BlockList<usize>, block: usize) -> Option<usize>
         if starts.get(next) != 0 {
             return Some(next);
         }
-        next = starts.same_until(next);
+        next = zero_until(starts, next);
     }
     None
+}
+
+/// A block past this one, which has no items of its own; none up to it has.
+fn zero_until(starts: &BlockList<usize>, block: usize) -> usize
+    requires there { block < length starts.now }
+    requires zero { get_or starts.now block 0 ≡ 0 }
+    ensures past { block < result }
+    ensures within { result ≤ length starts.now }
+    ensures zeros { (a : ℕ) → block ≤ a → a < result → get_or starts.now a 0 ≡ 0 }
+{
+    let until = starts.same_until(block);
+    if until > block + 1 {
+        return until;
+    }
+    let most = starts.len() - block;
+    let run = count_zeros(starts.rest_of_block(block));
+    until.max(block + run.min(most))
+}
+
+/// How many items there are in front of the first one that isn't zero.
+fn count_zeros(items: &[usize]) -> usize
+    ensures within { result ≤ length items.now }
+    ensures zeros { (j : ℕ) → j < result → get_or items.now j 0 ≡ 0 }
+{
+    for place in 0..items.len() {
+        if items[place] != 0 {
+            return place;
+        }
+    }
+    items.len()
 }

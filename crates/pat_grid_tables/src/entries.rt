@@ -71,8 +71,11 @@ fn unknown_until(board: &Board, entries: &SparseList<u16>, s: usize, number: usi
     }
     let place = place_of(board, entries, s, number);
     let jump = entries.same_until(place) - place;
+    if jump > 1 {
+        return (number + jump).min(board.points);
+    }
     let run = count_same(entries.rest_of_block(place));
-    (number + jump.max(run)).min(board.points)
+    (number + run).min(board.points)
 }
 
 /// Lowers the entry of the symbol at the point with the number, if it is greater.
