@@ -1,9 +1,9 @@
 // What a thread does next: its local steps, the line that it prints, and whether it is over.
-ghost use Rattle.std.specs.Prelude.{◌≡◌, map, option_copied, option_map, IfOk};
+ghost use Rattle.std.specs.Prelude.{◌≡◌, map, option_map, IfOk};
 ghost use Rattle.pat_model.specs.Values.{eval, eval_all, line_of};
-ghost use Rattle.pat_model.specs.Programs.{core_at, function_at};
+ghost use Rattle.pat_model.specs.Programs.{function_at};
 ghost use Rattle.pat_model.specs.Steps.{local_step, numbered, redex, frame_of, at_node};
-ghost use Rattle.pat_core.specs.Views.{core_view, expr_view, function_view, program_view};
+ghost use Rattle.pat_core.specs.Views.{expr_view, program_view};
 ghost use Rattle.pat_reduce_values.specs.ValueViews.{value_view, reference_view, env_view};
 ghost use Rattle.pat_reduce_threads.specs.ThreadViews.{control_view, frame_view, thread_view};
 ghost use Rattle.pat_reduce_threads.specs.ThreadActs.{resumed, entered, branch, redex_line, is_over_at};
