@@ -12,7 +12,7 @@ use Rattle.pat_reduce_threads.specs.ThreadViews.{control_view, frame_view, threa
 use Rattle.pat_commits.specs.Commits.{IsLocalRun, locally}
 use Rattle.pat_commits.specs.Tops.{top_of, below, over}
 use Rattle.pat_commit_laws.proofs.Locals.{first_local}
-use Rattle.pat_commit_laws.proofs.Tops.{any_top_runs, locally_lifts}
+use Rattle.pat_commit_laws.proofs.Tops.{top_runs, any_top_runs, top_keeps_frame, locally_lifts}
 use Rattle.pat_machine_threads.specs.declared.settling.Settled.{Settled}
 use Rattle.pat_machine_threads.specs.Settling.{IsRunOnTop, IsBegun, IsRunOn, RunsOn, Uncovers}
 
@@ -94,3 +94,10 @@ module _ (p : Program) (a : ℕ) (x : Thread) where
     local = any_top_runs p a s.gone x s.steps (thread_view s.end) h left;
     frame = λ less. left;
   }
+
+-- a run on a frame for each step
+pub run_on_enough : (p : Program) (a : ℕ) (x : Thread) (s : Settled) → s.gone ≡ a → IsLocalRun p a (top_of a x) s.steps (thread_view s.end) → IsRunOnTop p a x s
+run_on_enough p a x s gone h = record {
+  local = subst (λ m. IsLocalRun p a x s.steps (over (thread_view s.end) (below m x))) (sym gone) (top_runs p a x s.steps (thread_view s.end) h);
+  frame = λ less. subst (λ m. (0 < length (thread_view s.end).frames) ⊎ (below m x ≡ [])) (sym gone) (top_keeps_frame p a x s.steps (thread_view s.end) h less);
+}
