@@ -21,10 +21,6 @@ pub record IsBegun (p : Program) (allowance : ℕ) (kept : Thread) (s : Settled)
   pub within : s.steps ≤ allowance
   pub taken : locally p s.steps (top_of s.gone kept) ≡ Some (thread_view s.end)
 
--- no step, on none of the frames
-abbrev pub IsUnmoved : Thread → Settled → Type 0
-IsUnmoved kept s = (s.steps ≡ 0) × (s.gone ≡ 0) × (thread_view s.end ≡ top_of 0 kept)
-
 -- all steps within the allowance, or as many as there are, taken on so many frames on top of the kept thread
 abbrev pub IsRunOn : Program → ℕ → Thread → Settled → Type 0
 IsRunOn p allowance kept s = IsLocalRun p allowance (top_of s.gone kept) s.steps (thread_view s.end)

@@ -1,18 +1,16 @@
 // Local steps of a kept thread, on a copy of its top.
 ghost use Rattle.std.specs.Prelude.{◌≡◌, ◌<◌, ◌≤◌, ◌⊎◌, [], length, IfOk, OnOk, IsTrue, IsFalse};
-ghost use Rattle.pat_model.specs.Steps.{resume, thread_of};
+ghost use Rattle.pat_model.specs.Steps.{resume};
 ghost use Rattle.pat_reduce_threads.specs.Views.{program_view};
-ghost use Rattle.pat_reduce_threads.specs.ThreadViews.{control_view, frame_view, thread_view};
+ghost use Rattle.pat_reduce_threads.specs.ThreadViews.{frame_view, thread_view};
 ghost use Rattle.pat_reduce_values.specs.ValueViews.{value_view};
 ghost use Rattle.pat_commits.specs.Tops.{below};
-ghost use Rattle.pat_machine_threads.specs.Settling.{IsBegun, IsRunOnTop, IsUnmoved, RunsOn, Uncovers};
+ghost use Rattle.pat_machine_threads.specs.Settling.{IsBegun, IsRunOnTop, RunsOn, Uncovers};
 
 use crate::copies::{copy_frame, copy_top};
 use crate::run::run_locally;
 use crate::tops::{frame_below, has_at_most};
-use pat_core::Core;
-use pat_reduce::{Control, Frame, StepError, ThreadState, Value};
-use pat_reduce_threads::{core_of, enter};
+use pat_reduce::{Control, Frame, ThreadState, Value};
 use pat_reduce_values::{Executable, bound, keep_free};
 use pat_sequences::Stack;
 use std::alloc::{AllocError, Global};
@@ -82,8 +80,8 @@ fn uncover(alloc: Global, kept: &ThreadState, settled: &mut Settled) -> Result<(
     Ok(())
 }
 
-// A copy of the kept control, and no step; or the first step, where a frame waits for the value that is there, or where it is a call:
-// then no control is copied.
+// A copy of the kept control, and no step; or the first step, where a frame waits for the value that is there, since then the value
+// isn't copied as a control.
 fn begin(
     alloc: Global,
     code: &Executable,
@@ -92,54 +90,17 @@ fn begin(
 ) -> Result<Settled, AllocError>
     ensures { IfOk result (IsBegun (program_view code.now.program) allowance (thread_view kept.now)) }
 {
-    match &kept.control {
-        Control::Returned(value) if allowance > 0 => match kept.frames.top() {
-            Some(frame) => {
-                let end = resumed(alloc, code, value, frame)?;
-                Ok(Settled {
-                    end,
-                    gone: 1,
-                    steps: 1,
-                })
-            }
-            None => unmoved(alloc, kept),
-        },
-        Control::Node { node, env } if allowance > 0 => match core_of(code, *node) {
-            Some(Core::Call { function, args }) => {
-                match enter(alloc, code, *function, args.as_slice(), env.as_slice()) {
-                    Ok(control) => Ok(Settled {
-                        end: bare(alloc, control),
-                        gone: 0,
-                        steps: 1,
-                    }),
-                    Err(StepError::Disabled) => unmoved(alloc, kept),
-                    Err(StepError::NoMemory) => Err(AllocError),
-                }
-            }
-            _ => unmoved(alloc, kept),
-        },
-        _ => unmoved(alloc, kept),
-    }
-}
-
-// A copy of the kept control, and no step.
-fn unmoved(alloc: Global, kept: &ThreadState) -> Result<Settled, AllocError>
-    ensures { IfOk result (IsUnmoved (thread_view kept.now)) }
-{
-    let end = copy_top(alloc, kept, 0)?;
-    Ok(Settled {
-        end,
-        gone: 0,
-        steps: 0,
-    })
-}
-
-fn bare(alloc: Global, control: Control) -> ThreadState
-    ensures { thread_view result ≡ thread_of (control_view control) [] }
-{
-    ThreadState {
-        control,
-        frames: Stack::new(alloc),
+    match (&kept.control, kept.frames.top()) {
+        (Control::Returned(value), Some(frame)) if allowance > 0 => Ok(Settled {
+            end: resumed(alloc, code, value, frame)?,
+            gone: 1,
+            steps: 1,
+        }),
+        _ => Ok(Settled {
+            end: copy_top(alloc, kept, 0)?,
+            gone: 0,
+            steps: 0,
+        }),
     }
 }
 
@@ -159,5 +120,8 @@ fn resumed(
         node: frame.body,
         env,
     };
-    Ok(bare(alloc, control))
+    Ok(ThreadState {
+        control,
+        frames: Stack::new(alloc),
+    })
 }

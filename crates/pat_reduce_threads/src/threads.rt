@@ -97,8 +97,8 @@ fn waiting(
     Ok(Frame { var, body, env })
 }
 
-/// The control that a call goes on with.
-pub fn enter(
+// The control that a call goes on with.
+fn enter(
     alloc: Global,
     code: &Executable,
     function: u32,
