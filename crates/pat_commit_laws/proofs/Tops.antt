@@ -149,7 +149,7 @@ module _ (p : Program) (rest : List Frame) (r : Thread) where
 step_lifts : (p : Program) (rest : List Frame) (s r : Thread) → local_step p s ≡ Some r → local_step p (over s rest) ≡ Some (over r rest)
 step_lifts p rest s r h = lifts_at p rest r (redex p s.control) s.frames h
 
-locally_lifts : (p : Program) (rest : List Frame) (k : ℕ) (s r : Thread) → locally p k s ≡ Some r → locally p k (over s rest) ≡ Some (over r rest)
+pub locally_lifts : (p : Program) (rest : List Frame) (k : ℕ) (s r : Thread) → locally p k s ≡ Some r → locally p k (over s rest) ≡ Some (over r rest)
 locally_lifts p rest zero s r h = let same : s ≡ r = cc in ap (λ (x : Thread). Some (over x rest)) same
 locally_lifts p rest (suc k) s r h =
     let f = first_local p k s r h in

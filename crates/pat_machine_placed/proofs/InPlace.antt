@@ -1,18 +1,20 @@
 -- A thread that goes on in its place.
 use Rattle.std.proofs.Common.{◌≡◌, ℕ, ◌+◌, true, nat_eq, List, [], ◌∷◌, ◌++◌, map, Some, sym, ap, ◌∙◌}
 use Rattle.std.specs.Prelude.{option_map}
+use Rattle.std.proofs.lemmas.List.{map-append}
 use Rattle.std.specs.Map.{set_value}
 use Rattle.pat_model.specs.Programs.{Program}
 use Rattle.pat_model.specs.Values.{Const, Mailbox, UnitConst}
 use Rattle.pat_model.specs.Configs.{Control, Returned, Thread, Message, Config, thread_at}
-use Rattle.pat_model.specs.Steps.{ActPrint, redex, thread_of}
-use Rattle.pat_reduce_threads.specs.ThreadActs.{is_new, redex_line, redex_message}
-use Rattle.pat_reduce_threads.specs.ThreadViews.{message_view}
+use Rattle.pat_model.specs.Steps.{ActPrint, ActSpawn, redex, thread_of}
+use Rattle.pat_reduce_threads.specs.declared.state.ThreadState.{ThreadState}
+use Rattle.pat_reduce_threads.specs.ThreadActs.{is_new, redex_line, redex_message, spawned}
+use Rattle.pat_reduce_threads.specs.ThreadViews.{message_view, thread_view}
 use Rattle.pat_reduce.specs.declared.config.Config.{Config as CodeConfig}
 use Rattle.pat_reduce.specs.Views.{config_view, threads_view}
-use Rattle.pat_reduce.proofs.Shared.{said, print_step}
+use Rattle.pat_reduce.proofs.Shared.{said, begun, print_step, spawn_step}
 use Rattle.pat_alone_laws.specs.Alone.{alone}
-use Rattle.pat_alone_laws.proofs.Backs.{own_there, back_only}
+use Rattle.pat_alone_laws.proofs.Backs.{own_there, back_only, back_set}
 use Rattle.pat_machine_table.specs.Entries.{Threads}
 use Rattle.pat_machine_placed.specs.Placed.{placed_view}
 use Rattle.pat_machine_placed.specs.InPlace.{redex_frees, IsSent, IsMade, IsFreed}
@@ -69,3 +71,28 @@ module _ (p : Program) (c : CodeConfig) (table last : Threads) (t : ℕ) (s : Th
             ∙ ap (λ (ls : List (List ℕ)). record (config_view c) { threads = threads_view last.entries; messages = []; printed = ls }) more
             ∙ ap (λ l. record left { threads = l }) (set ∙ sym (back_only t s whole.threads (thread_of done s.frames)));
       }
+
+  -- the thread goes on, and a further one, which has the next number, comes behind the others
+  pub is_spawned : (k : Control) → spawned p (redex p s.control) ≡ Some k → map message_view c.messages ≡ [] → threads_view last.entries ≡ set_value (nat_eq t) (threads_view table.entries) (thread_of done s.frames) ++ (c.next_thread, thread_of k []) ∷ []
+      → IsTaken p whole (record { thread = t; act = ActSpawn }) (placed_view (record c { next_thread = c.next_thread + 1 }) last)
+  is_spawned k given none came =
+      let single : Config = alone whole t s c.live in
+      let left : Config = begun single t s.frames k in
+      record {
+        thread = s;
+        left = left;
+        there = there;
+        gives = spawn_step p single t s (own_there t s) ∙ ap (option_map (begun single t s.frames)) given;
+        after =
+            ap (λ (ms : List Message). record (config_view c) { threads = threads_view last.entries; messages = ms; next_thread = c.next_thread + 1 }) none
+            ∙ ap (λ l. record left { threads = l }) (came ∙ sym (back_set t s whole.threads (thread_of done s.frames) ((c.next_thread, thread_of k []) ∷ [])));
+      }
+
+-- the threads where one goes on and one comes behind
+pub come_behind : (before middle last : Threads) (t n : ℕ) (r : Thread) (came : ThreadState) → threads_view middle.entries ≡ set_value (nat_eq t) (threads_view before.entries) r → last.entries ≡ middle.entries ++ (middle.made, came) ∷ [] → middle.made ≡ n
+    → threads_view last.entries ≡ set_value (nat_eq t) (threads_view before.entries) r ++ (n, thread_view came) ∷ []
+come_behind before middle last t n r came set more made =
+    ap threads_view more
+    ∙ map-append _ middle.entries ((middle.made, came) ∷ [])
+    ∙ ap (λ l. l ++ (middle.made, thread_view came) ∷ []) set
+    ∙ ap (λ k. set_value (nat_eq t) (threads_view before.entries) r ++ (k, thread_view came) ∷ []) made

@@ -1,6 +1,6 @@
 // Steps of a thread that stays in its place.
 ghost use Rattle.std.specs.Prelude.{◌≡◌, [], Some};
-ghost use Rattle.pat_model.specs.Steps.{ActPrint, redex};
+ghost use Rattle.pat_model.specs.Steps.{ActPrint, ActSpawn, redex};
 ghost use Rattle.pat_core.specs.Views.{program_view};
 ghost use Rattle.pat_commits.specs.Machines.{HasRoom};
 ghost use Rattle.pat_reduce_values.specs.Results.{Gives};
@@ -10,9 +10,12 @@ ghost use Rattle.pat_machine_placed.specs.InPlace.{redex_frees, FreesOut, MakesO
 ghost use Rattle.pat_machine_placed.specs.Steps.{StepsApart};
 
 use crate::Placed;
-use pat_reduce::{Control, Message, StepError};
-use pat_reduce_threads::{guard_of, makes_mailbox, next_line, next_message, node_with};
+use pat_reduce::{Control, Message, StepError, ThreadState};
+use pat_reduce_threads::{
+    guard_of, makes_mailbox, next_line, next_message, next_thread, node_with,
+};
 use pat_reduce_values::{Executable, Value};
+use pat_sequences::Stack;
 use std::alloc::Global;
 
 impl Placed {
@@ -93,6 +96,34 @@ impl Placed {
                     self.config.printed.push(line)?;
                     let done = Control::Returned(Value::Unit);
                     self.table.set_control(thread, done);
+                    Ok(())
+                }
+                Err(error) => Err(error),
+            },
+            None => Err(StepError::Disabled),
+        }
+    }
+
+    // The thread spawns another one, which comes behind the others.
+    pub(crate) fn spawn(
+        &mut self,
+        alloc: Global,
+        code: &Executable,
+        thread: u32,
+    ) -> Result<(), StepError>
+        requires room { HasRoom self.old }
+        requires none { self.old.messages ≡ [] }
+        ensures { StepsApart (program_view code.now.program) self.old (record { thread = thread; act = ActSpawn }) self.new result }
+    {
+        match self.table.get(thread) {
+            Some(state) => match next_thread(alloc, code, &state.control) {
+                Ok(control) => {
+                    self.table.reserve()?;
+                    let done = Control::Returned(Value::Unit);
+                    self.table.set_control(thread, done);
+                    let frames = Stack::new(alloc);
+                    self.table.add(ThreadState { control, frames });
+                    self.config.next_thread += 1;
                     Ok(())
                 }
                 Err(error) => Err(error),

@@ -22,6 +22,7 @@ impl Placed {
     {
         match step.act {
             Act::Print => self.print(alloc, code, step.thread),
+            Act::Spawn => self.spawn(alloc, code, step.thread),
             _ => self.step_apart(alloc, code, step),
         }
     }

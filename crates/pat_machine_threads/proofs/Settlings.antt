@@ -1,19 +1,20 @@
 -- What a run on the top of a thread makes of the thread.
-use Rattle.std.proofs.Common.{◌≡◌, ℕ, zero, suc, ◌+◌, ◌-◌, ◌<◌, ◌≤◌, List, [], ◌∷◌, ◌++◌, length, map, take, reverse, Some, Result, Ok, Err, IfOk, sym, ap, ◌∙◌, subst, arith, ◌⊎◌}
+use Rattle.std.proofs.Common.{◌≡◌, ℕ, zero, suc, ◌+◌, ◌-◌, ◌<◌, ◌≤◌, List, [], ◌∷◌, length, map, take, drop, get_or, ◌++◌, Some, sym, ap, ◌∙◌, subst, arith, ◌⊎◌}
 use Rattle.std.specs.Prelude.{option_and_then}
-use Rattle.std.proofs.lemmas.List.{reverse-append, take-map}
+use Rattle.std.proofs.Math.Seq.{take-add}
 use Rattle.pat_model.specs.Values.{Value}
-use Rattle.pat_model.specs.Steps.{Done, redex, local_at, resume}
+use Rattle.pat_model.specs.Steps.{Done, redex, thread_of, local_at, resume}
 use Rattle.pat_model.specs.Programs.{Program}
 use Rattle.pat_model.specs.Configs.{Returned, Frame, Thread}
 use Rattle.pat_reduce_threads.specs.declared.state.Frame.{Frame as CodeFrame}
-use Rattle.pat_reduce_threads.specs.ThreadViews.{frame_view, thread_view}
+use Rattle.pat_reduce_threads.specs.declared.state.ThreadState.{ThreadState as CodeThread}
+use Rattle.pat_reduce_threads.specs.ThreadViews.{control_view, frame_view, thread_view}
 use Rattle.pat_commits.specs.Commits.{IsLocalRun, locally}
 use Rattle.pat_commits.specs.Tops.{top_of, below, over}
 use Rattle.pat_commit_laws.proofs.Locals.{first_local}
-use Rattle.pat_commit_laws.proofs.Tops.{top_runs, any_top_runs, top_keeps_frame}
+use Rattle.pat_commit_laws.proofs.Tops.{top_runs, any_top_runs, top_keeps_frame, locally_lifts}
 use Rattle.pat_machine_threads.specs.declared.settling.Settled.{Settled}
-use Rattle.pat_machine_threads.specs.Settling.{IsRunOnTop}
+use Rattle.pat_machine_threads.specs.Settling.{IsRunOnTop, IsBegun, IsRunOn, RunsOn, Uncovers}
 
 -- local steps, and further ones from there
 locals_on : (p : Program) (j k : ℕ) (s b r : Thread) → locally p j s ≡ Some b → locally p k b ≡ Some r → locally p (j + k) s ≡ Some r
@@ -37,29 +38,62 @@ runs_on p a j k s b r begun within h =
     }
 
 -- a value goes to the frame on top
-pub one_resumed : (p : Program) (n : ℕ) (x : Thread) (v : Value) (f : Frame) (rest : List Frame) (r : Thread) → x.control ≡ Returned v → take n x.frames ≡ f ∷ rest → r ≡ resume p f rest v → locally p 1 (top_of n x) ≡ Some r
-one_resumed p n x v f rest r value frames is =
-    ap (λ k. option_and_then (locally p 0) (local_at p (redex p k) (take n x.frames))) value
-    ∙ ap (λ fs. option_and_then (locally p 0) (local_at p (Done v) fs)) frames
+pub one_resumed : (p : Program) (x : Thread) (v : Value) (f : Frame) (rest : List Frame) (r : Thread) → x.control ≡ Returned v → x.frames ≡ f ∷ rest → r ≡ resume p f [] v → locally p 1 (top_of 1 x) ≡ Some r
+one_resumed p x v f rest r value frames is =
+    ap (λ k. option_and_then (locally p 0) (local_at p (redex p k) (take 1 x.frames))) value
+    ∙ ap (λ fs. option_and_then (locally p 0) (local_at p (Done v) (take 1 fs))) frames
     ∙ ap Some (sym is)
 
--- the last of some frames from the bottom up is the one on top
-pub top_first : (xs rest fs : List CodeFrame) (f : CodeFrame) (n : ℕ) → reverse xs ≡ take n fs → xs ≡ rest ++ f ∷ [] → take n (map frame_view fs) ≡ frame_view f ∷ map frame_view (reverse rest)
-top_first xs rest fs f n all last =
-    take-map frame_view n fs
-    ∙ ap (map frame_view) (sym all ∙ ap reverse last ∙ reverse-append rest (f ∷ []))
+-- the first frame below so many, by itself
+pub one_below : (fs : List CodeFrame) (n : ℕ) (f : CodeFrame) → n < length fs → f ≡ get_or fs n f → take 1 (drop n (map frame_view fs)) ≡ frame_view f ∷ []
+one_below [] n f within is = absurd (omega arith)
+one_below (g ∷ fs) zero f within is = ap (λ q. frame_view q ∷ []) (sym is)
+one_below (g ∷ fs) (suc n) f within is = one_below fs n f (omega arith) is
 
-module _ (p : Program) (a n : ℕ) (x : Thread) (s : Settled) (gone : s.gone ≡ n) (h : IsLocalRun p a (top_of n x) s.steps (thread_view s.end)) where
-  -- a run on any frames on top, where it leaves one of them or they are all
-  pub run_on_some : (0 < length (thread_view s.end).frames) ⊎ (below n x ≡ []) → IsRunOnTop p a x s
-  run_on_some left = record {
-    local = subst (λ m. IsLocalRun p a x s.steps (over (thread_view s.end) (below m x))) (sym gone) (any_top_runs p a n x s.steps (thread_view s.end) h left);
-    frame = λ less. subst (λ m. (0 < length (thread_view s.end).frames) ⊎ (below m x ≡ [])) (sym gone) left;
+-- what steps make of some frames on top is what they make of one frame more, which stays below
+one_more_frame : (p : Program) (k n : ℕ) (x e : Thread) → locally p k (top_of n x) ≡ Some e → locally p k (top_of (n + 1) x) ≡ Some (over e (take 1 (below n x)))
+one_more_frame p k n x e h =
+    let split : over (top_of n x) (take 1 (below n x)) ≡ top_of (n + 1) x = ap (thread_of x.control) (sym (take-add n 1 x.frames)) in
+    subst (λ t. locally p k t ≡ Some (over e (take 1 (below n x)))) split (locally_lifts p (take 1 (below n x)) k (top_of n x) e h)
+
+-- a copy of the first frame below those that were copied comes below none
+pub uncovers : (x : CodeThread) (s t : Settled) (f g : CodeFrame) → s.end.frames ≡ [] → s.gone < length x.frames → f ≡ get_or x.frames s.gone f → frame_view g ≡ frame_view f
+    → t.gone ≡ s.gone + 1 → t.steps ≡ s.steps → t.end.control ≡ s.end.control → t.end.frames ≡ g ∷ s.end.frames → Uncovers (thread_view x) s t
+uncovers x s t f g bare there is copy gone steps control frames = record {
+  gone = gone;
+  steps = steps;
+  below =
+      ap (λ k. thread_of (control_view k) (map frame_view t.end.frames)) control
+      ∙ ap (thread_of (control_view s.end.control))
+      (ap (map frame_view) (frames ∙ ap (λ l. g ∷ l) bare) ∙ ap (λ q. q ∷ []) copy ∙ sym (one_below x.frames s.gone f there is)
+      ∙ ap (λ l. map frame_view l ++ take 1 (drop s.gone (map frame_view x.frames))) (sym bare));
+}
+
+module _ (p : Program) (a : ℕ) (x : Thread) where
+  -- what has begun runs on
+  pub begun_runs : (old new : Settled) → IsBegun p a x old → RunsOn p a old new → IsRunOn p a x new
+  begun_runs old new b r =
+      let (k, steps, h) = r.more in
+      let run = runs_on p a old.steps k (top_of old.gone x) (thread_view old.end) (thread_view new.end) b.taken b.within h in
+      subst (λ m. IsLocalRun p a (top_of m x) new.steps (thread_view new.end)) (sym r.gone)
+      (subst (λ m. IsLocalRun p a (top_of old.gone x) m (thread_view new.end)) (sym steps) run)
+
+  -- and with a frame more it has begun again
+  pub uncovered_begins : (old new : Settled) → IsRunOn p a x old → Uncovers x old new → IsBegun p a x new
+  uncovered_begins old new h u = record {
+    within = subst (λ m. m ≤ a) (sym u.steps) h.within;
+    taken =
+        subst (λ m. locally p new.steps (top_of m x) ≡ Some (thread_view new.end)) (sym u.gone)
+        (subst (λ m. locally p m (top_of (old.gone + 1) x) ≡ Some (thread_view new.end)) (sym u.steps)
+        (one_more_frame p old.steps old.gone x (thread_view old.end) h.taken ∙ ap Some (sym u.below)));
   }
 
-  -- the same, said of the frames that the run says are gone
-  pub run_on_those : (0 < length (thread_view s.end).frames) ⊎ (below s.gone x ≡ []) → IsRunOnTop p a x s
-  run_on_those left = run_on_some (subst (λ m. (0 < length (thread_view s.end).frames) ⊎ (below m x ≡ [])) gone left)
+  -- where it leaves one of them, or they are all, it is a run of the thread
+  pub run_on_those : (s : Settled) → IsRunOn p a x s → (0 < length (thread_view s.end).frames) ⊎ (below s.gone x ≡ []) → IsRunOnTop p a x s
+  run_on_those s h left = record {
+    local = any_top_runs p a s.gone x s.steps (thread_view s.end) h left;
+    frame = λ less. left;
+  }
 
 -- a run on a frame for each step
 pub run_on_enough : (p : Program) (a : ℕ) (x : Thread) (s : Settled) → s.gone ≡ a → IsLocalRun p a (top_of a x) s.steps (thread_view s.end) → IsRunOnTop p a x s
@@ -67,8 +101,3 @@ run_on_enough p a x s gone h = record {
   local = subst (λ m. IsLocalRun p a x s.steps (over (thread_view s.end) (below m x))) (sym gone) (top_runs p a x s.steps (thread_view s.end) h);
   frame = λ less. subst (λ m. (0 < length (thread_view s.end).frames) ⊎ (below m x ≡ [])) (sym gone) (top_keeps_frame p a x s.steps (thread_view s.end) h less);
 }
-
--- so it is where there is one
-pub enough_if_ok : {E : Type 0} (p : Program) (a : ℕ) (x : Thread) (r : Result Settled E) → IfOk r (λ s. s.gone ≡ a) → IfOk r (λ s. IsLocalRun p a (top_of a x) s.steps (thread_view s.end)) → IfOk r (IsRunOnTop p a x)
-enough_if_ok p a x (Ok s) gone local = run_on_enough p a x s gone local
-enough_if_ok p a x (Err e) gone local = gone

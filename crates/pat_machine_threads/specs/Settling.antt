@@ -1,10 +1,10 @@
 -- A thread after local steps of its top.
-use Rattle.std.specs.Prelude.{◌≡◌, ℕ, ◌<◌, ◌⊎◌, [], length}
+use Rattle.std.specs.Prelude.{◌≡◌, ℕ, ◌+◌, ◌-◌, ◌<◌, ◌≤◌, ◌⊎◌, [], length, take, Some}
 use Rattle.pat_model.specs.Programs.{Program}
 use Rattle.pat_model.specs.Configs.{Thread}
 use Rattle.pat_reduce_threads.specs.ThreadViews.{thread_view}
-use Rattle.pat_commits.specs.Commits.{IsLocalRun}
-use Rattle.pat_commits.specs.Tops.{below, over}
+use Rattle.pat_commits.specs.Commits.{IsLocalRun, locally}
+use Rattle.pat_commits.specs.Tops.{below, over, top_of}
 use Rattle.pat_machine_threads.specs.declared.settling.Settled.{Settled}
 
 -- the kept thread after the local steps of its top
@@ -15,3 +15,23 @@ settled_thread kept s = over (thread_view s.end) (below s.gone kept)
 pub record IsRunOnTop (p : Program) (allowance : ℕ) (kept : Thread) (s : Settled) : Type 0 where
   pub local : IsLocalRun p allowance kept s.steps (settled_thread kept s)
   pub frame : s.steps < allowance → (0 < length (thread_view s.end).frames) ⊎ (below s.gone kept ≡ [])
+
+-- steps within the allowance, taken on so many frames on top of the kept thread
+pub record IsBegun (p : Program) (allowance : ℕ) (kept : Thread) (s : Settled) : Type 0 where
+  pub within : s.steps ≤ allowance
+  pub taken : locally p s.steps (top_of s.gone kept) ≡ Some (thread_view s.end)
+
+-- all steps within the allowance, or as many as there are, taken on so many frames on top of the kept thread
+abbrev pub IsRunOn : Program → ℕ → Thread → Settled → Type 0
+IsRunOn p allowance kept s = IsLocalRun p allowance (top_of s.gone kept) s.steps (thread_view s.end)
+
+-- further local steps: all that the rest of the allowance allows, or as many as there are
+pub record RunsOn (p : Program) (allowance : ℕ) (old new : Settled) : Type 0 where
+  pub gone : new.gone ≡ old.gone
+  pub more : (k : ℕ) × (new.steps ≡ old.steps + k) × IsLocalRun p (allowance - old.steps) (thread_view old.end) k (thread_view new.end)
+
+-- one frame more of the kept thread is among those on top, and comes below those of the end
+pub record Uncovers (kept : Thread) (old new : Settled) : Type 0 where
+  pub gone : new.gone ≡ old.gone + 1
+  pub steps : new.steps ≡ old.steps
+  pub below : thread_view new.end ≡ over (thread_view old.end) (take 1 (below old.gone kept))

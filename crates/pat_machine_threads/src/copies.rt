@@ -40,7 +40,7 @@ fn copy_control(alloc: Global, control: &Control) -> Result<Control, AllocError>
 }
 
 /// The stack of these frames, which stand from the bottom up.
-pub(crate) fn copy_frames(alloc: Global, frames: &[Frame]) -> Result<Stack<Frame>, AllocError>
+fn copy_frames(alloc: Global, frames: &[Frame]) -> Result<Stack<Frame>, AllocError>
     ensures { IfOk result (λ own. map frame_view own ≡ map frame_view (reverse frames.now)) }
 {
     let mut own = Stack::new(alloc);
@@ -50,7 +50,7 @@ pub(crate) fn copy_frames(alloc: Global, frames: &[Frame]) -> Result<Stack<Frame
     Ok(own)
 }
 
-fn copy_frame(alloc: Global, frame: &Frame) -> Result<Frame, AllocError>
+pub(crate) fn copy_frame(alloc: Global, frame: &Frame) -> Result<Frame, AllocError>
     ensures { IfOk result (λ f. frame_view f ≡ frame_view frame.now) }
 {
     let env = copied(alloc, frame.env.as_slice())?;

@@ -1,26 +1,19 @@
 // Local steps of a kept thread, on a copy of its top.
-ghost use Rattle.std.specs.Prelude.{◌≡◌, ◌<◌, ◌≤◌, ◌⊎◌, [], Some, length, map, reverse, IfOk, IsTrue};
+ghost use Rattle.std.specs.Prelude.{◌≡◌, ◌<◌, ◌≤◌, ◌⊎◌, [], length, IfOk, OnOk, IsTrue, IsFalse};
 ghost use Rattle.pat_model.specs.Steps.{resume};
 ghost use Rattle.pat_reduce_threads.specs.Views.{program_view};
 ghost use Rattle.pat_reduce_threads.specs.ThreadViews.{frame_view, thread_view};
 ghost use Rattle.pat_reduce_values.specs.ValueViews.{value_view};
-ghost use Rattle.pat_commits.specs.Commits.{IsLocalRun, locally};
-ghost use Rattle.pat_commits.specs.Tops.{below, top_of};
-ghost use Rattle.pat_machine_threads.specs.Settling.{IsRunOnTop};
+ghost use Rattle.pat_commits.specs.Tops.{below};
+ghost use Rattle.pat_machine_threads.specs.Settling.{IsBegun, IsRunOnTop, RunsOn, Uncovers};
 
-use crate::copies::{copy_frames, copy_top};
+use crate::copies::{copy_frame, copy_top};
 use crate::run::run_locally;
-use crate::tops::{has_at_most, top_frames};
+use crate::tops::{frame_below, has_at_most};
 use pat_reduce::{Control, Frame, ThreadState, Value};
 use pat_reduce_values::{Executable, bound, keep_free};
-use pat_sequences::let_go;
+use pat_sequences::Stack;
 use std::alloc::{AllocError, Global};
-
-// The frames that are looked at first: most jobs need no more, and each is copied.
-const FEW: u32 = 2;
-
-// The frames that are looked at next.
-const SOME: u32 = 8;
 
 /// What local steps made of the top of a thread, and how many they were.
 #[derive(Drop)]
@@ -31,7 +24,7 @@ pub struct Settled {
     pub steps: u32,
 }
 
-/// As many local steps of the kept thread as there are within the allowance: on few of its frames, or else on more, or on one for each step.
+/// As many local steps of the kept thread as there are within the allowance, on a copy of its control and of the frames that they look at.
 pub fn settle_top(
     alloc: Global,
     code: &Executable,
@@ -40,75 +33,85 @@ pub fn settle_top(
 ) -> Result<Settled, AllocError>
     ensures { IfOk result (IsRunOnTop (program_view code.now.program) allowance (thread_view kept.now)) }
 {
-    let few = run_on_top(alloc, code, kept, allowance, FEW)?;
-    if are_enough(&few, kept) {
-        return Ok(few);
+    let mut settled = begin(alloc, code, kept, allowance)?;
+    run_on(alloc, code, &mut settled, allowance)?;
+    while needs_more(&settled, kept) {
+        uncover(alloc, kept, &mut settled)?;
+        run_on(alloc, code, &mut settled, allowance)?;
     }
-    let_go(few);
-    let some = run_on_top(alloc, code, kept, allowance, SOME)?;
-    if are_enough(&some, kept) {
-        return Ok(some);
-    }
-    let_go(some);
-    run_on_top(alloc, code, kept, allowance, allowance)
+    Ok(settled)
 }
 
-// Whether no step could have looked below the frames that were copied: one is left, or there is none below.
-fn are_enough(settled: &Settled, kept: &ThreadState) -> bool
-    ensures { IsTrue result → (0 < length (thread_view settled.now.end).frames) ⊎ (below settled.now.gone (thread_view kept.now) ≡ []) }
+// Whether a further step could look below the frames that were copied: none of them is left, and there is one below.
+fn needs_more(settled: &Settled, kept: &ThreadState) -> bool
+    ensures yes { IsTrue result → (settled.now.end.frames ≡ []) × (settled.now.gone < length kept.now.frames) }
+    ensures no { IsFalse result → (0 < length (thread_view settled.now.end).frames) ⊎ (below settled.now.gone (thread_view kept.now) ≡ []) }
 {
-    !settled.end.frames.is_empty() || has_at_most(kept, settled.gone)
+    settled.end.frames.is_empty() && !has_at_most(kept, settled.gone)
 }
 
-// Local steps on a copy of so many frames on top of the kept state.
-fn run_on_top(
+// Further local steps, as many as there are within what is left of the allowance.
+fn run_on(
     alloc: Global,
     code: &Executable,
-    kept: &ThreadState,
+    settled: &mut Settled,
     allowance: u32,
-    gone: u32,
-) -> Result<Settled, AllocError>
-    ensures gone { IfOk result (λ s. s.gone ≡ gone) }
-    ensures local { IfOk result (λ s. IsLocalRun (program_view code.now.program) allowance (top_of gone (thread_view kept.now)) s.steps (thread_view s.end)) }
+) -> Result<(), AllocError>
+    requires { settled.old.steps ≤ allowance }
+    ensures { OnOk result (RunsOn (program_view code.now.program) allowance settled.old settled.new) }
 {
-    let (mut end, first) = begin(alloc, code, kept, allowance, gone)?;
-    let more = run_locally(alloc, code, &mut end, allowance - first)?;
-    let steps = first + more;
-    Ok(Settled { end, gone, steps })
+    let more = run_locally(alloc, code, &mut settled.end, allowance - settled.steps)?;
+    settled.steps += more;
+    Ok(())
 }
 
-// A copy of so many frames on top of the kept state, and no step; or the first step, where a frame waits for the value that is there,
-// since then neither is copied.
+// A copy of the first frame below those that were copied comes below the end's, of which none is left.
+fn uncover(alloc: Global, kept: &ThreadState, settled: &mut Settled) -> Result<(), AllocError>
+    requires bare { settled.old.end.frames ≡ [] }
+    requires there { settled.old.gone < length kept.now.frames }
+    ensures { OnOk result (Uncovers (thread_view kept.now) settled.old settled.new) }
+{
+    let Some(gone) = settled.gone.checked_add(1) else {
+        return Err(AllocError);
+    };
+    let frame = copy_frame(alloc, frame_below(&kept.frames, settled.gone))?;
+    settled.end.frames.push(frame)?;
+    settled.gone = gone;
+    Ok(())
+}
+
+// A copy of the kept control, and no step; or the first step, where a frame waits for the value that is there, since then the value
+// isn't copied as a control.
 fn begin(
     alloc: Global,
     code: &Executable,
     kept: &ThreadState,
     allowance: u32,
-    gone: u32,
-) -> Result<(ThreadState, u32), AllocError>
-    ensures within { IfOk result (λ b. b.1 ≤ allowance) }
-    ensures begun { IfOk result (λ b. locally (program_view code.now.program) b.1 (top_of gone (thread_view kept.now)) ≡ Some (thread_view b.0)) }
+) -> Result<Settled, AllocError>
+    ensures { IfOk result (IsBegun (program_view code.now.program) allowance (thread_view kept.now)) }
 {
-    match &kept.control {
-        Control::Returned(value) if allowance > 0 => {
-            match top_frames(&kept.frames, gone).split_last() {
-                Some((frame, rest)) => Ok((resumed(alloc, code, value, frame, rest)?, 1)),
-                None => Ok((copy_top(alloc, kept, gone)?, 0)),
-            }
-        }
-        _ => Ok((copy_top(alloc, kept, gone)?, 0)),
+    match (&kept.control, kept.frames.top()) {
+        (Control::Returned(value), Some(frame)) if allowance > 0 => Ok(Settled {
+            end: resumed(alloc, code, value, frame)?,
+            gone: 1,
+            steps: 1,
+        }),
+        _ => Ok(Settled {
+            end: copy_top(alloc, kept, 0)?,
+            gone: 0,
+            steps: 0,
+        }),
     }
 }
 
-// The frame goes on with a copy of the value, on copies of the frames below, which stand from the bottom up.
+// The frame goes on with a copy of the value, and with no frame below.
 fn resumed(
     alloc: Global,
     code: &Executable,
     value: &Value,
     frame: &Frame,
-    rest: &[Frame],
 ) -> Result<ThreadState, AllocError>
-    ensures { IfOk result (λ s. thread_view s ≡ resume (program_view code.now.program) (frame_view frame.now) (map frame_view (reverse rest.now)) (value_view value.now)) }
+    ensures { IfOk result (λ s. thread_view s ≡ resume (program_view code.now.program) (frame_view frame.now) [] (value_view value.now)) }
 {
     let value = value.copy(alloc)?;
     let mut env = bound(alloc, frame.env.as_slice(), frame.var, value)?;
@@ -117,6 +120,8 @@ fn resumed(
         node: frame.body,
         env,
     };
-    let frames = copy_frames(alloc, rest)?;
-    Ok(ThreadState { control, frames })
+    Ok(ThreadState {
+        control,
+        frames: Stack::new(alloc),
+    })
 }

@@ -1,5 +1,5 @@
 // The frames on top of a thread.
-ghost use Rattle.std.specs.Prelude.{◌≡◌, ◌==◌, length, reverse, take};
+ghost use Rattle.std.specs.Prelude.{◌≡◌, ◌==◌, ◌<◌, get_or, length, reverse, take};
 ghost use Rattle.pat_reduce_threads.specs.ThreadViews.{thread_view};
 ghost use Rattle.pat_commits.specs.Tops.{below};
 
@@ -12,6 +12,15 @@ pub fn top_frames(frames: &Stack<Frame>, most: u32) -> &[Frame]
 {
     let all = frames.as_slice();
     &all[all.len().saturating_sub(most as usize)..]
+}
+
+/// The first frame below so many.
+pub(crate) fn frame_below(frames: &Stack<Frame>, gone: u32) -> &Frame
+    requires { gone < length frames.now }
+    ensures { result.now ≡ get_or frames.now gone result.now }
+{
+    let all = frames.as_slice();
+    &all[all.len() - 1 - gone as usize]
 }
 
 /// Whether a state has no frame below so many.

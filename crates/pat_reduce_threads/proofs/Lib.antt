@@ -2,3 +2,4 @@ mod Callees
 mod Firsts
 mod FramesReversed
 mod ParametersKept
+mod Refusals

@@ -1,61 +1,29 @@
 -- The parts that a thread's steps are made of, as the code tests them.
 use Rattle.std.specs.Prelude.{ℕ, Bool, true, false, ◌&&◌, nat_eq, if◌then◌else◌, List, [], ◌∷◌, length, Option, Some, None, option_map, option_and_then, find}
 use Rattle.pat_model.specs.Values.{Value, Const, Mailbox, BoolConst, Env, value_at, eval, eval_all, line_of}
-use Rattle.pat_model.specs.Programs.{Program, Function, Clause, Core, Val, Let, Call, If, Print, New, Send, Spawn, Guard, function_at}
+use Rattle.pat_model.specs.Programs.{Program, Function, Clause, Val, Print, New, Send, Spawn, Guard}
 use Rattle.pat_model.specs.Configs.{Control, Running, Returned, Thread, Frame, Message}
-use Rattle.pat_model.specs.Steps.{Redex, At, Done, Nowhere, at_node, thread_of, resume, frame_of, numbered, clause_for, received}
-use Rattle.pat_reduce_threads.specs.declared.state.Frame.{Frame as CodeFrame}
-use Rattle.pat_reduce_threads.specs.ThreadViews.{frame_view}
-
--- the value, where it is one or an expression that has one
-abbrev pub redex_value : Redex → Option Value
-redex_value (At (Val e) env) = eval env e
-redex_value (Done v) = Some v
-redex_value _ = None
+use Rattle.pat_model.specs.Steps.{Redex, At, Done, at_node, resume, clause_for, received}
 
 -- the thread after a value goes to the frame on top
 abbrev pub resumed : Program → List Frame → Value → Option Thread
 resumed p [] v = None
 resumed p (f ∷ frames) v = Some (resume p f frames v)
 
--- the frame that a let puts on top, and the control that it goes on with
-abbrev pub opened : Program → Redex → Option (Frame × Control)
-opened p (At (Let y m n) env) = Some (frame_of p y n env, at_node p m env)
-opened p _ = None
-
 -- before a node a control goes to another one, with its part of the values
 abbrev pub moved_to : Program → ℕ → Control → Control
 moved_to p m (Running n env) = at_node p m env
 moved_to p m (Returned v) = Returned v
-
--- a frame, and the control that goes to a node
-abbrev pub opened_view : Program → Control → CodeFrame × ℕ → Frame × Control
-opened_view p k q = (frame_view q.0, moved_to p q.1 k)
 
 -- the control that a call goes on with
 abbrev pub entered : Program → Option Function → Option Env → Option Control
 entered p None own = None
 entered p (Some f) own = option_map (at_node p f.body) own
 
--- the control that a choice goes on with
-abbrev pub chosen : Program → Option Value → ℕ → ℕ → Env → Option Control
-chosen p (Some (Const (BoolConst b))) m n env = Some (at_node p (if b then m else n) env)
-chosen p _ m n env = None
-
--- the control that a call or a choice goes on with
-abbrev pub jumped : Program → Redex → Option Control
-jumped p (At (Call f args) env) = entered p (function_at p f) (option_map (numbered 0) (eval_all env args))
-jumped p (At (If e m n) env) = chosen p (eval env e) m n env
-jumped p _ = None
-
--- with a further frame, or with the frames as they were
-abbrev pub gone_on : Option (Frame × Control) → Option Control → List Frame → Option Thread
-gone_on (Some (f, k)) j frames = Some (thread_of k (f ∷ frames))
-gone_on None j frames = option_map (λ k. thread_of k frames) j
-
--- the thread after a local step that no value is needed for
-abbrev pub other_local : Program → Redex → List Frame → Option Thread
-other_local p r frames = gone_on (opened p r) (jumped p r) frames
+-- the node that a choice goes on with
+abbrev pub branch : Option Value → ℕ → ℕ → Option ℕ
+branch (Some (Const (BoolConst b))) m n = Some (if b then m else n)
+branch _ m n = None
 
 -- the line that is printed next
 abbrev pub redex_line : Redex → Option (List ℕ)

@@ -1,15 +1,15 @@
 // What a thread does next: its local steps, the line that it prints, and whether it is over.
-ghost use Rattle.std.specs.Prelude.{◌≡◌, map, option_copied, option_map, IfOk};
+ghost use Rattle.std.specs.Prelude.{◌≡◌, map, option_map, IfOk};
 ghost use Rattle.pat_model.specs.Values.{eval, eval_all, line_of};
-ghost use Rattle.pat_model.specs.Programs.{core_at, function_at};
+ghost use Rattle.pat_model.specs.Programs.{function_at};
 ghost use Rattle.pat_model.specs.Steps.{local_step, numbered, redex, frame_of, at_node};
-ghost use Rattle.pat_core.specs.Views.{core_view, expr_view, function_view, program_view};
+ghost use Rattle.pat_core.specs.Views.{expr_view, program_view};
 ghost use Rattle.pat_reduce_values.specs.ValueViews.{value_view, reference_view, env_view};
 ghost use Rattle.pat_reduce_threads.specs.ThreadViews.{control_view, frame_view, thread_view};
-ghost use Rattle.pat_reduce_threads.specs.ThreadActs.{redex_value, resumed, opened, opened_view, entered, chosen, jumped, other_local, redex_line, is_over_at};
+ghost use Rattle.pat_reduce_threads.specs.ThreadActs.{resumed, entered, branch, redex_line, is_over_at};
 ghost use Rattle.pat_reduce_values.specs.Results.{Gives, StepGives};
 
-use crate::nodes::{core_of, function_of, move_to, node_of, node_with};
+use crate::nodes::{core_of, function_of, move_to, node_of};
 use crate::{Control, Frame, ThreadState};
 use itoa::Buffer;
 use pat_core::{Core, Expr, Function};
@@ -24,24 +24,41 @@ impl ThreadState {
     pub fn step_locally(&mut self, alloc: Global, code: &Executable) -> Result<(), StepError>
         ensures { StepGives thread_view (local_step (program_view code.now.program) (thread_view self.old)) self.old self.new result }
     {
-        match control_value(alloc, code, &self.control) {
-            Ok(value) => resume(alloc, code, self, value),
-            Err(StepError::Disabled) => go_on(alloc, code, self),
-            Err(StepError::NoMemory) => Err(StepError::NoMemory),
+        match &self.control {
+            Control::Returned(value) => {
+                let value = value.copy(alloc)?;
+                resume(alloc, code, self, value)
+            }
+            Control::Node { node, env } => match core_of(code, *node) {
+                Some(Core::Value(e)) => match value_for(alloc, e, env.as_slice()) {
+                    Ok(value) => resume(alloc, code, self, value),
+                    Err(error) => Err(error),
+                },
+                Some(Core::Let { var, bound, body }) => {
+                    let frame = waiting(alloc, code, *var, *body, env.as_slice())?;
+                    self.frames.push(frame)?;
+                    move_to(code, *bound, &mut self.control);
+                    Ok(())
+                }
+                Some(Core::Call { function, args }) => {
+                    match enter(alloc, code, *function, args.as_slice(), env.as_slice()) {
+                        Ok(control) => {
+                            self.control = control;
+                            Ok(())
+                        }
+                        Err(error) => Err(error),
+                    }
+                }
+                Some(Core::If { test, yes, no }) => match branch(test, *yes, *no, env.as_slice()) {
+                    Some(next) => {
+                        move_to(code, next, &mut self.control);
+                        Ok(())
+                    }
+                    None => Err(StepError::Disabled),
+                },
+                _ => Err(StepError::Disabled),
+            },
         }
-    }
-}
-
-// The value of a control, where it is one or an expression that has one.
-fn control_value(alloc: Global, code: &Executable, control: &Control) -> Result<Value, StepError>
-    ensures { Gives value_view (redex_value (redex (program_view code.now.program) (control_view control.now))) result }
-{
-    match control {
-        Control::Returned(value) => Ok(value.copy(alloc)?),
-        Control::Node { node, env } => match core_of(code, *node) {
-            Some(Core::Value(e)) => value_for(alloc, e, env.as_slice()),
-            _ => Err(StepError::Disabled),
-        },
     }
 }
 
@@ -66,40 +83,6 @@ fn resume(
     Ok(())
 }
 
-// A `let` puts its frame on top and goes on with its bound term; a call and a choice go on with a body.
-fn go_on(alloc: Global, code: &Executable, state: &mut ThreadState) -> Result<(), StepError>
-    ensures { StepGives thread_view (other_local (program_view code.now.program) (redex (program_view code.now.program) (control_view state.old.control)) (map frame_view state.old.frames)) state.old state.new result }
-{
-    match open(alloc, code, &state.control) {
-        Ok((frame, bound)) => {
-            state.frames.push(frame)?;
-            move_to(code, bound, &mut state.control);
-            Ok(())
-        }
-        Err(StepError::Disabled) => {
-            state.control = jump(alloc, code, &state.control)?;
-            Ok(())
-        }
-        Err(StepError::NoMemory) => Err(StepError::NoMemory),
-    }
-}
-
-// The frame that a `let` puts on top, and the node that it goes on with.
-fn open(alloc: Global, code: &Executable, control: &Control) -> Result<(Frame, u32), StepError>
-    ensures { Gives (opened_view (program_view code.now.program) (control_view control.now)) (opened (program_view code.now.program) (redex (program_view code.now.program) (control_view control.now))) result }
-{
-    match control {
-        Control::Node { node, env } => match core_of(code, *node) {
-            Some(Core::Let { var, bound, body }) => {
-                let frame = waiting(alloc, code, *var, *body, env.as_slice())?;
-                Ok((frame, *bound))
-            }
-            _ => Err(StepError::Disabled),
-        },
-        Control::Returned(_) => Err(StepError::Disabled),
-    }
-}
-
 // The frame that waits for the name of a `let`.
 fn waiting(
     alloc: Global,
@@ -114,29 +97,7 @@ fn waiting(
     Ok(Frame { var, body, env })
 }
 
-// The control that a call or a choice goes on with.
-fn jump(alloc: Global, code: &Executable, control: &Control) -> Result<Control, StepError>
-    ensures { Gives control_view (jumped (program_view code.now.program) (redex (program_view code.now.program) (control_view control.now))) result }
-{
-    match control {
-        Control::Node { node, env } => match core_of(code, *node) {
-            Some(Core::Call { function, args }) => {
-                enter(alloc, code, *function, args.as_slice(), env.as_slice())
-            }
-            Some(Core::If { test, yes, no }) => choose(
-                alloc,
-                code,
-                test,
-                *yes,
-                *no,
-                env.as_slice(),
-            ),
-            _ => Err(StepError::Disabled),
-        },
-        Control::Returned(_) => Err(StepError::Disabled),
-    }
-}
-
+// The control that a call goes on with.
 fn enter(
     alloc: Global,
     code: &Executable,
@@ -168,19 +129,13 @@ fn node_with_parameters(
     }
 }
 
-fn choose(
-    alloc: Global,
-    code: &Executable,
-    test: &Expr,
-    yes: u32,
-    no: u32,
-    env: &[(u32, Value)],
-) -> Result<Control, StepError>
-    ensures { Gives control_view (chosen (program_view code.now.program) (eval (env_view env.now) (expr_view test.now)) yes no (env_view env.now)) result }
+// The node that a choice goes on with.
+fn branch(test: &Expr, yes: u32, no: u32, env: &[(u32, Value)]) -> Option<u32>
+    ensures { result ≡ branch (eval (env_view env.now) (expr_view test.now)) yes no }
 {
     match evaluate(test, env) {
-        Some(ValueRef::Bool(b)) => Ok(node_with(alloc, code, if b { yes } else { no }, env)?),
-        _ => Err(StepError::Disabled),
+        Some(ValueRef::Bool(b)) => Some(if b { yes } else { no }),
+        _ => None,
     }
 }
 

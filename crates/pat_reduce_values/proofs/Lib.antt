@@ -1,3 +1,4 @@
 mod Bindings
 -- for the crates above
 pub mod Finds
+mod Keeping

@@ -21,13 +21,7 @@ pub fn kept(
 ) -> Result<Sequence<(u32, Value)>, AllocError>
     ensures { IfOk result (λ r. env_view r ≡ keep (program_view code.now.program) node (env_view env.now)) }
 {
-    let mut own = Sequence::new(alloc);
-    for entry in env {
-        if code.is_free(entry.0, node) {
-            push_copy(alloc, &mut own, entry)?;
-        }
-    }
-    Ok(own)
+    kept_but(alloc, code, node, None, env)
 }
 
 /// The values of just the node's free variables but one.

@@ -23,7 +23,30 @@ pub fn evaluate<'a>(e: &'a Expr, env: &'a [(u32, Value)]) -> Option<ValueRef<'a>
         Expr::Bool(b) => Some(ValueRef::Bool(*b)),
         Expr::Int(n) => Some(ValueRef::Int(*n)),
         Expr::Str(text) => Some(ValueRef::Str(text)),
-        Expr::Op(op, left, right) => operate(*op, evaluate(left, env), evaluate(right, env)),
+        Expr::Op(op, left, right) => {
+            // Most operands are variables and integers, which take no call.
+            let left = match &**left {
+                Expr::Var(variable) => value_of(env, *variable),
+                Expr::Int(n) => Some(ValueRef::Int(*n)),
+                left => evaluate(left, env),
+            };
+            let right = match &**right {
+                Expr::Var(variable) => value_of(env, *variable),
+                Expr::Int(n) => Some(ValueRef::Int(*n)),
+                right => evaluate(right, env),
+            };
+            operate(*op, left, right)
+        }
+    }
+}
+
+// The same of an argument: most are variables, which take no call.
+fn argument<'a>(e: &'a Expr, env: &'a [(u32, Value)]) -> Option<ValueRef<'a>>
+    ensures { option_map reference_view result ≡ eval (env_view env.now) (expr_view e.now) }
+{
+    match e {
+        Expr::Var(variable) => value_of(env, *variable),
+        e => evaluate(e, env),
     }
 }
 
@@ -78,7 +101,7 @@ pub fn have_values(args: &[Expr], env: &[(u32, Value)]) -> bool
     ensures { result ≡ is_some (eval_all (env_view env.now) (map expr_view args.now)) }
 {
     for e in args {
-        if evaluate(e, env).is_none() {
+        if argument(e, env).is_none() {
             return false;
         }
     }
@@ -137,7 +160,7 @@ fn push_parameter(
 pub fn value_for(alloc: Global, e: &Expr, env: &[(u32, Value)]) -> Result<Value, StepError>
     ensures { Gives value_view (eval (env_view env.now) (expr_view e.now)) result }
 {
-    match evaluate(e, env) {
+    match argument(e, env) {
         Some(value) => Ok(value.to_value(alloc)?),
         None => Err(StepError::Disabled),
     }
