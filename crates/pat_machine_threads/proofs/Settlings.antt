@@ -2,10 +2,9 @@
 use Rattle.std.proofs.Common.{◌≡◌, ℕ, zero, suc, ◌+◌, ◌-◌, ◌<◌, ◌≤◌, List, [], ◌∷◌, length, map, take, drop, get_or, ◌++◌, Some, sym, ap, ◌∙◌, subst, arith, ◌⊎◌}
 use Rattle.std.specs.Prelude.{option_and_then}
 use Rattle.std.proofs.Math.Seq.{take-add}
-use Rattle.pat_model.specs.Values.{Value}
-use Rattle.pat_model.specs.Steps.{Done, redex, thread_of, local_at, resume}
+use Rattle.pat_model.specs.Steps.{thread_of}
 use Rattle.pat_model.specs.Programs.{Program}
-use Rattle.pat_model.specs.Configs.{Returned, Frame, Thread}
+use Rattle.pat_model.specs.Configs.{Thread}
 use Rattle.pat_reduce_threads.specs.declared.state.Frame.{Frame as CodeFrame}
 use Rattle.pat_reduce_threads.specs.declared.state.ThreadState.{ThreadState as CodeThread}
 use Rattle.pat_reduce_threads.specs.ThreadViews.{control_view, frame_view, thread_view}
@@ -36,13 +35,6 @@ runs_on p a j k s b r begun within h =
       within = omega arith;
       whole = λ less. h.whole (omega arith);
     }
-
--- a value goes to the frame on top
-pub one_resumed : (p : Program) (x : Thread) (v : Value) (f : Frame) (rest : List Frame) (r : Thread) → x.control ≡ Returned v → x.frames ≡ f ∷ rest → r ≡ resume p f [] v → locally p 1 (top_of 1 x) ≡ Some r
-one_resumed p x v f rest r value frames is =
-    ap (λ k. option_and_then (locally p 0) (local_at p (redex p k) (take 1 x.frames))) value
-    ∙ ap (λ fs. option_and_then (locally p 0) (local_at p (Done v) (take 1 fs))) frames
-    ∙ ap Some (sym is)
 
 -- the first frame below so many, by itself
 pub one_below : (fs : List CodeFrame) (n : ℕ) (f : CodeFrame) → n < length fs → f ≡ get_or fs n f → take 1 (drop n (map frame_view fs)) ≡ frame_view f ∷ []
