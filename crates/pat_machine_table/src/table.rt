@@ -132,6 +132,7 @@ impl Table {
     }
 
     /// A thread goes on with this control. It takes no memory.
+    #[inline(always)]
     pub fn set_control(&mut self, thread: u32, control: Control)
         requires { (s : ThreadOf) × (lookup (nat_eq thread) (threads_view self.old.entries) ≡ Some s) }
         ensures made { self.new.made ≡ self.old.made }

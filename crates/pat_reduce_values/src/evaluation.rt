@@ -157,6 +157,7 @@ fn push_parameter(
 }
 
 /// The value of an expression, where it has one.
+#[inline(always)]
 pub fn value_for(alloc: Global, e: &Expr, env: &[(u32, Value)]) -> Result<Value, StepError>
     ensures { Gives value_view (eval (env_view env.now) (expr_view e.now)) result }
 {
