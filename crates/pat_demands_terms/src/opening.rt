@@ -48,7 +48,7 @@ fn parameters(
     ensures types { IfOk result (λ types. map (option_map type_view) types ≡ opened_params next.old (map sort_view sorts.now)) }
     ensures next { OnOk result (next.new ≡ number_at next.old (map sort_view sorts.now) (length sorts.now)) }
 {
-    let mut types = Sequence::new(alloc);
+    let mut types = Sequence::from_vec(Vec::with_capacity(alloc, sorts.len())?);
     for sort in sorts {
         let of = parameter(sort, next)?;
         types.push(of)?;

@@ -40,7 +40,7 @@ pub fn call(
     match signature {
         None => Ok(()),
         Some(signature) => {
-            let mut asked = Sequence::new(alloc);
+            let mut asked = Sequence::from_vec(Vec::with_capacity(alloc, arguments.len())?);
             push_arguments(signature.params.as_slice(), arguments, &mut asked)?;
             pass_asked(alloc, env, asked.as_slice(), out)?;
             pass_result(&signature.result, of, out)

@@ -80,7 +80,7 @@ fn open_parameters(
     ensures grows { OnOk result (Grows problem.old problem.new (flat_map own_variable sorts.now) [] []) }
     ensures count { OnOk result (1 + length problem.new.vars ≡ params_end (1 + length problem.old.vars) (map sort_view sorts.now)) }
 {
-    let mut types = Sequence::new(alloc);
+    let mut types = Sequence::from_vec(Vec::with_capacity(alloc, sorts.len())?);
     for sort in sorts {
         let of = open_parameter(sort, problem)?;
         types.push(of)?;

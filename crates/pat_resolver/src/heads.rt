@@ -17,6 +17,9 @@ use pat_sequences::Sequence;
 use pat_tree::{Param, TreeType};
 use std::alloc::{AllocError, Global};
 
+/// There is room for so many variables at least: most functions bind some behind their parameters.
+const ROOM: usize = 8;
+
 /// The types of a function's parameters and of its result.
 #[derive(Drop)]
 pub struct Head {
@@ -57,9 +60,10 @@ pub fn bind_params<'a>(
     ensures spans { IfOk result (λ v. map span_view v.spans ≡ map (λ p. p.name.span) (map param_view params.now)) }
     ensures numbers { IfOk result (λ v. length v.kinds ≡ length params.now) }
 {
+    let room = params.len().max(ROOM);
     let mut variables = Variables {
-        kinds: Sequence::new(alloc),
-        spans: Sequence::new(alloc),
+        kinds: Sequence::from_vec(Vec::with_capacity(alloc, room)?),
+        spans: Sequence::from_vec(Vec::with_capacity(alloc, room)?),
     };
     for (place, param) in params.iter().enumerate() {
         bind(

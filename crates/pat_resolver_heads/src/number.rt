@@ -139,7 +139,7 @@ pub fn number_params(
     ensures numbers { IfOk result (λ ss. map sort_view ss ≡ map (λ p. sort_of (names_view names.now) p.type) (map param_view params.now)) }
     ensures places { IfOk result (λ ss. map sort_place ss ≡ map (λ p. type_place p.type) (map param_view params.now)) }
 {
-    let mut sorts = Sequence::new(alloc);
+    let mut sorts = Sequence::from_vec(Vec::with_capacity(alloc, params.len())?);
     for param in params {
         let sort = number_type(alloc, names, &param.of)?;
         sorts.push(sort)?;
@@ -157,7 +157,7 @@ fn number_types(
     ensures numbers { IfOk result (λ ss. map sort_view ss ≡ map (sort_of (names_view names.now)) (map type_view types.now)) }
     ensures places { IfOk result (λ ss. map sort_place ss ≡ map type_place (map type_view types.now)) }
 {
-    let mut sorts = Sequence::new(alloc);
+    let mut sorts = Sequence::from_vec(Vec::with_capacity(alloc, types.len())?);
     for of in types {
         let sort = number_type(alloc, names, of)?;
         sorts.push(sort)?;

@@ -41,7 +41,7 @@ pub fn number_args(
 ) -> Result<Sequence<Expr>, AllocError>
     ensures { IfOk result (λ es. map core_view es ≡ map (expr_of (scope_view scope.now)) (map expr_view args.now)) }
 {
-    let mut numbered = Sequence::new(alloc);
+    let mut numbered = Sequence::from_vec(Vec::with_capacity(alloc, args.len())?);
     for arg in args.as_slice() {
         numbered.push(number_expr(alloc, scope, arg)?)?;
     }
