@@ -8,7 +8,7 @@ use Rattle.pat_grammar.specs.Trees.{Tree, Span as Place}
 use Rattle.pat_grammar.specs.Items.{bound_item}
 use Rattle.pat_grammar.specs.Machine.{Fault, Unexpected, TooDeep, parsed}
 use Rattle.pat_grammar_laws.proofs.Exact.{exact_answer}
-use Rattle.pat_parser_states.specs.Views.{limits}
+use Rattle.pat_parser_tokens.specs.Answers.{limits}
 use Rattle.pat_names.specs.Findings.{Rule, Finding, findings}
 use Rattle.pat_names.specs.Findings as rule
 use Rattle.pat_resolver_answers.specs.Views.{rule_view, finding_view}

@@ -7,7 +7,7 @@ use Rattle.pat_names.specs.Numbering.{numbered}
 use Rattle.pat_names.specs.Places.{Places, places}
 use Rattle.pat_names.specs.Resolved.{IsResolved}
 use Rattle.pat_resolver.proofs.Resolved.{resolved, text_written}
-use Rattle.pat_parser_states.specs.Views.{limits}
+use Rattle.pat_parser_tokens.specs.Answers.{limits}
 use Rattle.pat_resolver_answers.specs.Results.{first_of}
 use Rattle.pat_resolver_answers.proofs.Firsts.{first_none}
 use Rattle.pat_front.specs.Texts.{IsTreeText, IsProgramText}

@@ -5,7 +5,7 @@ use Rattle.pat_lexical.specs.Divisions.{Divides, IsRefused, BadToken as BadToken
 use Rattle.pat_model.specs.Programs.{Program}
 use Rattle.pat_grammar.specs.Trees.{Tree}
 use Rattle.pat_grammar.specs.Claims.{SpellsTree, IsUnexpected, IsTooDeep}
-use Rattle.pat_parser_states.specs.Views.{limits}
+use Rattle.pat_parser_tokens.specs.Answers.{limits}
 use Rattle.pat_names.specs.Claims as names
 use Rattle.pat_resolver_answers.specs.Views.{finding_view}
 use Rattle.pat_input.specs.Inputs.{limit}

@@ -13,10 +13,10 @@ use Rattle.pat_grammar_laws.proofs.Counts.{at_most_four}
 use Rattle.pat_grammar_laws.proofs.Names.{tree_named}
 use Rattle.pat_tree.specs.declared.tree.Tree.{Tree}
 use Rattle.pat_tree.specs.Views.{tree_view}
-use Rattle.pat_parser.specs.declared.fault.ParseError.{ParseError}
-use Rattle.pat_parser.specs.declared.fault.ParseError.TheVariants as errors
-use Rattle.pat_parser_states.specs.Views.{limits}
-use Rattle.pat_parser.specs.Answers.{GivesAt, FailsAt, Explains}
+use Rattle.pat_parser_tokens.specs.declared.fault.ParseError.{ParseError}
+use Rattle.pat_parser_tokens.specs.declared.fault.ParseError.TheVariants as errors
+use Rattle.pat_parser_tokens.specs.Answers.{limits, FailsAt}
+use Rattle.pat_parser.specs.Answers.{GivesAt, Explains}
 
 explained : (end : ℕ) (ts : List Spanned) (e : ParseError) (q : Result AnyTree (m.Fault × ℕ)) → FailsAt e q → Claimed limits end ts q → Explains end ts e
 explained end ts errors.NoMemory q f c = tt

@@ -1,8 +1,7 @@
-//! Tokens to a tree: a machine that reads a token at a time, with a stack of what is still owed.
+//! Tokens to a tree, a phrase at a time, with a stack for what nests without a bound.
 #![tactic(auto)]
 
-mod fault;
-mod machine;
+mod parsing;
 
-pub use fault::ParseError;
-pub use machine::parse;
+pub use parsing::parse;
+pub use pat_parser_tokens::ParseError;

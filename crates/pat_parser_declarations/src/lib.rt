@@ -1,8 +1,9 @@
-//! What the parser does in declarations, and behind a name of whatever kind.
+//! Interfaces, and the heads of functions, read by descent.
 #![tactic(auto)]
 
-mod declarations;
-mod names;
+mod functions;
+mod interfaces;
+mod lists;
 
-pub use declarations::{decl, first_param, message, params};
-pub use names::{got_name, want_name};
+pub use functions::{FunctionSignature, signature};
+pub use interfaces::interface;

@@ -9,9 +9,9 @@ ghost use Rattle.pat_parser_states.specs.Answers.{Gives, Makes};
 ghost use Rattle.pat_parser_ends.specs.Answers.{standing};
 
 use pat_parser_states::{
-    BlockFrame, ClauseControl, ClauseFrame, ClauseHead, Control, DeclControl, Defining, Fault,
-    Frame, Frames, Guarding, LetFrame, NameControl, Naming, Place, State, TermControl, at,
-    boxed_term, done, over, refused, too_deep, top, with_clause, with_decl,
+    BlockFrame, ClauseFrame, ClauseHead, Control, Defining, Fault, Frame, Frames, Guarding,
+    LetFrame, Place, State, at, begun, boxed_term, done, over, refused, too_deep, top, with_clause,
+    with_decl,
 };
 use pat_syntax::{Mark, Reserved, Span, TokenKind};
 use pat_tree::{Decl, Form, Name, Term, TreeClause, TreeExpr, TreeType};
@@ -105,33 +105,20 @@ pub fn clause(
     match kind {
         TokenKind::Word(Reserved::Fail) => {
             let guard = with_clause(guard, TreeClause::Fail(span))?;
-            Ok(at(
-                Control::Clause(ClauseControl::AtClause(false, guard)),
-                stack,
-                opened,
-                0,
-                statements,
-            ))
+            Ok(at(Control::AtClause(false, guard), stack, opened, statements))
         }
-        TokenKind::Word(Reserved::Free) => {
-            Ok(at(
-                Control::Clause(ClauseControl::AfterFreeWord(guard, span)),
-                stack,
-                opened,
-                0,
-                statements,
-            ))
-        }
-        TokenKind::Word(Reserved::Receive) => {
-            let naming = Naming::ReceiveName(guard, span);
-            Ok(at(
-                Control::Name(NameControl::WantName(naming)),
-                stack,
-                opened,
-                0,
-                statements,
-            ))
-        }
+        TokenKind::Word(Reserved::Free) => Ok(at(
+            Control::AfterFree(guard, span),
+            stack,
+            opened,
+            statements,
+        )),
+        TokenKind::Word(Reserved::Receive) => Ok(at(
+            Control::AfterReceive(guard, span),
+            stack,
+            opened,
+            statements,
+        )),
         TokenKind::Mark(Mark::CurlyClose) => guard_end(alloc, first, stack, guard, span),
         _ => refused(guard),
     }
@@ -217,13 +204,7 @@ fn function_end(
         body: Box::into_inner(body),
     };
     let decls = with_decl(decls, decl)?;
-    Ok(at(
-        Control::Declaration(DeclControl::AtDecl(false, decls)),
-        stack,
-        0,
-        0,
-        0,
-    ))
+    Ok(State::Between(false, decls, stack))
 }
 
 fn clause_end(
@@ -261,8 +242,8 @@ fn brace(
             term, from, below, opened, statements,
         )),
         BlockFrame::InYes(test, from, opened, statements) => {
-            let control = Control::Term(TermControl::AfterYes(test, term, from));
-            Ok(at(control, below, opened, 0, statements))
+            let control = Control::AfterYes(test, term, from);
+            Ok(at(control, below, opened, statements))
         }
         BlockFrame::InNo(test, yes, from, opened, statements) => {
             let whole = branch(alloc, test, yes, term, from, span.to)?;
@@ -339,14 +320,8 @@ fn next_term(place: Place, term: Box<Term>, from: u32) -> Result<State, Fault>
         return too_deep((place, term));
     }
     let statements = place.statements + 1;
-    let stack = over(Frame::Let(LetFrame::InBody(None, term, from)), place.stack)?;
-    Ok(at(
-        Control::Term(TermControl::Start(true)),
-        stack,
-        place.opened,
-        0,
-        statements,
-    ))
+    let frame = Frame::Let(LetFrame::InBody(None, term, from));
+    Ok(begun(frame, place.stack, true, place.opened, statements)?)
 }
 
 fn let_body(name: Name, from: u32, place: Place, term: Box<Term>) -> Result<State, Fault>
@@ -356,17 +331,8 @@ fn let_body(name: Name, from: u32, place: Place, term: Box<Term>) -> Result<Stat
         return too_deep((name, place, term));
     }
     let statements = place.statements + 1;
-    let stack = over(
-        Frame::Let(LetFrame::InBody(Some(name), term, from)),
-        place.stack,
-    )?;
-    Ok(at(
-        Control::Term(TermControl::Start(true)),
-        stack,
-        place.opened,
-        0,
-        statements,
-    ))
+    let frame = Frame::Let(LetFrame::InBody(Some(name), term, from));
+    Ok(begun(frame, place.stack, true, place.opened, statements)?)
 }
 
 fn body_of_let(stack: Frames, opened: u16, statements: u16, term: Box<Term>) -> Result<State, Fault>
@@ -379,7 +345,6 @@ fn body_of_let(stack: Frames, opened: u16, statements: u16, term: Box<Term>) -> 
                 let place = Place {
                     stack: below,
                     opened,
-                    operators: 0,
                     statements,
                 };
                 let_body(name, from, place, term)

@@ -5,7 +5,8 @@ use Rattle.pat_parser_states.specs.declared.fault.Fault.{Fault}
 use Rattle.pat_parser_states.specs.declared.fault.Fault.TheVariants as faults
 use Rattle.pat_parser_states.specs.declared.state.State.{State}
 use Rattle.pat_parser_states.specs.declared.state.Frame.{Frame}
-use Rattle.pat_parser_states.specs.Views.{state_view, frame_view, stack_view, limits}
+use Rattle.pat_parser_states.specs.Views.{state_view, frame_view, stack_view}
+use Rattle.pat_parser_tokens.specs.Answers.{limits}
 
 -- a fault is that of the definition; want of memory claims nothing
 abbrev pub Fails : {Y : Type 0} → Fault → Result Y m.Fault → Type 0

@@ -1,7 +1,13 @@
 // Why a step can't be taken.
-ghost use Rattle.std.specs.Prelude.{◌≡◌};
+ghost use Rattle.std.specs.Prelude.{◌≡◌, ℕ};
+ghost use Rattle.pat_grammar.specs.Machine as m;
+ghost use Rattle.pat_parser_tokens.specs.Answers.{Rest, after, answer, Parses};
+ghost use Rattle.pat_parser_states.specs.Views.{state_view};
+ghost use Rattle.pat_parser_states.specs.Answers.{Makes};
 ghost use Rattle.pat_parser_states.specs.declared.fault.Fault.TheVariants.{NoMemory};
 
+use crate::state::State;
+use pat_parser_tokens::ParseError;
 use std::alloc::{AllocError, AllocFailed};
 
 /// Why a step can't be taken.
@@ -25,5 +31,17 @@ impl<T: Drop> From<AllocFailed<T>> for Fault {
 
     fn from(_e: AllocFailed<T>) -> Fault {
         Fault::NoMemory
+    }
+}
+
+/// What is answered at a token at the offset `from` where its step gives this.
+pub fn placed(step: Result<State, Fault>, from: u32) -> Result<State, ParseError>
+    ensures { (move : m.Move) (rest : Rest) → Makes step move → Parses result (after move from rest) (λ x. answer (state_view x) rest) }
+{
+    match step {
+        Ok(state) => Ok(state),
+        Err(Fault::Unexpected) => Err(ParseError::Unexpected(from)),
+        Err(Fault::TooDeep) => Err(ParseError::TooDeep(from)),
+        Err(Fault::NoMemory) => Err(ParseError::NoMemory),
     }
 }

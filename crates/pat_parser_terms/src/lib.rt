@@ -1,11 +1,7 @@
-//! What the parser does in terms and in their expressions.
+//! What the parser does where a term or a clause begins, and behind a term: a phrase at a time.
 #![tactic(auto)]
 
-mod expressions;
+mod clauses;
 mod terms;
 
-pub use expressions::{first_arg, have, opened, want};
-pub use pat_parser_ends::{behind_simple, clause};
-pub use terms::{
-    binders, first_binder, free, free_clause, named, new, otherwise, print, spawn, start, yes,
-};
+pub use terms::within;

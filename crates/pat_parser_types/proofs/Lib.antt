@@ -1,1 +1,2 @@
-mod Stars
+mod Openings
+mod Typed

@@ -1,8 +1,8 @@
-//! What the parser does in types and in patterns.
+//! Patterns and types, read by descent: each function takes the first token of its phrase.
 #![tactic(auto)]
 
 mod patterns;
 mod types;
 
-pub use patterns::{have_pattern, want_pattern};
-pub use types::{first_payload, have_base, polarity, type_named, want_type};
+pub use patterns::{PatternRead, pattern};
+pub use types::{TypeRead, written_type};

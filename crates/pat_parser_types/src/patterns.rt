@@ -1,24 +1,156 @@
 // Patterns.
-ghost use Rattle.std.specs.Prelude.{◌≡◌, [], ◌+◌, option_map, length, suc, Some, None, Ok, true};
+ghost use Rattle.std.specs.Prelude.{◌≡◌, ◌+◌, ◌<◌, ◌≤◌, ℕ, List, ◌∷◌, length, option_map, Some, None, IfOk};
 ghost use Rattle.pat_grammar.specs.Items as items;
 ghost use Rattle.pat_grammar.specs.Machine as m;
+ghost use Rattle.pat_grammar.specs.Trees as trees;
 ghost use Rattle.pat_syntax.specs.Views.{kind_view};
-ghost use Rattle.pat_primitives.specs.Views.{polarity_view};
-ghost use Rattle.pat_tree.specs.Views.{span_view, name_view, pattern_view, type_view};
-ghost use Rattle.pat_parser_states.specs.Views.{before_view, leading_view, held_view, stack_view};
-ghost use Rattle.pat_parser_states.specs.Answers.{Gives, Makes};
+ghost use Rattle.pat_tree.specs.Views.{span_view, pattern_view};
+ghost use Rattle.pat_parser_tokens.specs.Answers.{Parses, answer, after, moved};
+ghost use Rattle.pat_parser_types.specs.Ends.{behind_pattern, behind_factor, held_view, before_view};
 
-use crate::types::{type_close, type_comma, type_open};
-use pat_parser_states::{
-    Before, ClauseControl, Control, Fault, Frame, Frames, Guarding, Leading, PatternControl,
-    PatternFrame, Place, State, at, has_room, leading, name_of, over, parts_before, refused,
-    too_deep, top,
-};
-use pat_primitives::Polarity;
-use pat_sequences::Sequence;
-use pat_syntax::{Mark, Span, TokenKind};
-use pat_tree::{Name, TreePattern, TreeType};
-use std::alloc::Global;
+use pat_parser_tokens::{ParseError, Tokens, has_room};
+use pat_syntax::{Mark, Span, Token, TokenKind};
+use pat_tree::{Name, TreePattern};
+use std::alloc::{AllocError, Global};
+
+/// A pattern or a factor of one, and the token behind it.
+#[derive(Drop)]
+pub struct PatternRead {
+    pub pattern: TreePattern,
+    /// Where its last token ends.
+    pub to: u32,
+    /// How many operators are open behind it.
+    pub operators: u16,
+    pub token: Token,
+}
+
+/// The sum and the product that stand before a factor.
+#[derive(Drop)]
+struct Before {
+    added: Option<Box<TreePattern>>,
+    multiplied: Option<Box<TreePattern>>,
+}
+
+/// Takes the token behind one, at a place, that opens a bracket or an operator.
+fn after_opening(
+    tokens: &mut Tokens,
+    opened: u16,
+    operators: u16,
+    place: Span,
+) -> Result<Token, ParseError>
+    ensures taken { (x : m.State) → m.finish x ≡ None → Parses result (after (m.Opens opened operators x) place.from tokens.old) (λ t. after (moved x (kind_view t.kind) (span_view t.span)) t.span.from tokens.new) }
+    ensures room { IfOk result (λ t. opened + operators < 255) }
+    ensures fewer { IfOk result (λ t. length tokens.new.0 < length tokens.old.0) }
+    ensures no_more { length tokens.new.0 ≤ length tokens.old.0 }
+{
+    if has_room(opened, operators) {
+        tokens.next()
+    } else {
+        Err(ParseError::TooDeep(place.from))
+    }
+}
+
+/// Reads a pattern, whose first token is at hand.
+#[cycle(pattern)]
+pub fn pattern(
+    alloc: Global,
+    tokens: &mut Tokens,
+    opened: u16,
+    mut operators: u16,
+    mut kind: TokenKind,
+    mut span: Span,
+) -> Result<PatternRead, ParseError>
+    ensures read { (fs : List m.Frame) → (s : ℕ) → Parses result (after (m.want_pattern fs opened operators s m.none_before (kind_view kind) (span_view span)) span.from tokens.old) (λ q. behind_pattern fs opened s q tokens.new) }
+    ensures no_more { length tokens.new.0 ≤ length tokens.old.0 }
+{
+    let mut before = Before {
+        added: None,
+        multiplied: None,
+    };
+    loop {
+        let read = factor(alloc, tokens, opened, operators, kind, span)?;
+        before = match read.token.kind {
+            TokenKind::Mark(Mark::Dot) => times(alloc, before, read.pattern)?,
+            TokenKind::Mark(Mark::Plus) => plus(alloc, before, read.pattern)?,
+            _ => return Ok(whole(alloc, before, read)?),
+        };
+        let token = after_opening(tokens, opened, read.operators, read.token.span)?;
+        operators = read.operators + 1;
+        kind = token.kind;
+        span = token.span;
+    }
+}
+
+/// Reads a factor with the stars before it.
+#[cycle(pattern)]
+fn factor(
+    alloc: Global,
+    tokens: &mut Tokens,
+    opened: u16,
+    operators: u16,
+    kind: TokenKind,
+    span: Span,
+) -> Result<PatternRead, ParseError>
+    ensures read { (fs : List m.Frame) → (s : ℕ) → (p : m.Before) → Parses result (after (m.want_pattern fs opened operators s p (kind_view kind) (span_view span)) span.from tokens.old) (λ q. behind_factor fs opened s p q tokens.new) }
+    ensures no_more { length tokens.new.0 ≤ length tokens.old.0 }
+{
+    match kind {
+        TokenKind::Name(text) => {
+            let tag = TreePattern::Tag(Name { text, span });
+            behind(tokens, operators, tag, span.to)
+        }
+        TokenKind::Integer(value) => match constant(value, span) {
+            Some(constant) => behind(tokens, operators, constant, span.to),
+            None => Err(ParseError::Unexpected(span.from)),
+        },
+        TokenKind::Mark(Mark::Star) => {
+            let first = after_opening(tokens, opened, operators, span)?;
+            let read = factor(alloc, tokens, opened, operators + 1, first.kind, first.span)?;
+            Ok(starred(alloc, read)?)
+        }
+        TokenKind::Mark(Mark::RoundOpen) => {
+            let first = after_opening(tokens, opened, operators, span)?;
+            let read = pattern(alloc, tokens, opened + 1, operators, first.kind, first.span)?;
+            closed(tokens, read)
+        }
+        _ => Err(ParseError::Unexpected(span.from)),
+    }
+}
+
+/// Takes the token behind a factor.
+fn behind(
+    tokens: &mut Tokens,
+    operators: u16,
+    pattern: TreePattern,
+    to: u32,
+) -> Result<PatternRead, ParseError>
+    ensures read { (fs : List m.Frame) → (o s : ℕ) → (p : m.Before) → Parses result (answer (m.state (m.HavePattern p (pattern_view pattern) to) fs o operators s) tokens.old) (λ q. behind_factor fs o s p q tokens.new) }
+    ensures no_more { length tokens.new.0 ≤ length tokens.old.0 }
+{
+    let token = tokens.next()?;
+    Ok(PatternRead {
+        pattern,
+        to,
+        operators,
+        token,
+    })
+}
+
+/// Behind a pattern in brackets and the token that ends it.
+fn closed(tokens: &mut Tokens, read: PatternRead) -> Result<PatternRead, ParseError>
+    ensures read { (fs : List m.Frame) → (n o s : ℕ) → (p : m.Before) → Parses result (behind_pattern (m.AtPattern (m.InPatternBracket p o) ∷ fs) n s read tokens.old) (λ q. behind_factor fs o s p q tokens.new) }
+    ensures no_more { length tokens.new.0 ≤ length tokens.old.0 }
+{
+    match read.token.kind {
+        TokenKind::Mark(Mark::RoundClose) => behind(
+            tokens,
+            read.operators,
+            read.pattern,
+            read.token.span.to,
+        ),
+        _ => Err(ParseError::Unexpected(read.token.span.from)),
+    }
+}
 
 fn constant(value: i64, span: Span) -> Option<TreePattern>
     ensures { option_map pattern_view result ≡ items.constant value (span_view span) }
@@ -32,115 +164,24 @@ fn constant(value: i64, span: Span) -> Option<TreePattern>
     }
 }
 
-fn number(
-    place: Place,
-    before: Leading,
-    number: Option<TreePattern>,
-    span: Span,
-) -> Result<State, Fault>
-    ensures { Makes result (m.number_step (stack_view place.stack) place.opened place.operators place.statements (leading_view before) (option_map pattern_view number) (span_view span)) }
+/// A factor with one star more.
+fn starred(alloc: Global, factor: PatternRead) -> Result<PatternRead, AllocError>
+    ensures { IfOk result (λ q. (pattern_view q.pattern ≡ trees.StarPattern (pattern_view factor.pattern)) × (q.to ≡ factor.to) × (q.operators ≡ factor.operators) × (q.token ≡ factor.token)) }
 {
-    match number {
-        Some(pattern) => {
-            let control = Control::Pattern(PatternControl::HavePattern(before, pattern, span.to));
-            Ok(at(
-                control,
-                place.stack,
-                place.opened,
-                place.operators,
-                place.statements,
-            ))
-        }
-        None => Err(Fault::Unexpected),
-    }
-}
-
-/// Where a factor is wanted.
-pub fn want_pattern(
-    alloc: Global,
-    place: Place,
-    before: Leading,
-    kind: TokenKind,
-    span: Span,
-) -> Result<State, Fault>
-    ensures { Makes result (m.want_pattern (stack_view place.stack) place.opened place.operators place.statements (leading_view before) (kind_view kind) (span_view span)) }
-{
-    match kind {
-        TokenKind::Name(text) => {
-            let pattern = TreePattern::Tag(name_of(text, span));
-            let control = Control::Pattern(PatternControl::HavePattern(before, pattern, span.to));
-            Ok(at(
-                control,
-                place.stack,
-                place.opened,
-                place.operators,
-                place.statements,
-            ))
-        }
-        TokenKind::Integer(value) => number(place, before, constant(value, span), span),
-        TokenKind::Mark(Mark::Star) => star(alloc, place, parts_before(alloc, before), span),
-        TokenKind::Mark(Mark::RoundOpen) => {
-            if !has_room(place.opened, place.operators) {
-                return too_deep((place, before));
-            }
-            let opened = place.opened + 1;
-            let stack = over(
-                Frame::Pattern(PatternFrame::InPatternBracket(before, place.opened)),
-                place.stack,
-            )?;
-            let control = Control::Pattern(PatternControl::WantPattern(None));
-            Ok(at(control, stack, opened, place.operators, place.statements))
-        }
-        _ => refused((place, before)),
-    }
-}
-
-fn with_star(stars: Sequence<Span>, star: Span) -> Result<Sequence<Span>, Fault>
-    ensures { Gives (λ v. length v) result (Ok (suc (length stars))) }
-{
-    let mut stars = stars;
-    stars.push(star)?;
-    Ok(stars)
-}
-
-fn star(alloc: Global, place: Place, before: Before, span: Span) -> Result<State, Fault>
-    ensures { Makes result (m.Opens place.opened place.operators (m.state (m.WantPattern (record { added = held_view before.added; multiplied = held_view before.multiplied; stars = suc (length before.stars) })) (stack_view place.stack) place.opened (suc place.operators) place.statements)) }
-{
-    if !has_room(place.opened, place.operators) {
-        return too_deep((place, before));
-    }
-    let next = Before {
-        added: before.added,
-        multiplied: before.multiplied,
-        stars: with_star(before.stars, span)?,
-    };
-    let control = Control::Pattern(PatternControl::WantPattern(leading(alloc, next)?));
-    Ok(at(
-        control,
-        place.stack,
-        place.opened,
-        place.operators + 1,
-        place.statements,
-    ))
-}
-
-fn starred(alloc: Global, stars: Sequence<Span>, pattern: TreePattern) -> Result<TreePattern, Fault>
-    ensures { Gives pattern_view result (Ok (m.starred (length stars) (pattern_view pattern))) }
-{
-    let mut pattern = pattern;
-    let mut left = stars;
-    while let Some(_) = left.pop() {
-        pattern = TreePattern::Star(Box::new(alloc, pattern)?);
-    }
-    Ok(pattern)
+    Ok(PatternRead {
+        pattern: TreePattern::Star(Box::new(alloc, factor.pattern)?),
+        to: factor.to,
+        operators: factor.operators,
+        token: factor.token,
+    })
 }
 
 fn product(
     alloc: Global,
     left: Option<Box<TreePattern>>,
     right: TreePattern,
-) -> Result<TreePattern, Fault>
-    ensures { Gives pattern_view result (Ok (m.times_pattern (held_view left) (pattern_view right))) }
+) -> Result<TreePattern, AllocError>
+    ensures { IfOk result (λ q. pattern_view q ≡ m.times_pattern (held_view left) (pattern_view right)) }
 {
     match left {
         None => Ok(right),
@@ -152,8 +193,8 @@ fn sum(
     alloc: Global,
     left: Option<Box<TreePattern>>,
     right: TreePattern,
-) -> Result<TreePattern, Fault>
-    ensures { Gives pattern_view result (Ok (m.plus_pattern (held_view left) (pattern_view right))) }
+) -> Result<TreePattern, AllocError>
+    ensures { IfOk result (λ q. pattern_view q ≡ m.plus_pattern (held_view left) (pattern_view right)) }
 {
     match left {
         None => Ok(right),
@@ -161,233 +202,38 @@ fn sum(
     }
 }
 
-fn product_in(
-    alloc: Global,
-    multiplied: Option<Box<TreePattern>>,
-    stars: Sequence<Span>,
-    factor: TreePattern,
-) -> Result<TreePattern, Fault>
-    ensures { Gives pattern_view result (Ok (m.times_pattern (held_view multiplied) (m.starred (length stars) (pattern_view factor)))) }
+/// What stands before the factor behind a dot.
+fn times(alloc: Global, before: Before, factor: TreePattern) -> Result<Before, AllocError>
+    ensures { IfOk result (λ b. before_view b ≡ record { added = held_view before.added; multiplied = Some (m.product_in (before_view before) (pattern_view factor)); stars = 0 }) }
 {
-    let factor = starred(alloc, stars, factor)?;
-    product(alloc, multiplied, factor)
-}
-
-/// The whole pattern that ends with the factor.
-fn whole_in(alloc: Global, before: Before, factor: TreePattern) -> Result<TreePattern, Fault>
-    ensures { Gives pattern_view result (Ok (m.whole_in (before_view before) (pattern_view factor))) }
-{
-    let product = product_in(alloc, before.multiplied, before.stars, factor)?;
-    sum(alloc, before.added, product)
-}
-
-fn whole(alloc: Global, before: Leading, factor: TreePattern) -> Result<TreePattern, Fault>
-    ensures { Gives pattern_view result (Ok (m.whole_in (leading_view before) (pattern_view factor))) }
-{
-    match before {
-        None => Ok(factor),
-        Some(before) => whole_in(alloc, Box::into_inner(before), factor),
-    }
-}
-
-fn typed_by(name: Name, polarity: Polarity, pattern: TreePattern, to: u32) -> TreeType
-    ensures { type_view result ≡ m.typed_by (name_view name) (polarity_view polarity) (pattern_view pattern) to }
-{
-    let span = Span {
-        from: name.span.from,
-        to,
-    };
-    TreeType::Mailbox {
-        name,
-        polarity,
-        pattern: Some(pattern),
-        span,
-    }
-}
-
-fn close(
-    stack: Frames,
-    operators: u16,
-    statements: u16,
-    pattern: TreePattern,
-    to: u32,
-    span: Span,
-) -> Result<State, Fault>
-    ensures { Makes result (m.pattern_close (stack_view stack) operators statements (pattern_view pattern) to (span_view span)) }
-{
-    match top(stack) {
-        None => refused(pattern),
-        Some((frame, below)) => match frame {
-            Frame::Pattern(PatternFrame::InPatternBracket(before, opened)) => {
-                let control = Control::Pattern(PatternControl::HavePattern(
-                    before, pattern, span.to,
-                ));
-                Ok(at(control, below, opened, operators, statements))
-            }
-            Frame::Pattern(PatternFrame::InTyped(name, polarity)) => type_close(
-                below,
-                typed_by(name, polarity, pattern, to),
-            ),
-            other => refused((other, below, pattern)),
-        },
-    }
-}
-
-fn comma(stack: Frames, opened: u16, pattern: TreePattern, to: u32) -> Result<State, Fault>
-    ensures { Makes result (m.pattern_comma (stack_view stack) opened (pattern_view pattern) to) }
-{
-    match top(stack) {
-        None => refused(pattern),
-        Some((frame, below)) => match frame {
-            Frame::Pattern(PatternFrame::InTyped(name, polarity)) => type_comma(
-                below,
-                opened,
-                typed_by(name, polarity, pattern, to),
-            ),
-            other => refused((other, below, pattern)),
-        },
-    }
-}
-
-fn guard_open(
-    alloc: Global,
-    stack: Frames,
-    mailbox: Name,
-    from: u32,
-    opened: u16,
-    statements: u16,
-    pattern: TreePattern,
-) -> Result<State, Fault>
-    ensures { Makes result (m.Opens opened 0 (m.state (m.AtClause true (record { mailbox = name_view mailbox; pattern = pattern_view pattern; from = from; opened = opened; inside = suc opened; statements = statements; clauses = [] })) (stack_view stack) (suc opened) 0 statements)) }
-{
-    if !has_room(opened, 0) {
-        return too_deep((stack, mailbox, pattern));
-    }
-    let inside = opened + 1;
-    let guard = Guarding {
-        mailbox,
-        pattern,
-        from,
-        opened,
-        inside,
-        statements,
-        clauses: Vec::new(alloc),
-    };
-    let control = Control::Clause(ClauseControl::AtClause(true, Box::new(alloc, guard)?));
-    Ok(at(control, stack, inside, 0, statements))
-}
-
-fn open(
-    alloc: Global,
-    stack: Frames,
-    opened: u16,
-    statements: u16,
-    pattern: TreePattern,
-    to: u32,
-) -> Result<State, Fault>
-    ensures { Makes result (m.pattern_open (stack_view stack) opened statements (pattern_view pattern) to) }
-{
-    match top(stack) {
-        None => refused(pattern),
-        Some((frame, below)) => match frame {
-            Frame::Pattern(PatternFrame::InTyped(name, polarity)) => type_open(
-                below,
-                opened,
-                typed_by(name, polarity, pattern, to),
-            ),
-            Frame::Pattern(PatternFrame::InGuarded(mailbox, from)) => guard_open(
-                alloc, below, mailbox, from, opened, statements, pattern,
-            ),
-            other => refused((other, below, pattern)),
-        },
-    }
-}
-
-fn dot(alloc: Global, place: Place, before: Before, factor: TreePattern) -> Result<State, Fault>
-    ensures { Makes result (m.Opens place.opened place.operators (m.state (m.WantPattern (record { added = held_view before.added; multiplied = Some (m.product_in (before_view before) (pattern_view factor)); stars = 0 })) (stack_view place.stack) place.opened (suc place.operators) place.statements)) }
-{
-    if !has_room(place.opened, place.operators) {
-        return too_deep((place, before, factor));
-    }
-    let product = product_in(alloc, before.multiplied, before.stars, factor)?;
-    let next = Before {
+    let product = product(alloc, before.multiplied, factor)?;
+    Ok(Before {
         added: before.added,
         multiplied: Some(Box::new(alloc, product)?),
-        stars: Sequence::new(alloc),
-    };
-    let control = Control::Pattern(PatternControl::WantPattern(leading(alloc, next)?));
-    Ok(at(
-        control,
-        place.stack,
-        place.opened,
-        place.operators + 1,
-        place.statements,
-    ))
+    })
 }
 
-fn plus(alloc: Global, place: Place, before: Before, factor: TreePattern) -> Result<State, Fault>
-    ensures { Makes result (m.Opens place.opened place.operators (m.state (m.WantPattern (record { added = Some (m.whole_in (before_view before) (pattern_view factor)); multiplied = None; stars = 0 })) (stack_view place.stack) place.opened (suc place.operators) place.statements)) }
+/// What stands before the factor behind a plus.
+fn plus(alloc: Global, before: Before, factor: TreePattern) -> Result<Before, AllocError>
+    ensures { IfOk result (λ b. before_view b ≡ record { added = Some (m.whole_in (before_view before) (pattern_view factor)); multiplied = None; stars = 0 }) }
 {
-    if !has_room(place.opened, place.operators) {
-        return too_deep((place, before, factor));
-    }
-    let sum = whole_in(alloc, before, factor)?;
-    let next = Before {
+    let product = product(alloc, before.multiplied, factor)?;
+    let sum = sum(alloc, before.added, product)?;
+    Ok(Before {
         added: Some(Box::new(alloc, sum)?),
         multiplied: None,
-        stars: Sequence::new(alloc),
-    };
-    let control = Control::Pattern(PatternControl::WantPattern(leading(alloc, next)?));
-    Ok(at(
-        control,
-        place.stack,
-        place.opened,
-        place.operators + 1,
-        place.statements,
-    ))
+    })
 }
 
-/// Behind a factor.
-pub fn have_pattern(
-    alloc: Global,
-    place: Place,
-    before: Leading,
-    factor: TreePattern,
-    to: u32,
-    kind: TokenKind,
-    span: Span,
-) -> Result<State, Fault>
-    ensures { Makes result (m.have_pattern (stack_view place.stack) place.opened place.operators place.statements (leading_view before) (pattern_view factor) to (kind_view kind) (span_view span)) }
+/// The whole pattern that ends with a factor.
+fn whole(alloc: Global, before: Before, last: PatternRead) -> Result<PatternRead, AllocError>
+    ensures { IfOk result (λ q. (pattern_view q.pattern ≡ m.whole_in (before_view before) (pattern_view last.pattern)) × (q.to ≡ last.to) × (q.operators ≡ last.operators) × (q.token ≡ last.token)) }
 {
-    match kind {
-        TokenKind::Mark(Mark::Dot) => dot(alloc, place, parts_before(alloc, before), factor),
-        TokenKind::Mark(Mark::Plus) => plus(alloc, place, parts_before(alloc, before), factor),
-        TokenKind::Mark(Mark::RoundClose) => {
-            let pattern = whole(alloc, before, factor)?;
-            close(
-                place.stack,
-                place.operators,
-                place.statements,
-                pattern,
-                to,
-                span,
-            )
-        }
-        TokenKind::Mark(Mark::Comma) => {
-            let pattern = whole(alloc, before, factor)?;
-            comma(place.stack, place.opened, pattern, to)
-        }
-        TokenKind::Mark(Mark::CurlyOpen) => {
-            let pattern = whole(alloc, before, factor)?;
-            open(
-                alloc,
-                place.stack,
-                place.opened,
-                place.statements,
-                pattern,
-                to,
-            )
-        }
-        _ => refused((place, before, factor)),
-    }
+    let product = product(alloc, before.multiplied, last.pattern)?;
+    Ok(PatternRead {
+        pattern: sum(alloc, before.added, product)?,
+        to: last.to,
+        operators: last.operators,
+        token: last.token,
+    })
 }
