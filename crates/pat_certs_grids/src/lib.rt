@@ -10,5 +10,5 @@ mod values;
 pub use bounds::is_grid;
 pub use check::check_grid;
 pub use large::is_large_enough;
-pub use pat_grid::{Grid, least};
+pub use pat_grid::Grid;
 pub use values::{Right, VarValue};

@@ -1,7 +1,7 @@
 -- Lists most of whose items are the same, as blocks.
-use Rattle.std.proofs.Common.{◌≡◌, ℕ, zero, suc, ◌+◌, ◌*◌, ◌-◌, ◌/◌, ◌%◌, ◌^◌, ◌<◌, ◌≤◌, ◌⊎◌, inl, inr, ⊎_elim, List, ◌∷◌, length, length-set, get_or, set, replicate, take, drop, ◌++◌, refl, sym, ap, ap₂, ◌∙◌, subst, arith}
+use Rattle.std.proofs.Common.{◌≡◌, ℕ, zero, suc, ◌+◌, ◌*◌, ◌-◌, ◌/◌, ◌%◌, ◌^◌, ◌<◌, ◌≤◌, ◌⊎◌, inl, inr, ⊎_elim, List, ◌∷◌, length, length-set, get_or, set, replicate, take, ◌++◌, refl, sym, ap, ap₂, ◌∙◌, subst, arith}
 use Rattle.std.proofs.lemmas.Bool.{cases_eq, cases_lt}
-use Rattle.std.proofs.lemmas.List.{get_or-set_same, get_or-set_other, get_or-replicate, length-replicate, get_or_past, get_or_default, get_or_append_left, get_or-append-add, get_or-take, get_or-drop, length-append, length-take, length-take-le}
+use Rattle.std.proofs.lemmas.List.{get_or-set_same, get_or-set_other, get_or-replicate, length-replicate, get_or_past, get_or_default, get_or_append_left, get_or-append-add, get_or-take, length-append, length-take-le}
 use Rattle.pat_grid_points.specs.Sparse.{by_places, spot, sparse, AreBlocks}
 use Rattle.pat_grid_points.proofs.Digits.{zero_at}
 
@@ -54,21 +54,21 @@ module _ {A : Type 0} (count : ℕ) (common : A) (starts : List ℕ) (blocks : L
       ∙ by_at count (λ j. get_or blocks (spot starts j) common) i d (omega arith)
       ∙ get_or_default blocks (spot starts i) common e (spot_in count common starts blocks i h)
 
-  -- the items from the place on to the end of its block
-  pub list_rest : (place j : ℕ) (d : A) (start : ℕ) (items : List A) → get_or starts (place / 16) 0 ≡ start → items ≡ blocks → j < length (take (start * 16 + 16 - (start * 16 + place % 16)) (drop (start * 16 + place % 16) items)) → place + j < length list → get_or list (place + j) d ≡ get_or (take (start * 16 + 16 - (start * 16 + place % 16)) (drop (start * 16 + place % 16) items)) j d
-  list_rest place j d start items e same l room =
+  -- as far as the items of a block are the same, so are those of the list
+  pub list_run : (place run start : ℕ) (items : List A) → get_or starts (place / 16) 0 ≡ start → items ≡ blocks → (start * 16 + place % 16) + run ≤ (start * 16 + place % 16) / 16 * 16 + 16 → ((i : ℕ) (d : A) → start * 16 + place % 16 ≤ i → i < (start * 16 + place % 16) + run → get_or items i d ≡ get_or items (start * 16 + place % 16) d) → (i : ℕ) (d : A) → place ≤ i → i < place + run → i < length list → get_or list i d ≡ get_or list place d
+  list_run place run start items e same within same_run i d l m room =
       let from = start * 16 + place % 16 in
-      let few = start * 16 + 16 - from in
-      let long = length-take few (drop from items) in
-      let within : j < few = omega arith in
-      let block : (place + j) / 16 ≡ place / 16 = omega arith in
+      let block : i / 16 ≡ place / 16 = omega arith in
       let of_block = ap (λ a. get_or starts a 0) block ∙ e in
-      let at : spot starts (place + j) ≡ from + j = omega arith in
-      list_at (place + j) d d room
+      let at : spot starts i ≡ from + (i - place) = omega arith in
+      let here : from ≡ spot starts place = omega arith in
+      list_at i d d room
       ∙ ap (λ p. get_or blocks p d) at
-      ∙ ap (λ xs. get_or xs (from + j) d) (sym same)
-      ∙ sym (get_or-drop from items j d)
-      ∙ sym (get_or-take few (drop from items) j d within)
+      ∙ ap (λ xs. get_or xs (from + (i - place)) d) (sym same)
+      ∙ same_run (from + (i - place)) d (omega arith) (omega arith)
+      ∙ ap (λ xs. get_or xs from d) same
+      ∙ ap (λ p. get_or blocks p d) here
+      ∙ sym (list_at place d d (omega arith))
 
 -- in a block without items of its own
 plain_at : {A : Type 0} (count : ℕ) (common : A) (starts : List ℕ) (blocks : List A) (i : ℕ) → AreBlocks count common starts blocks → get_or starts (i / 16) 0 ≡ 0 → get_or blocks (spot starts i) common ≡ common

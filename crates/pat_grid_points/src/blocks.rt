@@ -1,5 +1,5 @@
 // Lists in blocks.
-ghost use Rattle.std.specs.Prelude.{◌≡◌, ◌<◌, ◌≤◌, ◌+◌, ◌/◌, ◌++◌, ℕ, length, get_or, set, replicate, take, IfOk, OnOk, OnErr, IfSome, IfNone};
+ghost use Rattle.std.specs.Prelude.{◌≡◌, ◌<◌, ◌≤◌, ◌+◌, ◌*◌, ◌/◌, true, ◌++◌, ℕ, length, get_or, set, replicate, take, IfOk, OnOk, OnErr, IfSome, IfNone};
 ghost use Rattle.pat_grid_points.specs.Sparse.{sparse, AreBlocks};
 
 use pat_sequences::Sequence;
@@ -34,7 +34,7 @@ impl<T> Model for BlockList<T> {
     ghost invariant = { λ s. AreBlocks s.count s.common s.starts s.blocks };
 }
 
-impl<T: Copy + Drop> BlockList<T> {
+impl<T: Copy + Drop + PartialEq> BlockList<T> {
     /// The list that has so many times the item.
     pub fn repeat(alloc: Global, common: T, count: usize) -> Result<BlockList<T>, AllocError>
         ensures { IfOk result (λ list. list ≡ replicate count common) }
@@ -61,17 +61,6 @@ impl<T: Copy + Drop> BlockList<T> {
         self.blocks.as_slice()[start * BLOCK + place % BLOCK]
     }
 
-    /// The items from the place on to the end of its block. The last block may reach past the end of the list.
-    pub fn rest_of_block(&self, place: usize) -> &[T]
-        requires { place < length self.now }
-        ensures few { length result.now ≤ 16 }
-        ensures same { (j : ℕ) (d : T) → j < length result.now → place + j < length self.now → get_or self.now (place + j) d ≡ get_or result.now j d }
-    {
-        let blocks = self.blocks.as_slice();
-        let start = self.starts.as_slice()[place / BLOCK];
-        &blocks[start * BLOCK + place % BLOCK..start * BLOCK + BLOCK]
-    }
-
     /// Puts an item at the place. An error leaves the list as it was.
     pub fn set(&mut self, place: usize, item: T) -> Result<(), AllocError>
         requires { place < length self.old }
@@ -87,15 +76,18 @@ impl<T: Copy + Drop> BlockList<T> {
 
     /// A place past this one; up to it all items are the same as here.
     pub fn same_until(&self, place: usize) -> usize
-        requires { place < length self.now }
+        requires exact { (x y : T) → T.eq x y ≡ true → x ≡ y }
+        requires there { place < length self.now }
         ensures past { place < result }
         ensures within { result ≤ length self.now }
         ensures same { (i : ℕ) (d : T) → place ≤ i → i < result → get_or self.now i d ≡ get_or self.now place d }
     {
         let block = place / BLOCK;
         let starts = self.starts.as_slice();
-        if starts[block] != 0 {
-            return place + 1;
+        let start = starts[block];
+        if start != 0 {
+            let run = run_of(self.blocks.as_slice(), start * BLOCK + place % BLOCK);
+            return place + run.min(self.count - place);
         }
         match next_begun(starts, block) {
             Some(next) => next * BLOCK,
@@ -165,6 +157,23 @@ pub fn repeat_first<T: Copy + Drop>(blocks: &mut Sequence<T>) -> Result<(), Allo
     ensures err { OnErr result (blocks.new ≡ blocks.old) }
 {
     blocks.items.extend_from_within(0..BLOCK)
+}
+
+/// How many items from the place on are the same, up to the end of the place's block.
+pub fn run_of<T: Copy + PartialEq>(blocks: &[T], place: usize) -> usize
+    requires exact { (x y : T) → T.eq x y ≡ true → x ≡ y }
+    requires there { place / 16 * 16 + 16 ≤ length blocks.now }
+    ensures some { 0 < result }
+    ensures within { place + result ≤ place / 16 * 16 + 16 }
+    ensures same { (i : ℕ) (d : T) → place ≤ i → i < place + result → get_or blocks.now i d ≡ get_or blocks.now place d }
+{
+    let end = place / BLOCK * BLOCK + BLOCK;
+    for next in place + 1..end {
+        if blocks[next] != blocks[place] {
+            return next - place;
+        }
+    }
+    end - place
 }
 
 /// The first block past this one that has items of its own.

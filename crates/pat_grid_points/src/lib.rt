@@ -18,7 +18,7 @@ mod sparse;
 
 pub use chains::Chains;
 pub use grid::Grid;
-pub use lists::{count_same, forget, take};
+pub use lists::{forget, take};
 pub use numbers::{bag_of, count_points, number_of, sum_of, sum_of_points};
 pub use reading::next_held;
 pub use sparse::SparseList;

@@ -1,5 +1,5 @@
-// Lists of numbers that are filled anew, and runs of numbers.
-ghost use Rattle.std.specs.Prelude.{◌≡◌, ◌<◌, ◌≤◌, ℕ, length, get_or, ◌++◌, ◌∷◌, [], OnOk, if◌then◌else◌};
+// Lists of numbers that are filled anew.
+ghost use Rattle.std.specs.Prelude.{◌≡◌, ◌++◌, ◌∷◌, [], OnOk, if◌then◌else◌};
 
 use pat_sequences::Sequence;
 use std::alloc::AllocError;
@@ -29,20 +29,4 @@ pub fn push_if(wanted: bool, number: usize, numbers: &mut Sequence<usize>) -> Re
         numbers.push(number)?;
     }
     Ok(())
-}
-
-/// How many items from the first one on are the same.
-pub fn count_same(items: &[u16]) -> usize
-    requires { 0 < length items.now }
-    ensures some { 0 < result }
-    ensures within { result ≤ length items.now }
-    ensures same { (j d : ℕ) → j < result → get_or items.now j d ≡ get_or items.now 0 d }
-{
-    let first = items[0];
-    for place in 1..items.len() {
-        if items[place] != first {
-            return place;
-        }
-    }
-    items.len()
 }

@@ -71,37 +71,7 @@ pub fn next_held(held: &SparseList<bool>, from: usize) -> usize
         if held.get(number) {
             return number;
         }
-        number = unheld_until(held, number);
+        number = held.same_until(number);
     }
     number
-}
-
-/// A number past this one, which isn't held; none is up to it.
-fn unheld_until(held: &SparseList<bool>, number: usize) -> usize
-    requires there { number < length held.now }
-    requires unheld { get_or held.now number false ≡ false }
-    ensures past { number < result }
-    ensures within { result ≤ length held.now }
-    ensures none { (c : ℕ) → number ≤ c → c < result → get_or held.now c false ≡ false }
-{
-    let until = held.same_until(number);
-    if until > number + 1 {
-        return until;
-    }
-    let most = held.len() - number;
-    let run = count_unheld(held.rest_of_block(number));
-    until.max(number + run.min(most))
-}
-
-/// How many items there are in front of the first one that is held.
-fn count_unheld(items: &[bool]) -> usize
-    ensures within { result ≤ length items.now }
-    ensures none { (j : ℕ) → j < result → get_or items.now j false ≡ false }
-{
-    for place in 0..items.len() {
-        if items[place] {
-            return place;
-        }
-    }
-    items.len()
 }

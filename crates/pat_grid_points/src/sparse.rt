@@ -1,8 +1,8 @@
 // Lists most of whose items are the same.
-ghost use Rattle.std.specs.Prelude.{◌≡◌, ◌<◌, ◌≤◌, ◌+◌, ◌/◌, ℕ, length, get_or, set, replicate, IfOk, OnOk, OnErr, IfSome, IfNone};
+ghost use Rattle.std.specs.Prelude.{◌≡◌, ◌<◌, ◌≤◌, ◌+◌, ◌/◌, true, ℕ, length, get_or, set, replicate, IfOk, OnOk, OnErr, IfSome, IfNone};
 ghost use Rattle.pat_grid_points.specs.Sparse.{sparse, AreBlocks};
 
-use crate::blocks::{BLOCK, BlockList, ROOM, copies, repeat_first};
+use crate::blocks::{BLOCK, BlockList, ROOM, copies, repeat_first, run_of};
 use pat_sequences::Sequence;
 use std::alloc::{AllocError, Global};
 use std::marker::Model;
@@ -30,7 +30,7 @@ impl<T> Model for SparseList<T> {
     ghost invariant = { λ s. AreBlocks s.count s.common s.starts s.blocks };
 }
 
-impl<T: Copy + Drop> SparseList<T> {
+impl<T: Copy + Drop + PartialEq> SparseList<T> {
     /// The list that has so many times the item.
     pub fn repeat(alloc: Global, common: T, count: usize) -> Result<SparseList<T>, AllocError>
         ensures { IfOk result (λ list. list ≡ replicate count common) }
@@ -57,18 +57,6 @@ impl<T: Copy + Drop> SparseList<T> {
         self.blocks.as_slice()[start * BLOCK + place % BLOCK]
     }
 
-    /// The items from the place on to the end of its block. The last block may reach past the end of the list.
-    pub fn rest_of_block(&self, place: usize) -> &[T]
-        requires { place < length self.now }
-        ensures some { 0 < length result.now }
-        ensures few { length result.now ≤ 16 }
-        ensures same { (j : ℕ) (d : T) → j < length result.now → place + j < length self.now → get_or self.now (place + j) d ≡ get_or result.now j d }
-    {
-        let blocks = self.blocks.as_slice();
-        let start = self.starts.get(place / BLOCK) * BLOCK;
-        &blocks[start + place % BLOCK..start + BLOCK]
-    }
-
     /// Puts an item at the place. An error leaves the list as it was.
     pub fn set(&mut self, place: usize, item: T) -> Result<(), AllocError>
         requires { place < length self.old }
@@ -84,14 +72,17 @@ impl<T: Copy + Drop> SparseList<T> {
 
     /// A place past this one; up to it all items are the same as here.
     pub fn same_until(&self, place: usize) -> usize
-        requires { place < length self.now }
+        requires exact { (x y : T) → T.eq x y ≡ true → x ≡ y }
+        requires there { place < length self.now }
         ensures past { place < result }
         ensures within { result ≤ length self.now }
         ensures same { (i : ℕ) (d : T) → place ≤ i → i < result → get_or self.now i d ≡ get_or self.now place d }
     {
         let block = place / BLOCK;
-        if self.starts.get(block) != 0 {
-            return place + 1;
+        let start = self.starts.get(block);
+        if start != 0 {
+            let run = run_of(self.blocks.as_slice(), start * BLOCK + place % BLOCK);
+            return place + run.min(self.count - place);
         }
         match next_begun(&self.starts, block) {
             Some(next) => next * BLOCK,
@@ -156,37 +147,7 @@ fn next_begun(starts: &BlockList<usize>, block: usize) -> Option<usize>
         if starts.get(next) != 0 {
             return Some(next);
         }
-        next = zero_until(starts, next);
+        next = starts.same_until(next);
     }
     None
-}
-
-/// A block past this one, which has no items of its own; none up to it has.
-fn zero_until(starts: &BlockList<usize>, block: usize) -> usize
-    requires there { block < length starts.now }
-    requires zero { get_or starts.now block 0 ≡ 0 }
-    ensures past { block < result }
-    ensures within { result ≤ length starts.now }
-    ensures zeros { (a : ℕ) → block ≤ a → a < result → get_or starts.now a 0 ≡ 0 }
-{
-    let until = starts.same_until(block);
-    if until > block + 1 {
-        return until;
-    }
-    let most = starts.len() - block;
-    let run = count_zeros(starts.rest_of_block(block));
-    until.max(block + run.min(most))
-}
-
-/// How many items there are in front of the first one that isn't zero.
-fn count_zeros(items: &[usize]) -> usize
-    ensures within { result ≤ length items.now }
-    ensures zeros { (j : ℕ) → j < result → get_or items.now j 0 ≡ 0 }
-{
-    for place in 0..items.len() {
-        if items[place] != 0 {
-            return place;
-        }
-    }
-    items.len()
 }

@@ -23,20 +23,6 @@ same_entries b entries s number place until to board is same within c l m =
     subst (λ p. get_or entries (s * p + c) u ≡ get_or entries (s * p + number) u) board.points
     (same (s * b.points + c) u (omega arith) (omega arith) ∙ ap (λ p. get_or entries p u) is)
 
--- where a run of the same items begins, the row has the same entries
-pub run_entries : (b : Board) (entries items : List ℕ) (s number place run at : ℕ) → IsBoard b → place ≡ s * b.points + number → ((j d : ℕ) → j < length items → place + j < length entries → get_or entries (place + j) d ≡ get_or items j d) → ((j d : ℕ) → j < run → get_or items j d ≡ get_or items 0 d) → run ≤ length items → number ≤ at → at < number + run → s * b.points + at < length entries → entry_at (setting_of b) entries s at ≡ entry_at (setting_of b) entries s number
-run_entries b entries items s number place run at board is rest same long from below within =
-    let u = unknown b.limit in
-    let j = at - number in
-    let there : s * b.points + at ≡ place + j = omega arith in
-    let here : place + 0 ≡ s * b.points + number = omega arith in
-    subst (λ p. get_or entries (s * p + at) u ≡ get_or entries (s * p + number) u) board.points
-    (ap (λ p. get_or entries p u) there
-    ∙ rest j u (omega arith) (omega arith)
-    ∙ same j u (omega arith)
-    ∙ sym (rest 0 u (omega arith) (omega arith))
-    ∙ ap (λ p. get_or entries p u) here)
-
 -- where the entries are as the one that knows of no tree, none of them knows of one
 pub none_known : (g : Setting) (entries : List ℕ) (s from number to e : ℕ) → e ≡ entry_at g entries s number → g.limit + 1 < e → ((c : ℕ) → from ≤ c → c < number → IsKnown g.limit (entry_at g entries s c) → ⊥) → ((c : ℕ) → number ≤ c → c < to → entry_at g entries s c ≡ entry_at g entries s number) → (c : ℕ) → from ≤ c → c < to → IsKnown g.limit (entry_at g entries s c) → ⊥
 none_known g entries s from number to e is large before same c l m known =

@@ -7,7 +7,7 @@ ghost use Rattle.pat_grid_tables.specs.Moves.{entry_at, IsPlace, Moved};
 
 use crate::board::Board;
 use crate::sizes::{Sizes, note_if};
-use pat_grid_points::{SparseList, count_same};
+use pat_grid_points::SparseList;
 use std::alloc::AllocError;
 
 /// The entry of the symbol at the point with the number; that of no tree where there is no such symbol.
@@ -70,11 +70,7 @@ fn unknown_until(board: &Board, entries: &SparseList<u16>, s: usize, number: usi
         return number + 1;
     }
     let place = place_of(board, entries, s, number);
-    let jump = entries.same_until(place) - place;
-    if jump > 1 {
-        return (number + jump).min(board.points);
-    }
-    let run = count_same(entries.rest_of_block(place));
+    let run = entries.same_until(place) - place;
     (number + run).min(board.points)
 }
 

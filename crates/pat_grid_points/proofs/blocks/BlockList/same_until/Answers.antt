@@ -1,26 +1,18 @@
 use Rattle.std.proofs.Common.{◌*◌, ◌/◌, ◌<◌, sym, ap, ◌∙◌, subst, length, get_or, arith}
-use Rattle.pat_grid_points.proofs.InBlocks.{list_count, list_block, list_same}
+use Rattle.pat_grid_points.proofs.InBlocks.{list_count, list_block, list_run, list_same}
 use Rattle.pat_grid_points.proofs.blocks.BlockList.same_until.Goals as goal
 
 pub bounds-starts-block : goal.bounds-starts-block
 bounds-starts-block g c =
     let s = c.self.inside in
     subst (λ xs. c.args.place / 16 < length xs) (sym c.as_slice-starts.ensures)
-    (list_block s.count s.common s.starts s.blocks c.args.self.now c.self.invariant c.self.view_is c.args.place c.requires)
-
-pub overflow_add-result : goal.overflow_add-result
-overflow_add-result g c =
-    let s = c.self.inside in
-    let n = list_count s.count s.common s.starts s.blocks c.args.self.now c.self.invariant c.self.view_is in
-    let l = c.requires in
-    let r = c.self.invariant.fits in
-    omega arith
+    (list_block s.count s.common s.starts s.blocks c.args.self.now c.self.invariant c.self.view_is c.args.place c.requires.there)
 
 pub next_begun-requires : goal.next_begun-requires
 next_begun-requires g c =
     let s = c.self.inside in
     subst (λ xs. c.args.place / 16 < length xs) (sym c.as_slice-starts.ensures)
-    (list_block s.count s.common s.starts s.blocks c.args.self.now c.self.invariant c.self.view_is c.args.place c.requires)
+    (list_block s.count s.common s.starts s.blocks c.args.self.now c.self.invariant c.self.view_is c.args.place c.requires.there)
 
 pub overflow_mul-result : goal.overflow_mul-result
 overflow_mul-result g c =
@@ -46,7 +38,7 @@ returns-in-Some-clause-same g c = λ i d.
     let k = ap length c.as_slice-starts.ensures in
     let b = (c.in-Some.ensures.some).1 in
     list_same s.count s.common s.starts s.blocks c.args.self.now c.self.invariant c.self.view_is c.args.place (c.in-Some.next * 16) d
-    (ap (λ xs. get_or xs (c.args.place / 16) 0) (sym c.as_slice-starts.ensures) ∙ c.if-starts-block-ne0.false)
+    (ap (λ xs. get_or xs (c.args.place / 16) 0) (sym c.as_slice-starts.ensures) ∙ c.if-start-ne0.false)
     (λ a l r. ap (λ xs. get_or xs a 0) (sym c.as_slice-starts.ensures) ∙ c.in-Some.ensures.some.2 a l (omega arith))
     (omega arith) i
 
@@ -54,7 +46,7 @@ pub returns-in-None-clause-past : goal.returns-in-None-clause-past
 returns-in-None-clause-past g c =
     let s = c.self.inside in
     let n = list_count s.count s.common s.starts s.blocks c.args.self.now c.self.invariant c.self.view_is in
-    let l = c.requires in
+    let l = c.requires.there in
     omega arith
 
 pub returns-in-None-clause-within : goal.returns-in-None-clause-within
@@ -67,6 +59,38 @@ pub returns-in-None-clause-same : goal.returns-in-None-clause-same
 returns-in-None-clause-same g c = λ i d.
     let s = c.self.inside in
     list_same s.count s.common s.starts s.blocks c.args.self.now c.self.invariant c.self.view_is c.args.place s.count d
-    (ap (λ xs. get_or xs (c.args.place / 16) 0) (sym c.as_slice-starts.ensures) ∙ c.if-starts-block-ne0.false)
+    (ap (λ xs. get_or xs (c.args.place / 16) 0) (sym c.as_slice-starts.ensures) ∙ c.if-start-ne0.false)
     (λ a l r. ap (λ xs. get_or xs a 0) (sym c.as_slice-starts.ensures) ∙ c.in-None.ensures.none a l)
     (omega arith) i
+
+pub overflow_sub-self-inside : goal.overflow_sub-self-inside
+overflow_sub-self-inside g c =
+    let s = c.self.inside in
+    let n = list_count s.count s.common s.starts s.blocks c.args.self.now c.self.invariant c.self.view_is in
+    let l = c.requires.there in
+    omega arith
+
+pub returns-then-start-ne0-clause-past : goal.returns-then-start-ne0-clause-past
+returns-then-start-ne0-clause-past g c =
+    let s = c.self.inside in
+    let n = list_count s.count s.common s.starts s.blocks c.args.self.now c.self.invariant c.self.view_is in
+    let l = c.requires.there in
+    let some = c.run_of-run.ensures.some in
+    let least = c.min.ensures in
+    omega arith
+
+pub returns-then-start-ne0-clause-within : goal.returns-then-start-ne0-clause-within
+returns-then-start-ne0-clause-within g c =
+    let s = c.self.inside in
+    let n = list_count s.count s.common s.starts s.blocks c.args.self.now c.self.invariant c.self.view_is in
+    let l = c.requires.there in
+    let least = c.min.ensures in
+    omega arith
+
+pub returns-then-start-ne0-clause-same : goal.returns-then-start-ne0-clause-same
+returns-then-start-ne0-clause-same g c = λ i d from below.
+    let s = c.self.inside in
+    let n = list_count s.count s.common s.starts s.blocks c.args.self.now c.self.invariant c.self.view_is in
+    let l = c.requires.there in
+    let least = c.min.ensures in
+    list_run s.count s.common s.starts s.blocks c.args.self.now c.self.invariant c.self.view_is c.args.place c.run_of-run.result _ _ (ap (λ xs. get_or xs (c.args.place / 16) 0) (sym c.as_slice-starts.ensures)) c.as_slice.ensures c.run_of-run.ensures.within c.run_of-run.ensures.same i d from (omega arith) (omega arith)
