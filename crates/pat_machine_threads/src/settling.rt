@@ -1,16 +1,20 @@
 // Local steps of a kept thread, on a copy of its top.
-ghost use Rattle.std.specs.Prelude.{◌≡◌, ◌<◌, ◌≤◌, ◌⊎◌, [], length, IfOk, OnOk, IsTrue, IsFalse};
-ghost use Rattle.pat_model.specs.Steps.{resume};
+ghost use Rattle.std.specs.Prelude.{◌≡◌, ◌<◌, ◌≤◌, ◌⊎◌, [], length, Some, IfOk, IfSome, OnOk, IsTrue, IsFalse};
+ghost use Rattle.pat_model.specs.Configs.{Running};
+ghost use Rattle.pat_model.specs.Programs.{keep};
+ghost use Rattle.pat_model.specs.Values.{Value as ValueOf};
+ghost use Rattle.pat_model.specs.Steps.{at_node, bind_name, local_step, resume, thread_of};
 ghost use Rattle.pat_reduce_threads.specs.Views.{program_view};
 ghost use Rattle.pat_reduce_threads.specs.ThreadViews.{frame_view, thread_view};
-ghost use Rattle.pat_reduce_values.specs.ValueViews.{value_view};
-ghost use Rattle.pat_commits.specs.Tops.{below};
+ghost use Rattle.pat_reduce_values.specs.ValueViews.{env_view, value_view};
+ghost use Rattle.pat_commits.specs.Tops.{below, top_of};
 ghost use Rattle.pat_machine_threads.specs.Settling.{IsBegun, IsRunOnTop, RunsOn, Uncovers};
 
 use crate::copies::{copy_frame, copy_top};
 use crate::run::run_locally;
 use crate::tops::{frame_below, has_at_most};
-use pat_reduce::{Control, Frame, ThreadState, Value};
+use pat_reduce::{Control, Frame, StepError, ThreadState, Value};
+use pat_reduce_threads::{Core, core_of, enter};
 use pat_reduce_values::{Executable, bound, keep_free};
 use pat_sequences::Stack;
 use std::alloc::{AllocError, Global};
@@ -80,8 +84,8 @@ fn uncover(alloc: Global, kept: &ThreadState, settled: &mut Settled) -> Result<(
     Ok(())
 }
 
-// A copy of the kept control, and no step; or the first step, where a frame waits for the value that is there, since then the value
-// isn't copied as a control.
+// A copy of the kept control, and no step; or first steps that are taken without a copy of the control: a frame goes on with the value
+// that is there, and a call enters its function.
 fn begin(
     alloc: Global,
     code: &Executable,
@@ -91,16 +95,86 @@ fn begin(
     ensures { IfOk result (IsBegun (program_view code.now.program) allowance (thread_view kept.now)) }
 {
     match (&kept.control, kept.frames.top()) {
+        (Control::Returned(_), Some(frame)) if allowance > 1 && leads_to_call(code, frame) => {
+            match called(alloc, code, frame.body, frame.env.as_slice())? {
+                Some(end) => Ok(Settled {
+                    end,
+                    gone: 1,
+                    steps: 2,
+                }),
+                None => unmoved(alloc, kept),
+            }
+        }
         (Control::Returned(value), Some(frame)) if allowance > 0 => Ok(Settled {
             end: resumed(alloc, code, value, frame)?,
             gone: 1,
             steps: 1,
         }),
-        _ => Ok(Settled {
-            end: copy_top(alloc, kept, 0)?,
-            gone: 0,
-            steps: 0,
-        }),
+        (Control::Node { node, env }, _) if allowance > 0 => {
+            match called(alloc, code, *node, env.as_slice())? {
+                Some(end) => Ok(Settled {
+                    end,
+                    gone: 0,
+                    steps: 1,
+                }),
+                None => unmoved(alloc, kept),
+            }
+        }
+        _ => unmoved(alloc, kept),
+    }
+}
+
+// A copy of the kept control, and no step.
+fn unmoved(alloc: Global, kept: &ThreadState) -> Result<Settled, AllocError>
+    ensures { IfOk result (λ s. (s.gone ≡ 0) × (s.steps ≡ 0) × (thread_view s.end ≡ top_of 0 (thread_view kept.now))) }
+{
+    Ok(Settled {
+        end: copy_top(alloc, kept, 0)?,
+        gone: 0,
+        steps: 0,
+    })
+}
+
+// Whether the frame goes on at a call with the values that it has, none of them left out, and with no name for the one that it waits for.
+fn leads_to_call(code: &Executable, frame: &Frame) -> bool
+    ensures { IsTrue result → (v : ValueOf) → at_node (program_view code.now.program) frame.now.body (bind_name (frame_view frame.now).env (frame_view frame.now).var v) ≡ Running frame.now.body (env_view frame.now.env) }
+{
+    frame.var.is_none()
+        && matches!(core_of(code, frame.body), Some(Core::Call { .. }))
+        && are_free(code, frame.body, frame.env.as_slice())
+}
+
+// Whether each of these values is one of a free variable of the node.
+fn are_free(code: &Executable, node: u32, env: &[(u32, Value)]) -> bool
+    ensures { IsTrue result → keep (program_view code.now.program) node (env_view env.now) ≡ env_view env.now }
+{
+    for entry in env {
+        if !code.is_free(entry.0, node) {
+            return false;
+        }
+    }
+    true
+}
+
+// The thread after the call at a node, with no frame below, if a call stands there that can be taken.
+fn called(
+    alloc: Global,
+    code: &Executable,
+    node: u32,
+    env: &[(u32, Value)],
+) -> Result<Option<ThreadState>, AllocError>
+    ensures { IfOk result (λ o. IfSome o (λ s. local_step (program_view code.now.program) (thread_of (Running node (env_view env.now)) []) ≡ Some (thread_view s))) }
+{
+    let Some(Core::Call { function, args }) = core_of(code, node) else {
+        return Ok(None);
+    };
+    match enter(alloc, code, *function, args.as_slice(), env) {
+        Ok(control) => Ok(Some(ThreadState {
+            control,
+            frames: Stack::new(alloc),
+        })),
+        Err(StepError::Disabled) => Ok(None),
+        Err(StepError::NoMemory) => Err(AllocError),
     }
 }
 

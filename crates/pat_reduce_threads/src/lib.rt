@@ -14,4 +14,4 @@ pub use pat_core::Core;
 pub use references::{message_refers, thread_refers};
 pub use sending::{makes_mailbox, next_message, next_thread};
 pub use state::{Control, Frame, Message, ThreadState};
-pub use threads::{is_over, next_line};
+pub use threads::{enter, is_over, next_line};

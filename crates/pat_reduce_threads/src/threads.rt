@@ -97,8 +97,9 @@ fn waiting(
     Ok(Frame { var, body, env })
 }
 
-// The control that a call goes on with.
-fn enter(
+/// The control that a call goes on with.
+#[inline(always)]
+pub fn enter(
     alloc: Global,
     code: &Executable,
     function: u32,
@@ -114,6 +115,7 @@ fn enter(
 }
 
 // The node with its part of the values of the arguments.
+#[inline(always)]
 fn node_with_parameters(
     alloc: Global,
     code: &Executable,
