@@ -9,6 +9,6 @@ mod replacing;
 mod searching;
 
 pub use derivatives::derivative;
-pub use replacement::Replacement;
+pub use replacement::{Replacement, value_among};
 pub use replacing::replaced;
 pub use searching::find_variable;

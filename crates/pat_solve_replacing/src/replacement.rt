@@ -1,7 +1,7 @@
 // What variables give way to.
-ghost use Rattle.std.specs.Prelude.{◌≡◌, length};
-ghost use Rattle.pat_solving.specs.Assignments.{value_in};
-ghost use Rattle.pat_solve_sizes.specs.Views.{part_view as part_view_of, measured_list};
+ghost use Rattle.std.specs.Prelude.{◌≡◌, nat_eq, length, option_map};
+ghost use Rattle.std.specs.Map.{lookup};
+ghost use Rattle.pat_solve_sizes.specs.Views.{measured_view, measured_list};
 ghost use Rattle.pat_solve_replacing.specs.Ascending.{IsAscending, paired};
 
 use crate::searching::find_variable;
@@ -14,6 +14,8 @@ pub enum Replacement<'a> {
     One(u32, &'a Measured),
     /// Variables in ascending order to the values at the same places; all others to 0.
     All(&'a [u32], &'a [Measured]),
+    /// The same, but all others stay.
+    Listed(&'a [u32], &'a [Measured]),
 }
 
 impl<'a> Replacement<'a> {
@@ -33,19 +35,34 @@ impl<'a> Replacement<'a> {
                     Part::Made(Measured::variable(variable))
                 }
             }
-            Replacement::All(variables, values) => value_among(variables, values, variable),
+            Replacement::All(variables, values) => {
+                match value_among(variables, values, variable) {
+                    Some(value) => Part::Held(value),
+                    None => Part::Made(Measured::zero()),
+                }
+            }
+            Replacement::Listed(variables, values) => {
+                match value_among(variables, values, variable) {
+                    Some(value) => Part::Held(value),
+                    None => Part::Made(Measured::variable(variable)),
+                }
+            }
         }
     }
 }
 
-/// The value at the place of the variable; 0 where it has none.
-fn value_among<'a>(variables: &'a [u32], values: &'a [Measured], variable: u32) -> Part<'a>
+/// The value at the place of the variable, if it has one.
+pub fn value_among<'a>(
+    variables: &'a [u32],
+    values: &'a [Measured],
+    variable: u32,
+) -> Option<&'a Measured>
     requires ascending { IsAscending variables.now }
     requires as_many { length variables.now ≡ length values.now }
-    ensures { part_view_of result ≡ value_in (paired variables.now (measured_list values.now)) variable }
+    ensures { option_map (λ v. measured_view v.now) result ≡ lookup (nat_eq variable) (paired variables.now (measured_list values.now)) }
 {
     match find_variable(variables, variable) {
-        Some(place) => Part::Held(&values[place]),
-        None => Part::Made(Measured::zero()),
+        Some(place) => Some(&values[place]),
+        None => None,
     }
 }

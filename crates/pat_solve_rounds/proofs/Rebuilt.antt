@@ -5,9 +5,10 @@ use Rattle.std.specs.List.{AllByRecursion}
 use Rattle.std.proofs.lemmas.Bool.{cond_both, cond-false, or_parts}
 use Rattle.pat_words.specs.Patterns.{Pat, Zero, One, Tag, Sum, Prod, Star, Var, is_zero, is_one, pat_eq, sum_of, prod_of, star_of, subst_of}
 use Rattle.pat_solving.specs.Assignments.{put_one, base_of, slope_of, solved_for, derivative}
-use Rattle.pat_solve_rounds.specs.Rounds.{has_var, IsRebuilt}
+use Rattle.pat_solve_sizes.specs.Variables.{has_var}
+use Rattle.pat_solve_rounds.specs.Rounds.{IsRebuilt}
 
-both : (make : Pat → Pat → Pat) (e f g h : Pat) → e ≡ g → f ≡ h → make e f ≡ make g h
+pub both : (make : Pat → Pat → Pat) (e f g h : Pat) → e ≡ g → f ≡ h → make e f ≡ make g h
 both make e f g h p q = ap (λ x. make x f) p ∙ ap (make g) q
 
 -- a variable that doesn't occur

@@ -7,7 +7,8 @@ use Rattle.pat_words.specs.Patterns.{Pat, Zero}
 use Rattle.pat_inclusions.specs.ClosedForms.{is_small}
 use Rattle.pat_solving.specs.Assignments.{Values, put_one, put_in_turn}
 use Rattle.pat_solve_replacing.specs.Ascending.{paired}
-use Rattle.pat_solve_rounds.specs.Rounds.{has_var, IsRebuilt, turn_fits}
+use Rattle.pat_solve_sizes.specs.Variables.{has_var}
+use Rattle.pat_solve_rounds.specs.Rounds.{IsRebuilt, turn_fits}
 use Rattle.pat_solve_rounds.specs.Results.{Gives}
 use Rattle.pat_solve_rounds.specs.declared.error.RoundError.{RoundError}
 use Rattle.pat_solve_rounds.specs.declared.error.RoundError.TheVariants.{TooLarge, NoMemory}

@@ -1,23 +1,10 @@
 -- The rounds of elimination, along lists of variables with their lower bounds or values, and whether all that is made on the way
 -- is within the limits.
-use Rattle.std.specs.Prelude.{◌≡◌, ℕ, Bool, true, false, ◌&&◌, ◌||◌, nat_eq, List, [], ◌∷◌, ◌++◌}
+use Rattle.std.specs.Prelude.{◌≡◌, ℕ, Bool, true, ◌&&◌, [], ◌∷◌, ◌++◌}
 use Rattle.std.specs.List.{list_all}
-use Rattle.pat_words.specs.Patterns.{Pat, Sum, Prod, Star, Var, subst_of}
+use Rattle.pat_words.specs.Patterns.{Pat, Var, subst_of}
 use Rattle.pat_inclusions.specs.ClosedForms.{is_small}
 use Rattle.pat_solving.specs.Assignments.{Values, put_in_turn, made_in_turn, base_of, derivative, slope_of, solved_for, second_round}
-
--- the variable occurs in the pattern
-abbrev pub has_var : ℕ → Pat → Bool
-has_var k (Var j) = nat_eq j k
-has_var k (Sum e f) = has_var k e || has_var k f
-has_var k (Prod e f) = has_var k e || has_var k f
-has_var k (Star e) = has_var k e
-has_var k _ = false
-
--- in one of the patterns
-abbrev pub any_has : ℕ → List Pat → Bool
-any_has k [] = false
-any_has k (e ∷ es) = has_var k e || any_has k es
 
 -- the pattern is as the simplifying forms make it
 abbrev pub IsRebuilt : Pat → Type 0

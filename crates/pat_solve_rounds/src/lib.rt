@@ -3,6 +3,7 @@
 #![tactic(auto)]
 
 mod error;
+mod growing;
 mod occurring;
 mod replacing;
 mod turns;

@@ -4,7 +4,7 @@ ghost use Rattle.pat_patterns.specs.Views.{pattern_view};
 ghost use Rattle.pat_postfix.specs.Postfix.{nodes};
 ghost use Rattle.pat_postfix.specs.Views.{pointed};
 ghost use Rattle.pat_solve_replacing.specs.Ascending.{IsAscending};
-ghost use Rattle.pat_solve_rounds.specs.Rounds.{has_var, any_has};
+ghost use Rattle.pat_solve_sizes.specs.Variables.{has_var, any_has};
 
 use pat_patterns::Pattern;
 use pat_sequences::Stack;

@@ -35,7 +35,7 @@ fn derived(alloc: Global, f: &Measured, variable: u32) -> Result<Measured, Round
 }
 
 /// A part as a pattern of its own, unless it is too large.
-fn kept(part: Option<Part>) -> Result<Measured, RoundError>
+pub fn kept(part: Option<Part>) -> Result<Measured, RoundError>
     ensures { (e : Pat) → limited_view part.entry ≡ within e → Gives result (is_small e) e }
 {
     match part {

@@ -6,17 +6,21 @@ ghost use Rattle.pat_inclusions.specs.ClosedForms.{is_small};
 ghost use Rattle.pat_solving.specs.Assignments.{put_one as put_one_of, put_in_turn};
 ghost use Rattle.pat_solve_sizes.specs.Views.{measured_view, measured_list};
 ghost use Rattle.pat_solve_replacing.specs.Ascending.{IsAscending, paired};
-ghost use Rattle.pat_solve_rounds.specs.Rounds.{IsRebuilt, has_var, turn_fits};
+ghost use Rattle.pat_solve_sizes.specs.Variables.{has_var};
+ghost use Rattle.pat_solve_rounds.specs.Rounds.{IsRebuilt, turn_fits};
+ghost use Rattle.pat_solve_rounds.specs.Growing.{MayGrow};
 ghost use Rattle.pat_solve_rounds.specs.Results.{Gives};
 
 use crate::error::RoundError;
+use crate::growing::{has_none, may_grow};
 use crate::occurring::next_place;
-use crate::replacing::put_one;
+use crate::replacing::{kept, put_one};
+use pat_solve_replacing::{Replacement, replaced};
 use pat_solve_sizes::Measured;
 use std::alloc::Global;
 
 /// The pattern in which ascending variables are replaced by their values, one after another: a value may have variables that are
-/// replaced after it. Where a variable doesn't occur, it is passed over.
+/// replaced after it. Where that is the same, they are replaced all at once.
 pub fn in_turn(
     alloc: Global,
     variables: &[u32],
@@ -28,11 +32,14 @@ pub fn in_turn(
     requires rebuilt { AllByRecursion IsRebuilt (measured_list values.now) }
     ensures { let vs = paired variables.now (measured_list values.now) in Gives result (turn_fits vs (measured_view f.now)) (put_in_turn vs (measured_view f.now)) }
 {
+    if may_grow(alloc, variables, values, f)? {
+        return at_once(alloc, variables, values, f);
+    }
     let copy = f.copy()?;
-    turns_from(alloc, variables, values, 0, copy)
+    turns(alloc, variables, values, copy)
 }
 
-/// So in a pattern that is as the simplifying forms make it: there a variable that doesn't occur is passed over from the first on.
+/// So in a pattern that is as the simplifying forms make it: where none of the variables occurs, it stays.
 pub fn in_turn_rebuilt(
     alloc: Global,
     variables: &[u32],
@@ -45,29 +52,43 @@ pub fn in_turn_rebuilt(
     requires own { IsRebuilt (measured_view f.now) }
     ensures { let vs = paired variables.now (measured_list values.now) in Gives result (turn_fits vs (measured_view f.now)) (put_in_turn vs (measured_view f.now)) }
 {
-    let copy = f.copy()?;
-    let start = next_place(alloc, &copy.pattern, variables, 0)?;
-    turns_from(alloc, variables, values, start, copy)
+    if has_none(f, variables) {
+        return Ok(f.copy()?);
+    }
+    in_turn(alloc, variables, values, f)
 }
 
-/// So in a pattern of one's own, where the variables before the place may be passed over.
-fn turns_from(
+/// The pattern in which the variables are replaced all at once, where they may be.
+fn at_once(
     alloc: Global,
     variables: &[u32],
     values: &[Measured],
-    start: usize,
+    f: &Measured,
+) -> Result<Measured, RoundError>
+    requires ascending { IsAscending variables.now }
+    requires as_many { length variables.now ≡ length values.now }
+    requires rebuilt { AllByRecursion IsRebuilt (measured_list values.now) }
+    requires may { MayGrow (paired variables.now (measured_list values.now)) (measured_view f.now) }
+    ensures { let vs = paired variables.now (measured_list values.now) in Gives result (turn_fits vs (measured_view f.now)) (put_in_turn vs (measured_view f.now)) }
+{
+    let part = replaced(alloc, &f.pattern, &Replacement::Listed(variables, values))?;
+    kept(part)
+}
+
+/// One after another in a pattern of one's own. Where a variable doesn't occur, it is passed over.
+fn turns(
+    alloc: Global,
+    variables: &[u32],
+    values: &[Measured],
     f: Measured,
 ) -> Result<Measured, RoundError>
     requires ascending { IsAscending variables.now }
     requires as_many { length variables.now ≡ length values.now }
     requires rebuilt { AllByRecursion IsRebuilt (measured_list values.now) }
-    requires within { start ≤ length variables.now }
-    requires own { 0 < start → IsRebuilt (measured_view f) }
-    requires absent { (j : ℕ) → j < start → has_var (get_or variables.now j 0) (measured_view f) ≡ false }
     ensures { let vs = paired variables.now (measured_list values.now) in Gives result (turn_fits vs (measured_view f)) (put_in_turn vs (measured_view f)) }
 {
     let mut made = f;
-    let mut place = start;
+    let mut place = 0;
     while place < variables.len() {
         made = turn(alloc, variables, values, place, &made)?;
         place = next_place(alloc, &made.pattern, variables, place + 1)?;

@@ -1,6 +1,6 @@
 -- The limits go through sums, products and stars: a part that is too large makes the whole too large, unless a product takes it
 -- away.
-use Rattle.std.proofs.Common.{◌≡◌, Bool, true, false, if◌then◌else◌, Some, None, ◌≤◌, ◌⊎◌, ⊎_elim, refl, sym, ◌∙◌, subst, arith}
+use Rattle.std.proofs.Common.{◌≡◌, Bool, true, false, if◌then◌else◌, Some, None, ◌≤◌, ⊎_elim, refl, sym, ◌∙◌, subst, arith}
 use Rattle.std.proofs.lemmas.Bool.{cond_both, and_parts, and_from, leb-true, le-leb, cases_Bool}
 use Rattle.pat_words.specs.Patterns.{Pat, Sum, Prod, Star, is_zero, is_one, pat_eq, sum_of, prod_of, star_of}
 use Rattle.pat_words.specs.Sizes.{size_of, levels_of}
@@ -10,7 +10,7 @@ use Rattle.pat_solve_sizes.specs.Limits.{within, sum_within, prod_within, star_w
 
 -- ---- sizes of small patterns
 
-sizes : (e : Pat) → is_small e ≡ true → (size_of e ≤ 65536) × (levels_of e ≤ 16384)
+pub sizes : (e : Pat) → is_small e ≡ true → (size_of e ≤ 65536) × (levels_of e ≤ 16384)
 sizes e h =
     let p = and_parts _ _ h in
     (leb-true (size_of e) 65536 p.0, leb-true (levels_of e) 16384 p.1)

@@ -1,8 +1,9 @@
 -- Patterns within the limits on nodes and levels, and what is made of them, unless it is too large.
-use Rattle.std.specs.Prelude.{◌≡◌, ℕ, Bool, true, if◌then◌else◌, Option, Some, None}
+use Rattle.std.specs.Prelude.{◌≡◌, ◌<◌, ℕ, Bool, true, false, if◌then◌else◌, Option, Some, None}
 use Rattle.pat_words.specs.Patterns.{Pat, Zero, Sum, is_zero, sum_of, prod_of, star_of}
 use Rattle.pat_words.specs.Sizes.{size_of, levels_of}
 use Rattle.pat_inclusions.specs.ClosedForms.{is_small}
+use Rattle.pat_solve_sizes.specs.Variables.{has_var}
 
 -- the pattern, unless it is too large
 abbrev pub within : Pat → Option Pat
@@ -33,8 +34,9 @@ star_within (Some e) = within (star_of e)
 abbrev pub both_fit : Pat → Pat → Bool
 both_fit e f = is_small (Sum e f)
 
--- these are the numbers of nodes and levels of the pattern, and they are within the limits
-pub record IsMeasured (nodes levels : ℕ) (e : Pat) : Type 0 where
+-- these are the numbers of nodes and levels of the pattern, and they are within the limits; no variable below the least occurs
+pub record IsMeasured (nodes levels least : ℕ) (e : Pat) : Type 0 where
   pub nodes_are : nodes ≡ size_of e
   pub levels_are : levels ≡ levels_of e
   pub small : is_small e ≡ true
+  pub none_below : (k : ℕ) → k < least → has_var k e ≡ false

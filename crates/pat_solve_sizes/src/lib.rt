@@ -5,5 +5,5 @@
 mod measured;
 mod part;
 
-pub use measured::{Measured, measure};
+pub use measured::{MOST_LEVELS, MOST_NODES, Measured, measure};
 pub use part::{Part, product, star, sum};

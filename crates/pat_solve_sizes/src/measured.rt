@@ -14,13 +14,15 @@ pub const MOST_NODES: u32 = 65536;
 /// The most levels that a pattern may have.
 pub const MOST_LEVELS: u32 = 16384;
 
-/// A pattern of at most 65,536 nodes and 16,384 levels, with the numbers of both.
+/// A pattern of at most 65,536 nodes and 16,384 levels, with the numbers of both, and a bound below its variables.
 #[derive(Drop)]
 pub struct Measured {
     pub pattern: Pattern,
     pub nodes: u32,
     pub levels: u32,
-    ghost sizes: { IsMeasured nodes levels (pattern_view pattern) },
+    /// Variables with smaller numbers don't occur.
+    pub least: u32,
+    ghost sizes: { IsMeasured nodes levels least (pattern_view pattern) },
 }
 
 /// The pattern with its sizes; `None` where it is too large.
@@ -37,6 +39,7 @@ pub fn measure(pattern: Pattern) -> Option<Measured>
         pattern,
         nodes,
         levels,
+        least: 0,
     })
 }
 
@@ -49,6 +52,7 @@ impl Measured {
             pattern: Pattern::Zero,
             nodes: 1,
             levels: 1,
+            least: u32::MAX,
         }
     }
 
@@ -60,6 +64,7 @@ impl Measured {
             pattern: Pattern::One,
             nodes: 1,
             levels: 1,
+            least: u32::MAX,
         }
     }
 
@@ -71,6 +76,7 @@ impl Measured {
             pattern: Pattern::Tag(tag),
             nodes: 1,
             levels: 1,
+            least: u32::MAX,
         }
     }
 
@@ -82,6 +88,7 @@ impl Measured {
             pattern: Pattern::Var(number),
             nodes: 1,
             levels: 1,
+            least: number,
         }
     }
 
@@ -94,6 +101,7 @@ impl Measured {
             pattern,
             nodes: self.nodes,
             levels: self.levels,
+            least: self.least,
         })
     }
 }

@@ -107,6 +107,7 @@ fn kept_sum<'a>(
     let Some((nodes, levels)) = both_sizes(left.as_measured(), right.as_measured()) else {
         return Ok(None);
     };
+    let least = left.as_measured().least.min(right.as_measured().least);
     let left = left.into_measured()?;
     let right = right.into_measured()?;
     let pattern = Pattern::Sum(
@@ -117,6 +118,7 @@ fn kept_sum<'a>(
         pattern,
         nodes,
         levels,
+        least,
     })))
 }
 
@@ -176,6 +178,7 @@ fn kept_product<'a>(
     let Some((nodes, levels)) = both_sizes(left.as_measured(), right.as_measured()) else {
         return Ok(None);
     };
+    let least = left.as_measured().least.min(right.as_measured().least);
     let left = left.into_measured()?;
     let right = right.into_measured()?;
     let pattern = Pattern::Prod(
@@ -186,6 +189,7 @@ fn kept_product<'a>(
         pattern,
         nodes,
         levels,
+        least,
     })))
 }
 
@@ -220,10 +224,12 @@ fn kept_star<'a>(alloc: Global, part: Part<'a>) -> Result<Option<Part<'a>>, Allo
     let inner = part.into_measured()?;
     let nodes = inner.nodes + 1;
     let levels = inner.levels + 1;
+    let least = inner.least;
     let pattern = Pattern::Star(Arc::new(alloc, inner.pattern)?);
     Ok(Some(Part::Made(Measured {
         pattern,
         nodes,
         levels,
+        least,
     })))
 }

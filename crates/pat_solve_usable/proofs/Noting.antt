@@ -7,7 +7,7 @@ use Rattle.std.proofs.lemmas.List.{get_or-set_same, get_or-set_other, set_past, 
 use Rattle.pat_words.specs.Patterns.{Pat, Sum, Prod, Star, Var}
 use Rattle.pat_model.specs.Programs.{is_among}
 use Rattle.pat_bounds.specs.Assignments.{Constraint}
-use Rattle.pat_solve_rounds.specs.Rounds.{has_var}
+use Rattle.pat_solve_rounds.specs.Variables.{has_var}
 use Rattle.pat_solve_usable.specs.Users.{noted, Notes, NotesAt, HasUsersBefore}
 
 pub on_ok : {A E : Type 0} (r : Result A E) (P Q : Type 0) → (P → Q) → OnOk r P → OnOk r Q

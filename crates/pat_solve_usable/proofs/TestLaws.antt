@@ -9,7 +9,7 @@ use Rattle.pat_inclusions.specs.Under.{inhabited_under}
 use Rattle.pat_bounds.specs.Trees.{Derivable, derivable}
 use Rattle.pat_bounds.specs.Assignments.{Right, PatternRight, VarRight, Constraint, with_left, with_lefts, lower_of, Meets}
 use Rattle.pat_bounds_laws.proofs.TreeLaws.{lower_derivable, under_derivable, derivable_under, shown_under}
-use Rattle.pat_solve_rounds.specs.Rounds.{has_var}
+use Rattle.pat_solve_rounds.specs.Variables.{has_var}
 
 -- a test that says yes to no fewer of the variables that occur says yes to no fewer patterns
 pub tested_more : (s t : ℕ → Bool) (e : Pat) → ((k : ℕ) → has_var k e ≡ true → s k ≡ true → t k ≡ true) → inhabited_under s e ≡ true → inhabited_under t e ≡ true

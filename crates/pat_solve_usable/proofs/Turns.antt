@@ -11,7 +11,7 @@ use Rattle.pat_inclusions.specs.Under.{inhabited_under}
 use Rattle.pat_bounds.specs.Trees.{derivable}
 use Rattle.pat_bounds.specs.Assignments.{VarRight, Constraint, lower_of}
 use Rattle.pat_bounds_laws.specs.Laws.{UsableLaw}
-use Rattle.pat_solve_rounds.specs.Rounds.{has_var}
+use Rattle.pat_solve_rounds.specs.Variables.{has_var}
 use Rattle.pat_solve_usable.specs.Flags.{flag_of}
 use Rattle.pat_solve_usable.specs.Rights.{RightsBelow}
 use Rattle.pat_solve_usable.specs.Users.{HasUsers}

@@ -3,7 +3,7 @@ use Rattle.std.specs.Prelude.{◌≡◌, ℕ, ◌<◌, List, [], ◌∷◌, ◌+
 use Rattle.pat_words.specs.Patterns.{Pat}
 use Rattle.pat_model.specs.Programs.{is_among}
 use Rattle.pat_bounds.specs.Assignments.{Constraint}
-use Rattle.pat_solve_rounds.specs.Rounds.{has_var}
+use Rattle.pat_solve_rounds.specs.Variables.{has_var}
 
 -- the number is noted for variable k, if there is such a variable
 abbrev pub noted : List (List ℕ) → ℕ → ℕ → List (List ℕ)

@@ -10,4 +10,4 @@ returns-in-Some c =
 
 pub returns-in-None : goal.returns-in-None
 returns-in-None c =
-    rw c.zero.ensures (missing_value c.args.variables.now (measured_list c.args.values.now) c.args.variable c.in-None.ensures.none)
+    missing_value c.args.variables.now (measured_list c.args.values.now) c.args.variable c.in-None.ensures.none

@@ -3,7 +3,7 @@ use Rattle.std.specs.Prelude.{get_or}
 use Rattle.pat_patterns.specs.Views.{pattern_view}
 use Rattle.pat_postfix.specs.Postfix.{nodes}
 use Rattle.pat_postfix.specs.Views.{pointed}
-use Rattle.pat_solve_rounds.specs.Rounds.{has_var, any_has}
+use Rattle.pat_solve_sizes.specs.Variables.{has_var, any_has}
 use Rattle.pat_solve_rounds.proofs.occurring.next_place.Given as goal
 
 abbrev pub invariant-loop-part : goal.invariant-loop-part

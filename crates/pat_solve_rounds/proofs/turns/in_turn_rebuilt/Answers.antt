@@ -1,12 +1,16 @@
-use Rattle.std.proofs.Common.{subst}
-use Rattle.pat_solving.specs.Assignments.{put_in_turn}
-use Rattle.pat_solve_sizes.specs.Views.{measured_list}
-use Rattle.pat_solve_replacing.specs.Ascending.{paired}
-use Rattle.pat_solve_rounds.specs.Rounds.{turn_fits}
-use Rattle.pat_solve_rounds.specs.Results.{Gives}
+use Rattle.std.proofs.Common.{◌≡◌, length, sym, ◌∙◌, arith}
+use Rattle.std.proofs.lemmas.List.{length-map}
+use Rattle.pat_solve_sizes.specs.Views.{measured_view, measured_list}
+use Rattle.pat_solve_rounds.proofs.Turning.{begun_from, ended}
 use Rattle.pat_solve_rounds.proofs.turns.in_turn_rebuilt.Goals as goal
 
-pub returns : goal.returns
-returns c =
-    let vs = paired c.args.variables.now (measured_list c.args.values.now) in
-    subst (λ f. Gives c.turns_from.result (turn_fits vs f) (put_in_turn vs f)) c.in_ok-copy.ensures c.turns_from.ensures
+pub returns-then-has_none : goal.returns-then-has_none
+returns-then-has_none c =
+    let ks = c.args.variables.now in
+    let vs = measured_list c.args.values.now in
+    let f = measured_view c.args.f.now in
+    let as_many : length ks ≡ length vs = c.requires.as_many ∙ sym (length-map c.args.values.now measured_view) in
+    let none = c.has_none.ensures c.if-has_none.true in
+    let stays = begun_from ks vs as_many f (length ks) (omega arith) c.args.f.now.sizes.small (λ _. c.requires.own) none in
+    let e = ended ks vs as_many f (length ks) f stays (omega arith) in
+    (c.in_ok-copy.ensures ∙ e.0, e.1)

@@ -1,6 +1,6 @@
 use Rattle.pat_solve_sizes.specs.Views.{measured_view, measured_list}
 use Rattle.pat_solve_rounds.proofs.Turning.{Turned}
-use Rattle.pat_solve_rounds.proofs.turns.turns_from.Given as goal
+use Rattle.pat_solve_rounds.proofs.turns.turns.Given as goal
 use Rattle.std.proofs.Common.{◌-◌, length}
 
 abbrev pub invariant-loop-place : goal.invariant-loop-place

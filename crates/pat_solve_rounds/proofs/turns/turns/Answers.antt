@@ -3,13 +3,11 @@ use Rattle.std.proofs.lemmas.List.{length-map}
 use Rattle.std.proofs.lemmas.Result.{err_from_is_err_and}
 use Rattle.pat_inclusions.specs.ClosedForms.{is_small}
 use Rattle.pat_solve_sizes.specs.Views.{measured_view, measured_list}
-use Rattle.pat_solve_rounds.proofs.Turning.{begun_from, turned, refused, ended}
-use Rattle.pat_solve_rounds.proofs.turns.turns_from.Goals as goal
+use Rattle.pat_solve_rounds.proofs.Turning.{begun, turned, refused, ended}
+use Rattle.pat_solve_rounds.proofs.turns.turns.Goals as goal
 
 pub loop-place-init : goal.loop-place-init
-loop-place-init c =
-    let as_many : length c.args.variables.now ≡ length (measured_list c.args.values.now) = c.requires.as_many ∙ sym (length-map c.args.values.now measured_view) in
-    begun_from c.args.variables.now (measured_list c.args.values.now) as_many (measured_view c.args.f) c.args.start c.requires.within c.args.f.sizes.small c.requires.own c.requires.absent
+loop-place-init c = begun c.args.variables.now (measured_list c.args.values.now) (measured_view c.args.f)
 
 pub loop-place-preserved : goal.loop-place-preserved
 loop-place-preserved c =
