@@ -1,5 +1,5 @@
 -- What a function that reads some tokens returns, from what the functions that it calls do.
-use Rattle.std.proofs.Common.{◌≡◌, ◌≢◌, ℕ, suc, ◌+◌, Bool, true, nat_lt, List, ◌∷◌, [], Option, Some, None, refl, ap, ◌∙◌, map, ◌++◌, sym}
+use Rattle.std.proofs.Common.{◌≡◌, ◌≢◌, ℕ, suc, ◌+◌, Bool, true, nat_lt, List, ◌∷◌, [], Option, Some, None, refl, ap, ◌∙◌, map, ◌++◌, sym, arith}
 use Rattle.std.proofs.lemmas.List.{map-append}
 use Rattle.pat_lexical.specs.Marks as marks
 use Rattle.pat_lexical.specs.Tokens as tokens
@@ -63,9 +63,10 @@ in_bracket fs o k s i p n c w f old new room e other taken =
     opens o k n _ old room ∙ taken ∙ ap (λ (y : m.Move). after y f new) (opened_other _ (suc o) k s c w other) ∙ ap (λ (j : ℕ). after (m.want_step (m.AtExpr (m.InBracket p n o) ∷ fs) j k s m.nothing c w) f new) e
 
 -- the opening bracket of arguments, and behind it an argument
-pub in_arguments : (h : m.Head) (fs : List m.Frame) (o s i : ℕ) (n : ℕ) (c : Kind) (w : Span) (f : ℕ) (old new : Rest) → nat_lt (o + 0) 255 ≡ true → suc o ≡ i → c ≢ tokens.Mark marks.RoundClose → answer (m.state m.FirstArg (m.AtExpr (m.InArgs h [] o) ∷ fs) (suc o) 0 s) old ≡ after (m.first_step (m.AtExpr (m.InArgs h [] o) ∷ fs) (suc o) 0 s c w) f new → after (m.Opens o 0 (m.state m.FirstArg (m.AtExpr (m.InArgs h [] o) ∷ fs) (suc o) 0 s)) n old ≡ after (m.want_step (m.AtExpr (m.InArgs h [] o) ∷ fs) i 0 s m.nothing c w) f new
-in_arguments h fs o s i n c w f old new room e other taken =
-    opens o 0 n _ old room ∙ taken ∙ ap (λ (y : m.Move). after y f new) (first_other _ (suc o) 0 s c w other) ∙ ap (λ (j : ℕ). after (m.want_step (m.AtExpr (m.InArgs h [] o) ∷ fs) j 0 s m.nothing c w) f new) e
+pub in_arguments : (h : m.Head) (fs : List m.Frame) (o s : ℕ) (args : List TreeExpr) (n : ℕ) (c : Kind) (w : Span) (f : ℕ) (old new : Rest) → nat_lt (o + 0) 255 ≡ true → args ≡ [] → c ≢ tokens.Mark marks.RoundClose → answer (m.state m.FirstArg (m.AtExpr (m.InArgs h [] o) ∷ fs) (suc o) 0 s) old ≡ after (m.first_step (m.AtExpr (m.InArgs h [] o) ∷ fs) (suc o) 0 s c w) f new → after (m.Opens o 0 (m.state m.FirstArg (m.AtExpr (m.InArgs h [] o) ∷ fs) (suc o) 0 s)) n old ≡ after (m.want_step (m.AtExpr (m.InArgs h (map expr_view args) o) ∷ fs) (o + 1) 0 s m.nothing c w) f new
+in_arguments h fs o s args n c w f old new room none other taken =
+    let one : suc o ≡ o + 1 = omega arith in
+    opens o 0 n _ old room ∙ taken ∙ ap (λ (y : m.Move). after y f new) (first_other _ (suc o) 0 s c w other) ∙ ap (λ (j : ℕ). after (m.want_step (m.AtExpr (m.InArgs h [] o) ∷ fs) j 0 s m.nothing c w) f new) one ∙ ap (λ (es : List TreeExpr). after (m.want_step (m.AtExpr (m.InArgs h (map expr_view es) o) ∷ fs) (o + 1) 0 s m.nothing c w) f new) (sym none)
 
 -- behind an argument, a comma
 pub comma_taken : (h : m.Head) (fs : List m.Frame) (o i s : ℕ) (args more : List TreeExpr) (x : ExpressionRead) (ts : Rest) → x.token.kind ≡ kind.Mark mark.Comma → more ≡ args ++ x.operand.value ∷ [] → behind_expression (m.AtExpr (m.InArgs h (map expr_view args) o) ∷ fs) i s x ts ≡ answer (m.state (m.Want m.nothing) (m.AtExpr (m.InArgs h (map expr_view more) o) ∷ fs) i 0 s) ts

@@ -1,14 +1,13 @@
 // The arguments of a call or a send.
 ghost use Rattle.std.specs.Prelude.{◌≡◌, ◌∷◌, [], ◌≤◌, ℕ, suc, List, length, map};
 ghost use Rattle.pat_grammar.specs.Machine as m;
-ghost use Rattle.pat_syntax.specs.Views.{kind_view};
-ghost use Rattle.pat_tree.specs.Views.{span_view, expr_view};
+ghost use Rattle.pat_tree.specs.Views.{expr_view};
 ghost use Rattle.pat_parser_tokens.specs.Answers.{Parses, answer, after};
 
 use crate::expressions::expression;
 use pat_parser_tokens::{ParseError, Tokens, has_room, is_mark};
 use pat_sequences::Sequence;
-use pat_syntax::{Mark, Token, TokenKind};
+use pat_syntax::{Mark, TokenKind};
 use pat_tree::TreeExpr;
 use std::alloc::Global;
 
@@ -17,34 +16,6 @@ use std::alloc::Global;
 pub struct ArgumentsRead {
     pub args: Sequence<TreeExpr>,
     pub to: u32,
-}
-
-/// One or more arguments up to the closing bracket, from their first token.
-fn some_arguments(
-    alloc: Global,
-    tokens: &mut Tokens,
-    inside: u16,
-    first: Token,
-) -> Result<ArgumentsRead, ParseError>
-    ensures reads { (h : m.Head) (fs : List m.Frame) (o s : ℕ) → Parses result (after (m.want_step (m.AtExpr (m.InArgs h [] o) ∷ fs) inside 0 s m.nothing (kind_view first.kind) (span_view first.span)) first.span.from tokens.old) (λ x. answer (m.state (m.Done (m.made h (map expr_view x.args) x.to) (m.head_from h)) fs o 0 s) tokens.new) }
-    ensures no_more { length tokens.new.0 ≤ length tokens.old.0 }
-{
-    let mut args = Sequence::new(alloc);
-    let mut next = first;
-    loop {
-        let read = expression(alloc, tokens, inside, 0, next.kind, next.span)?;
-        args.push(read.operand.value)?;
-        let span = read.token.span;
-        match read.token.kind {
-            TokenKind::Mark(Mark::Comma) => {}
-            TokenKind::Mark(Mark::RoundClose) => {
-                let to = span.to;
-                return Ok(ArgumentsRead { args, to });
-            }
-            _ => return Err(ParseError::Unexpected(span.from)),
-        }
-        next = tokens.next()?;
-    }
 }
 
 /// The arguments of a call or a send, from behind the opening bracket, which stands at `at`, to behind the closing one.
@@ -60,11 +31,23 @@ pub fn arguments(
     if !has_room(opened, 0) {
         return Err(ParseError::TooDeep(at));
     }
-    let first = tokens.next()?;
-    if is_mark(&first.kind, Mark::RoundClose) {
-        let args = Sequence::new(alloc);
-        let to = first.span.to;
+    let mut args = Sequence::new(alloc);
+    let mut next = tokens.next()?;
+    if is_mark(&next.kind, Mark::RoundClose) {
+        let to = next.span.to;
         return Ok(ArgumentsRead { args, to });
     }
-    some_arguments(alloc, tokens, opened + 1, first)
+    loop {
+        let read = expression(alloc, tokens, opened + 1, 0, next.kind, next.span)?;
+        args.push(read.operand.value)?;
+        let span = read.token.span;
+        match read.token.kind {
+            TokenKind::Mark(Mark::Comma) => next = tokens.next()?,
+            TokenKind::Mark(Mark::RoundClose) => {
+                let to = span.to;
+                return Ok(ArgumentsRead { args, to });
+            }
+            _ => return Err(ParseError::Unexpected(span.from)),
+        }
+    }
 }

@@ -6,6 +6,4 @@ mod expressions;
 mod operands;
 mod simple;
 
-pub use expressions::{ExpressionRead, expression};
-pub use operands::Operand;
-pub use simple::{TermRead, ended, simple_term, test};
+pub use simple::{TermRead, simple_term, test};
