@@ -1,15 +1,10 @@
 -- Where nothing but one mark may stand.
-use Rattle.std.proofs.Common.{◌≡◌, ◌≢◌, ℕ, List, refl, ap, ◌∙◌}
+use Rattle.std.proofs.Common.{◌≡◌, ◌≢◌, List, refl}
 use Rattle.pat_lexical.specs.Marks as mark
 use Rattle.pat_lexical.specs.Tokens.{Token as Kind, Mark}
 use Rattle.pat_grammar.specs.Trees as tree
 use Rattle.pat_grammar.specs.Machine as m
-use Rattle.pat_parser_tokens.specs.Answers.{OnlyMark, Rest, answer, after, moved}
-use Rattle.pat_parser_declarations.specs.Steps.{BeginsList}
-
--- another token than the closing bracket begins an item
-pub item_begins : (x more done : m.State) (d : Kind) (w : tree.Span) (n : ℕ) (old new : Rest) → BeginsList x more done → answer x old ≡ after (moved x d w) n new → d ≢ Mark mark.RoundClose → answer x old ≡ after (moved more d w) n new
-item_begins x more done d w n old new b taken other = taken ∙ ap (λ (z : m.Move). after z n new) (b.begins d w other)
+use Rattle.pat_parser_tokens.specs.Answers.{OnlyMark}
 
 interface_other : (fs : List m.Frame) (ds : List tree.Decl) (x : tree.Name) (d : Kind) (w : tree.Span) → d ≢ Mark mark.CurlyOpen → m.interface_named fs 0 ds x d w ≡ m.Refused
 interface_other fs ds x (Mark mark.CurlyOpen) w h = absurd (h refl)

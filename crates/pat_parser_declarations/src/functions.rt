@@ -1,14 +1,17 @@
 // The heads of functions.
-ghost use Rattle.std.specs.Prelude.{◌≡◌, ◌≤◌, ◌∷◌, [], List, map, length, true};
+ghost use Rattle.std.specs.Prelude.{◌≡◌, ◌≤◌, ◌∷◌, [], List, map, length, true, false};
 ghost use Rattle.pat_grammar.specs.Machine as m;
 ghost use Rattle.pat_grammar.specs.Trees as trees;
 ghost use Rattle.pat_syntax.specs.Views.{kind_view};
+ghost use Rattle.pat_lexical.specs.Marks as marks;
+ghost use Rattle.pat_lexical.specs.Tokens as kinds;
 ghost use Rattle.pat_tree.specs.Views.{span_view, name_view, type_view, param_view};
-ghost use Rattle.pat_parser_tokens.specs.Answers.{Parses, answer, after};
+ghost use Rattle.pat_parser_tokens.specs.Answers.{OnlyMark, Parses, answer, after, moved};
+ghost use Rattle.pat_parser_types.specs.Ends.{behind_type};
 ghost use Rattle.pat_parser_declarations.specs.Steps.{behind_param};
 
-use crate::lists::{annotation, first_item, next_item};
-use pat_parser_tokens::{ParseError, Tokens};
+use pat_parser_tokens::{ParseError, Tokens, is_mark};
+use pat_parser_types::{TypeRead, written_type};
 use pat_sequences::Sequence;
 use pat_syntax::{Mark, Token, TokenKind};
 use pat_tree::{Name, Param, TreeType};
@@ -63,13 +66,19 @@ fn params(alloc: Global, tokens: &mut Tokens) -> Result<Sequence<Param>, ParseEr
     ensures no_more { length tokens.new.0 ≤ length tokens.old.0 }
 {
     let mut params = Sequence::new(alloc);
-    let mut next = first_item(tokens)?;
-    while let Some(first) = next {
-        let read = param(alloc, tokens, first)?;
-        params.push(read.param)?;
-        next = next_item(tokens, read.token)?;
+    let mut next = tokens.next()?;
+    if is_mark(&next.kind, Mark::RoundClose) {
+        return Ok(params);
     }
-    Ok(params)
+    loop {
+        let read = param(alloc, tokens, next)?;
+        params.push(read.param)?;
+        match read.token.kind {
+            TokenKind::Mark(Mark::Comma) => next = tokens.next()?,
+            TokenKind::Mark(Mark::RoundClose) => return Ok(params),
+            _ => return Err(ParseError::Unexpected(read.token.span.from)),
+        }
+    }
 }
 
 /// Reads a parameter, whose first token is at hand.
@@ -90,4 +99,14 @@ fn param(alloc: Global, tokens: &mut Tokens, first: Token) -> Result<ParamRead, 
         }
         _ => Err(ParseError::Unexpected(span.from)),
     }
+}
+
+/// Takes a colon, and the type behind it, which isn't a payload's.
+fn annotation(alloc: Global, tokens: &mut Tokens, opened: u16) -> Result<TypeRead, ParseError>
+    ensures read { (x : m.State) → (fs : List m.Frame) → OnlyMark x marks.Colon → ((w : trees.Span) → moved x (kinds.Mark marks.Colon) w ≡ m.Goes (m.state m.WantType fs opened 0 0)) → m.is_payload fs ≡ false → Parses result (answer x tokens.old) (λ a. behind_type fs opened a tokens.new) }
+    ensures no_more { length tokens.new.0 ≤ length tokens.old.0 }
+{
+    tokens.mark(Mark::Colon)?;
+    let first = tokens.next()?;
+    written_type(alloc, tokens, false, opened, first.kind, first.span)
 }

@@ -5,8 +5,7 @@ ghost use Rattle.pat_grammar.specs.Trees as trees;
 ghost use Rattle.pat_tree.specs.Views.{name_view, type_view, message_view, decl_view};
 ghost use Rattle.pat_parser_tokens.specs.Answers.{Parses, answer};
 
-use crate::lists::{first_item, next_item};
-use pat_parser_tokens::{ParseError, Tokens};
+use pat_parser_tokens::{ParseError, Tokens, is_mark};
 use pat_parser_types::written_type;
 use pat_sequences::Sequence;
 use pat_syntax::{Mark, TokenKind};
@@ -58,11 +57,17 @@ fn payloads(alloc: Global, tokens: &mut Tokens) -> Result<Sequence<TreeType>, Pa
     ensures no_more { length tokens.new.0 ≤ length tokens.old.0 }
 {
     let mut payloads = Sequence::new(alloc);
-    let mut next = first_item(tokens)?;
-    while let Some(first) = next {
-        let read = written_type(alloc, tokens, true, 2, first.kind, first.span)?;
-        payloads.push(read.of)?;
-        next = next_item(tokens, read.token)?;
+    let mut next = tokens.next()?;
+    if is_mark(&next.kind, Mark::RoundClose) {
+        return Ok(payloads);
     }
-    Ok(payloads)
+    loop {
+        let read = written_type(alloc, tokens, true, 2, next.kind, next.span)?;
+        payloads.push(read.of)?;
+        match read.token.kind {
+            TokenKind::Mark(Mark::Comma) => next = tokens.next()?,
+            TokenKind::Mark(Mark::RoundClose) => return Ok(payloads),
+            _ => return Err(ParseError::Unexpected(read.token.span.from)),
+        }
+    }
 }

@@ -3,7 +3,6 @@
 
 mod functions;
 mod interfaces;
-mod lists;
 
 pub use functions::{FunctionSignature, signature};
 pub use interfaces::interface;

@@ -1,37 +1,29 @@
-use Rattle.std.proofs.Common.{[], ◌∷◌, map, Option, refl, ap, ◌∙◌, arith}
-use Rattle.std.proofs.lemmas.Result.{err_from_is_err_and}
+use Rattle.std.proofs.Common.{◌≡◌, [], ap, ◌∙◌, refl, arith, rules}
 use Rattle.pat_grammar.specs.Machine as m
-use Rattle.pat_syntax.specs.declared.token.Token.{Token}
-use Rattle.pat_tree.specs.Views.{name_view, type_view, param_view}
-use Rattle.pat_parser_tokens.proofs.Steps.{fails_from_front}
-use Rattle.pat_parser_declarations.specs.Steps.{at_item}
-use Rattle.pat_parser_declarations.proofs.Items.{params_begin, with_params, param_added}
+use Rattle.pat_syntax.specs.declared.mark.Mark.TheVariants as mark
+use Rattle.pat_syntax.specs.declared.token.TokenKind.TheVariants as kind
+use Rattle.pat_syntax.specs.Views.{kind_view}
+use Rattle.pat_tree.specs.Views.{span_view}
+use Rattle.pat_parser_tokens.specs.Answers.{after}
+use Rattle.pat_parser_declarations.proofs.Items.{param_first, with_params, param_taken}
 use Rattle.pat_parser_declarations.proofs.functions.params.Goals as goal
 
-pub returns-in_err-next-clause-read : goal.returns-in_err-next-clause-read
-returns-in_err-next-clause-read c = λ fs ds x.
-    let q = err_from_is_err_and c.from_residual.result c.from_residual.ensures.1 in
-    rw (q.1, q.2) (c.in_err-next.ensures.begun _ _ _ (params_begin fs (with_params ds x [])))
-
-pub returns-in_err-next-2-clause-read : goal.returns-in_err-next-2-clause-read
-returns-in_err-next-2-clause-read c = λ fs ds x.
-    let q = err_from_is_err_and c.from_residual-in_err-next-2.result c.from_residual-in_err-next-2.ensures.1 in
-    let f = with_params ds x (map param_view c.loop-next.params) in
-    let p = c.in_ok-read.read.param in
-    let g = m.with_param f (name_view p.name) (type_view p.of) in
-    let item = ap (λ (o : Option Token). at_item (m.state (m.WantName (m.ParamName f)) fs 1 0 0) (m.state (m.AfterParams f) fs 0 0 0) o c.loop-next.tokens) c.in-Some.is in
-    let before = c.loop-next.invariant.read fs ds x ∙ item ∙ c.in_ok-read.ensures.read fs f in
-    rw (q.1, q.2) (fails_from_front _ _ _ before (c.in_err-next-2.ensures.next (m.AtType (m.InParam f (name_view p.name)) ∷ fs) 1 (type_view p.of) (m.state (m.WantName (m.ParamName g)) fs 1 0 0) (m.state (m.AfterParams g) fs 0 0 0) refl refl refl refl))
-
-pub loop-next-preserved : goal.loop-next-preserved
-loop-next-preserved c = record {
+pub loop-params-init : goal.loop-params-init
+loop-params-init c = record {
   read = λ fs ds x.
-      let f = with_params ds x (map param_view c.loop-next.params) in
-      let p = c.in_ok-read.read.param in
-      let g = m.with_param f (name_view p.name) (type_view p.of) in
-      let item = ap (λ (o : Option Token). at_item (m.state (m.WantName (m.ParamName f)) fs 1 0 0) (m.state (m.AfterParams f) fs 0 0 0) o c.loop-next.tokens) c.in-Some.is in
-      let before = c.loop-next.invariant.read fs ds x ∙ item ∙ c.in_ok-read.ensures.read fs f in
-      let next = c.in_ok-next-2.ensures.next (m.AtType (m.InParam f (name_view p.name)) ∷ fs) 1 (type_view p.of) (m.state (m.WantName (m.ParamName g)) fs 1 0 0) (m.state (m.AfterParams g) fs 0 0 0) refl refl refl refl in
-      before ∙ next ∙ param_added fs ds x c.loop-next.params c.push.new.self p c.in_ok-next-2.next c.next_item.new.tokens c.in_ok-push.ensures.ok;
-  fewer = omega (arith, c.in_ok-read.ensures.no_more, c.in_ok-next-2.ensures.no_more);
+      let f = with_params ds x [] in
+      let first = c.in_ok-next.next in
+      rw c.new-params.ensures (c.in_ok-next.ensures.taken (m.state (m.FirstParam f) fs 1 0 0) refl ∙ ap (λ (y : m.Move). after y first.span.from c.next.new.self) (param_first fs f (kind_view first.kind) (span_view first.span) (λ e. let h = c.is_mark.ensures.1 e in cc)));
+  fewer = omega arith;
+}
+
+pub loop-params-preserved : goal.loop-params-preserved
+loop-params-preserved c = record {
+  read = λ fs ds x.
+      let params = c.loop-params.params in
+      let more = c.push.new.self in
+      let comma : c.in_ok-read.read.token.kind ≡ kind.Mark mark.Comma = search rules in
+      let before = c.loop-params.invariant.read fs ds x ∙ c.in_ok-read.ensures.read fs (with_params ds x params) in
+      before ∙ param_taken fs ds x params more c.in_ok-read.read c.param.new.tokens comma c.in_ok-push.ensures.ok ∙ c.in_ok-next-in-Mark-Comma.ensures.taken (m.state (m.WantName (m.ParamName (with_params ds x more))) fs 1 0 0) refl;
+  fewer = omega arith;
 }

@@ -1,17 +1,17 @@
-use Rattle.std.proofs.Common.{◌≡◌, ◌+◌, ◌≤◌, ◌∷◌, [], List, map, length}
+use Rattle.std.proofs.Common.{◌≡◌, ◌≤◌, ◌∷◌, [], List, map, length}
 use Rattle.pat_grammar.specs.Machine as m
 use Rattle.pat_grammar.specs.Trees as trees
-use Rattle.pat_tree.specs.Views.{type_view}
-use Rattle.pat_parser_tokens.specs.Answers.{answer}
-use Rattle.pat_parser_declarations.specs.Steps.{at_item, at_hand}
+use Rattle.pat_syntax.specs.Views.{kind_view}
+use Rattle.pat_tree.specs.Views.{span_view, type_view}
+use Rattle.pat_parser_tokens.specs.Answers.{answer, after}
 use Rattle.pat_parser_declarations.proofs.interfaces.payloads.Given as goal
 
--- the answer from here, with the payloads so far, is the one from behind the bracket
-abbrev pub invariant-loop-next : goal.invariant-loop-next
-invariant-loop-next l = record {
-  read : (fs : List m.Frame) → (i : m.Interfacing) → (x : trees.Name) → answer (m.state m.FirstPayload (m.AtType (m.InMessage i x []) ∷ fs) 2 0 0) l.fn.tokens ≡ at_item (m.state m.WantType (m.AtType (m.InMessage i x (map type_view l.payloads)) ∷ fs) 2 0 0) (m.state (m.AfterMessage (m.with_message i x (map type_view l.payloads))) fs 1 0 0) l.next l.tokens;
+-- the answer from behind the bracket is the one at the next payload, behind those so far
+abbrev pub invariant-loop-payloads : goal.invariant-loop-payloads
+invariant-loop-payloads l = record {
+  read : (fs : List m.Frame) → (i : m.Interfacing) → (x : trees.Name) → answer (m.state m.FirstPayload (m.AtType (m.InMessage i x []) ∷ fs) 2 0 0) l.fn.tokens ≡ after (m.want_type (m.AtType (m.InMessage i x (map type_view l.payloads)) ∷ fs) 2 (kind_view l.next.kind) (span_view l.next.span)) l.next.span.from l.tokens;
   fewer : length l.tokens.0 ≤ length l.fn.tokens.0;
 }
 
-abbrev pub decreases-loop-next : goal.decreases-loop-next
-decreases-loop-next l = at_hand l.next + length l.tokens.0
+abbrev pub decreases-loop-payloads : goal.decreases-loop-payloads
+decreases-loop-payloads l = length l.tokens.0

@@ -4,7 +4,7 @@ use Rattle.pat_grammar.specs.Machine as m
 use Rattle.pat_tree.specs.Views.{span_view}
 use Rattle.pat_parser_tokens.specs.Answers.{after}
 use Rattle.pat_parser_tokens.proofs.Steps.{from_front, fails_from_front}
-use Rattle.pat_parser_declarations.proofs.lists.annotation.Goals as goal
+use Rattle.pat_parser_declarations.proofs.functions.annotation.Goals as goal
 
 pub returns-in_err-mark-clause-read : goal.returns-in_err-mark-clause-read
 returns-in_err-mark-clause-read c = λ x fs only leads p.
