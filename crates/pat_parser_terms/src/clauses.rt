@@ -12,7 +12,7 @@ use pat_parser_states::{
     ClauseFrame, ClauseHead, Control, Fault, Frame, Guarding, Place, State, at, begun, placed,
     refused, too_deep,
 };
-use pat_parser_tokens::{ParseError, Tokens, has_room};
+use pat_parser_tokens::{ParseError, Tokens, has_room, is_mark};
 use pat_parser_types::pattern;
 use pat_sequences::Sequence;
 use pat_syntax::{Mark, Reserved, Span, Token, TokenKind};
@@ -89,9 +89,8 @@ pub fn free_clause(
     guard: Box<Guarding>,
     word: Span,
     kind: TokenKind,
-    span: Span,
 ) -> Result<State, Fault>
-    ensures { Makes result (m.after_free_word (stack_view place.stack) place.opened place.statements (guarding_view guard.value) (span_view word) (kind_view kind) (span_view span)) }
+    ensures { (w : trees.Span) → Makes result (m.after_free_word (stack_view place.stack) place.opened place.statements (guarding_view guard.value) (span_view word) (kind_view kind) w) }
 {
     match kind {
         TokenKind::Mark(Mark::Arrow) => {
@@ -102,34 +101,28 @@ pub fn free_clause(
     }
 }
 
-/// The names of a receive clause, from the first one on, up to the closing bracket.
-fn names_from(alloc: Global, tokens: &mut Tokens, first: Name) -> Result<Sequence<Name>, ParseError>
-    ensures read { (g : m.Guarding) (word : trees.Span) (tag : trees.Name) (fs : List m.Frame) (o s : ℕ) → Parses result (answer (m.state (m.GotName (m.BinderName (record { guard = g; word = word; tag = tag; names = [] })) (name_view first)) fs o 0 s) tokens.old) (λ xs. answer (m.state (m.AfterBinders (record { guard = g; word = word; tag = tag; names = map name_view xs })) fs g.inside 0 s) tokens.new) }
-    ensures no_more { length tokens.new.0 ≤ length tokens.old.0 }
-{
-    let mut names = Sequence::new(alloc);
-    let mut name = first;
-    loop {
-        let Token { kind, span } = tokens.next()?;
-        names.push(name)?;
-        match kind {
-            TokenKind::Mark(Mark::Comma) => name = tokens.name()?,
-            TokenKind::Mark(Mark::RoundClose) => return Ok(names),
-            _ => return Err(ParseError::Unexpected(span.from)),
-        }
-    }
-}
-
 /// The names of a receive clause, from behind the opening bracket up to the closing one.
 fn names(alloc: Global, tokens: &mut Tokens) -> Result<Sequence<Name>, ParseError>
     ensures read { (g : m.Guarding) (word : trees.Span) (tag : trees.Name) (fs : List m.Frame) (o s : ℕ) → Parses result (answer (m.state (m.FirstBinder (record { guard = g; word = word; tag = tag; names = [] })) fs o 0 s) tokens.old) (λ xs. answer (m.state (m.AfterBinders (record { guard = g; word = word; tag = tag; names = map name_view xs })) fs g.inside 0 s) tokens.new) }
     ensures no_more { length tokens.new.0 ≤ length tokens.old.0 }
 {
-    let Token { kind, span } = tokens.next()?;
-    match kind {
-        TokenKind::Name(text) => names_from(alloc, tokens, Name { text, span }),
-        TokenKind::Mark(Mark::RoundClose) => Ok(Sequence::new(alloc)),
-        _ => Err(ParseError::Unexpected(span.from)),
+    let mut names = Sequence::new(alloc);
+    let mut next = tokens.next()?;
+    if is_mark(&next.kind, Mark::RoundClose) {
+        return Ok(names);
+    }
+    loop {
+        let Token { kind, span } = next;
+        match kind {
+            TokenKind::Name(text) => names.push(Name { text, span })?,
+            _ => return Err(ParseError::Unexpected(span.from)),
+        }
+        let end = tokens.next()?;
+        match end.kind {
+            TokenKind::Mark(Mark::Comma) => next = tokens.next()?,
+            TokenKind::Mark(Mark::RoundClose) => return Ok(names),
+            _ => return Err(ParseError::Unexpected(end.span.from)),
+        }
     }
 }
 

@@ -164,10 +164,9 @@ pub fn within(
             clause(alloc, first, place.stack, guard, kind, span),
             span.from,
         ),
-        Control::AfterFree(guard, word) => placed(
-            free_clause(place, guard, word, kind, span),
-            span.from,
-        ),
+        Control::AfterFree(guard, word) => {
+            placed(free_clause(place, guard, word, kind), span.from)
+        }
         Control::AfterReceive(guard, word) => receive_clause(
             alloc, tokens, place, guard, word, kind, span,
         ),
