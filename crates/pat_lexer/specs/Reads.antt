@@ -1,5 +1,7 @@
 -- What reading does to what a reader has.
 use Rattle.std.specs.Prelude.{◌≡◌, ◌<◌, ◌≤◌, ◌+◌, ℕ, List, [], ◌∷◌, ◌++◌, length, drop, map, Result, Ok, Err}
+use Rattle.pat_syntax.specs.declared.mark.Mark.{Mark}
+use Rattle.pat_syntax.specs.declared.mark.Mark.TheVariants.{DoubleEquals, Arrow}
 use Rattle.pat_syntax.specs.Views.{token_view}
 use Rattle.pat_lexical.specs.Divisions.{Reaches}
 use Rattle.pat_lexer.specs.declared.error.LexError.{LexError}
@@ -97,6 +99,12 @@ OpensWith Equals b = b ≡ 61
 OpensWith Minus b = b ≡ 45
 OpensWith Slash b = b ≡ 47
 OpensWith _ b = ⊥
+
+-- one more byte makes the piece this mark
+abbrev pub Completes : Unfinished → Mark → Type 0
+Completes Equals DoubleEquals = Unit {0}
+Completes Minus Arrow = Unit {0}
+Completes _ _ = ⊥
 
 -- the refusal of a character that doesn't fit what is unfinished
 abbrev pub refusal_of : Reader → LexError

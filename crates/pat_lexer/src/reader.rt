@@ -45,7 +45,7 @@ impl Reader {
     ghost use Rattle.pat_lexer.specs.Progress.{Stands};
     ghost use Rattle.pat_lexical.specs.Divisions.{Divides};
     ghost use Rattle.pat_lexer.specs.Explains.{Explains};
-    ghost use Rattle.pat_lexer.specs.Reads.{refusal_of, progress, Reads, Refuses, Advances, Closes, ClosesNot, StandsAtStart, MayGoOn, Takes, TakesNot, Extends, OpensWith};
+    ghost use Rattle.pat_lexer.specs.Reads.{refusal_of, progress, Reads, Refuses, Advances, Closes, ClosesNot, StandsAtStart, MayGoOn, Takes, TakesNot, Extends, OpensWith, Completes};
 
     pub fn new(alloc: Global) -> Reader
         ensures position { result.position ≡ 0 }
@@ -223,8 +223,8 @@ impl Reader {
             Unfinished::Integer => self.read_integer(text),
             Unfinished::Str => self.read_string(text),
             Unfinished::Escape => self.read_escape(text),
-            Unfinished::Equals => self.read_equals(text),
-            Unfinished::Minus => self.read_minus(text),
+            Unfinished::Equals => self.read_second(Mark::DoubleEquals, text),
+            Unfinished::Minus => self.read_second(Mark::Arrow, text),
             Unfinished::Slash => self.read_slash(text),
             Unfinished::Comment => self.read_comment(text),
         }
@@ -478,29 +478,17 @@ impl Reader {
         Ok(1)
     }
 
-    fn read_equals(&mut self, text: &[u8]) -> Result<usize, LexError>
-        requires goes_on { ends Unfinished.Equals (slice_index text.now 0) ≡ false }
+    /// Ends a mark with its second byte.
+    fn read_second(&mut self, mark: Mark, text: &[u8]) -> Result<usize, LexError>
+        requires completes { Completes self.old.unfinished mark }
+        requires goes_on { ends self.old.unfinished (slice_index text.now 0) ≡ false }
         requires some { 0 < length text.now }
         requires room { self.old.position + length text.now < 2 ^ 32 }
-        requires kind { self.old.unfinished ≡ Unfinished.Equals }
         requires characters { self.old.character.items ≡ [] }
         ensures { Advances self.old self.new text.now result }
     {
         self.position += 1;
-        self.push(TokenKind::Mark(Mark::DoubleEquals))?;
-        Ok(1)
-    }
-
-    fn read_minus(&mut self, text: &[u8]) -> Result<usize, LexError>
-        requires goes_on { ends Unfinished.Minus (slice_index text.now 0) ≡ false }
-        requires some { 0 < length text.now }
-        requires room { self.old.position + length text.now < 2 ^ 32 }
-        requires kind { self.old.unfinished ≡ Unfinished.Minus }
-        requires characters { self.old.character.items ≡ [] }
-        ensures { Advances self.old self.new text.now result }
-    {
-        self.position += 1;
-        self.push(TokenKind::Mark(Mark::Arrow))?;
+        self.push(TokenKind::Mark(mark))?;
         Ok(1)
     }
 
