@@ -180,7 +180,8 @@ fn relax_star(
     Ok(())
 }
 
-/// So by one number of the part: from all points at which the star has a tree, and from those that are lowered then.
+/// So by one number of the part: from all points at which the star has a tree, and from those that are lowered, until
+/// none is.
 fn relax_turn(
     board: &Board,
     sizes: &mut Sizes,
@@ -200,30 +201,10 @@ fn relax_turn(
     known(board, sizes, s, 0, listed)?;
     let seconds = listed.as_slice();
     relax_row(board, sizes, s, (part, s), first, seconds, changed)?;
-    go_on(board, sizes, listed, s, part, first, changed)
-}
-
-/// Goes on from where entries were lowered, until none is.
-fn go_on(
-    board: &Board,
-    sizes: &mut Sizes,
-    listed: &mut Sequence<usize>,
-    s: usize,
-    part: usize,
-    first: usize,
-    changed: &mut bool,
-) -> Result<(), AllocError>
-    requires board { IsBoard board.now }
-    requires all { HasAllEntries (setting_of board.now) sizes.old.entries }
-    requires lists { HasLists (setting_of board.now) sizes.old }
-    requires place { IsPlace board.now s first }
-    requires takes { TakesParts (setting_of board.now) s part s first }
-    ensures { OnOk result (Moved (setting_of board.now) s ⊥ (λ es. Unit {0}) sizes.old changed.old sizes.new changed.new) }
-{
     while !sizes.news.is_empty() {
         take(&mut sizes.news, listed);
-        let seconds = listed.as_slice();
-        relax_row(board, sizes, s, (part, s), first, seconds, changed)?;
+        let lowered = listed.as_slice();
+        relax_row(board, sizes, s, (part, s), first, lowered, changed)?;
     }
     Ok(())
 }

@@ -1,7 +1,7 @@
 use Rattle.std.proofs.Common.{◌+◌, length}
 use Rattle.pat_grid_tables.specs.Views.{setting_of}
 use Rattle.pat_grid_tables.specs.Moves.{total, Moved}
-use Rattle.pat_grid_tables.proofs.symbols.go_on.Given as goal
+use Rattle.pat_grid_tables.proofs.symbols.relax_turn.Given as goal
 
 abbrev pub invariant-loop-sizes : goal.invariant-loop-sizes
 invariant-loop-sizes l = Moved (setting_of l.board) l.s ⊥ (λ es. Unit {0}) l.initial.sizes l.initial.changed l.sizes l.changed
