@@ -112,7 +112,8 @@ impl Parts {
         self.prepare(job.thread, settled.gone)?;
         let newcomer = self.state.threads_made();
         let steps = settled.steps;
-        let taken = share(
+        let mut taken = None;
+        share(
             self.alloc,
             &self.code,
             &mut self.state,
@@ -121,6 +122,7 @@ impl Parts {
             job.thread,
             job.allowance,
             settled,
+            &mut taken,
         )?;
         Ok(self.enter(worker, job, steps, newcomer, &taken))
     }
@@ -136,13 +138,15 @@ impl Parts {
     {
         self.prepare(job.thread, 0)?;
         let newcomer = self.state.threads_made();
-        let taken = share_in_place(
+        let mut taken = None;
+        share_in_place(
             self.alloc,
             &self.code,
             &mut self.state,
             &mut self.names,
             self.limit,
             job.thread,
+            &mut taken,
         )?;
         Ok(self.enter(worker, job, 0, newcomer, &taken))
     }

@@ -8,13 +8,18 @@ ghost use Rattle.pat_machine_shares.specs.Opening.{is_sending};
 
 use pat_executable::Executable;
 use pat_reduce::{Act, Control, ThreadState, plain_act};
+use pat_reduce_threads::{Core, core_of};
 
 /// Whether the thread is found to stand at a send, which is held back where there is no space. Nothing else is looked at.
 pub fn is_about_to_send(code: &Executable, state: &ThreadState) -> bool
     ensures { IsTrue result → IsTrue (is_about_to_send (program_view code.now.program) (thread_view state.now)) }
 {
     match &state.control {
-        Control::Node { .. } => is_sending(plain_act(code, state)),
+        Control::Node { node, .. } => {
+            // What else stands there isn't evaluated.
+            matches!(core_of(code, *node), Some(Core::Send { .. }))
+                && is_sending(plain_act(code, state))
+        }
         // A value is sent by none.
         Control::Returned(_) => false,
     }

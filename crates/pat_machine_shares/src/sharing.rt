@@ -1,5 +1,5 @@
 // The end of a job: what its local steps made of its thread, and the shared step that is open then.
-ghost use Rattle.std.specs.Prelude.{◌≡◌, ℕ, ◌<◌, ◌≤◌, Option, length, Some, IfOk, OnErr, vec_len, vec_capacity};
+ghost use Rattle.std.specs.Prelude.{◌≡◌, ℕ, ◌<◌, ◌≤◌, Option, length, Some, OnOk, OnErr, vec_len, vec_capacity};
 ghost use Rattle.pat_model.specs.WellFormed.{WellFormed};
 ghost use Rattle.pat_model.specs.Configs.{Thread as ThreadOf, Config as ConfigOf, thread_at};
 ghost use Rattle.pat_model.specs.Orders.{IsOrdered};
@@ -31,7 +31,8 @@ pub fn share(
     thread: u32,
     allowance: u32,
     settled: Settled,
-) -> Result<Option<Taken>, AllocError>
+    taken: &mut Option<Taken>,
+) -> Result<(), AllocError>
     requires well { WellFormed (program_view code.now.program) }
     requires ordered { IsOrdered state.old }
     requires room { HasRoom state.old }
@@ -42,8 +43,8 @@ pub fn share(
     requires counted { AreCounted names.old.times.items state.old }
     requires before { CanBeCounted state.old }
     requires after { (s : ThreadOf) (a : Option ActOf) (d : ConfigOf) → thread_at state.old thread ≡ Some s → Finishes (program_view code.now.program) allowance limit (half_way state.old thread s settled) thread settled.steps a d → CanBeCounted d }
-    ensures ok { IfOk result (λ o. (s : ThreadOf) → thread_at state.old thread ≡ Some s → Finishes (program_view code.now.program) allowance limit (half_way state.old thread s settled) thread settled.steps (taken_act o) state.new) }
-    ensures message { IfOk result (λ o. (k : ℕ) → taken_act o ≡ Some (ActReceive k) → taken_message o ≡ message_at state.old k) }
+    ensures ok { OnOk result ((s : ThreadOf) → thread_at state.old thread ≡ Some s → Finishes (program_view code.now.program) allowance limit (half_way state.old thread s settled) thread settled.steps (taken_act taken.new) state.new) }
+    ensures message { OnOk result ((k : ℕ) → taken_act taken.new ≡ Some (ActReceive k) → taken_message taken.new ≡ message_at state.old k) }
     ensures err { OnErr result (state.new ≡ state.old) }
     ensures counted { AreCounted names.new.times.items state.new }
 {
@@ -51,10 +52,12 @@ pub fn share(
     let gone = settled.gone;
     let newcomer = state.threads_made();
     leave_thread(state, names, thread, gone);
-    match finish(alloc, code, state, names, limit, thread, allowance, settled) {
-        Ok(taken) => {
-            count_end(state, names, thread, frames, newcomer, &taken);
-            Ok(taken)
+    match finish(
+        alloc, code, state, names, limit, thread, allowance, settled, taken,
+    ) {
+        Ok(()) => {
+            count_end(state, names, thread, frames, newcomer, taken);
+            Ok(())
         }
         Err(AllocError) => {
             count_thread(state, names, thread, gone);
@@ -72,7 +75,8 @@ pub fn share_in_place(
     names: &mut Names,
     limit: u32,
     thread: u32,
-) -> Result<Option<Taken>, AllocError>
+    taken: &mut Option<Taken>,
+) -> Result<(), AllocError>
     requires well { WellFormed (program_view code.now.program) }
     requires ordered { IsOrdered state.old }
     requires room { HasRoom state.old }
@@ -82,17 +86,17 @@ pub fn share_in_place(
     requires counted { AreCounted names.old.times.items state.old }
     requires before { CanBeCounted state.old }
     requires after { (a : Option ActOf) (d : ConfigOf) → Shares (program_view code.now.program) limit state.old thread a d → CanBeCounted d }
-    ensures ok { IfOk result (λ o. Shares (program_view code.now.program) limit state.old thread (taken_act o) state.new) }
-    ensures message { IfOk result (λ o. (k : ℕ) → taken_act o ≡ Some (ActReceive k) → taken_message o ≡ message_at state.old k) }
+    ensures ok { OnOk result (Shares (program_view code.now.program) limit state.old thread (taken_act taken.new) state.new) }
+    ensures message { OnOk result ((k : ℕ) → taken_act taken.new ≡ Some (ActReceive k) → taken_message taken.new ≡ message_at state.old k) }
     ensures err { OnErr result (state.new ≡ state.old) }
     ensures counted { AreCounted names.new.times.items state.new }
 {
     let newcomer = state.threads_made();
     leave_thread(state, names, thread, 0);
-    match state.take_open(alloc, code, limit, thread, Counted::Others(names)) {
-        Ok(taken) => {
-            count_end(state, names, thread, 0, newcomer, &taken);
-            Ok(taken)
+    match state.take_open(alloc, code, limit, thread, Counted::Others(names), taken) {
+        Ok(()) => {
+            count_end(state, names, thread, 0, newcomer, taken);
+            Ok(())
         }
         Err(AllocError) => {
             count_thread(state, names, thread, 0);
@@ -111,20 +115,22 @@ fn finish(
     thread: u32,
     allowance: u32,
     settled: Settled,
-) -> Result<Option<Taken>, AllocError>
+    taken: &mut Option<Taken>,
+) -> Result<(), AllocError>
     requires room { HasRoom state.old }
     requires settled { IsSettled (program_view code.now.program) state.old thread allowance settled }
     requires typed { (s : ThreadOf) → thread_at state.old thread ≡ Some s → IsTypedBySome (program_view code.now.program) (half_way state.old thread s settled) }
     requires alone { (s : ThreadOf) → thread_at state.old thread ≡ Some s → TellsAlone (program_view code.now.program) (half_way state.old thread s settled) thread (settled_thread s settled) (is_unnamed (program_view code.now.program) names.now.times.items (thread_view settled.end)) }
-    ensures ok { IfOk result (λ o. (s : ThreadOf) → thread_at state.old thread ≡ Some s → Finishes (program_view code.now.program) allowance limit (half_way state.old thread s settled) thread settled.steps (taken_act o) state.new) }
-    ensures message { IfOk result (λ o. (k : ℕ) → taken_act o ≡ Some (ActReceive k) → taken_message o ≡ message_at state.old k) }
+    ensures ok { OnOk result ((s : ThreadOf) → thread_at state.old thread ≡ Some s → Finishes (program_view code.now.program) allowance limit (half_way state.old thread s settled) thread settled.steps (taken_act taken.new) state.new) }
+    ensures message { OnOk result ((k : ℕ) → taken_act taken.new ≡ Some (ActReceive k) → taken_message taken.new ≡ message_at state.old k) }
     ensures err { OnErr result (state.new ≡ state.old) }
 {
     let Settled { end, gone, steps } = settled;
     if steps < allowance {
         let counted = Counted::Others(names);
-        return state.share(alloc, code, limit, thread, gone, end, counted);
+        return state.share(alloc, code, limit, thread, gone, end, counted, taken);
     }
     state.put(alloc, thread, gone, end)?;
-    Ok(None)
+    *taken = None;
+    Ok(())
 }

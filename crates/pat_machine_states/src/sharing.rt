@@ -1,5 +1,5 @@
 // The shared step that ends a commit.
-ghost use Rattle.std.specs.Prelude.{◌≡◌, ℕ, ◌<◌, ◌⊎◌, [], length, Some, IfOk, OnErr};
+ghost use Rattle.std.specs.Prelude.{◌≡◌, ℕ, ◌<◌, ◌⊎◌, [], length, Some, OnOk, OnErr};
 ghost use Rattle.pat_model.specs.Orders.{IsOrdered};
 ghost use Rattle.pat_model.specs.Configs.{Thread as ThreadOf, thread_at, with_thread};
 ghost use Rattle.pat_model.specs.Steps.{ActReceive, message_at};
@@ -31,7 +31,8 @@ pub struct Taken {
 
 impl State {
     /// Puts a state in the place of a thread's control and so many of its frames, those on top, and takes the shared step
-    /// that is open then, if one is. Counts tell whether the thread may free a mailbox then. An error changes nothing.
+    /// that is open then, if one is: `taken` says which. Counts tell whether the thread may free a mailbox then.
+    /// An error changes nothing of the configuration.
     pub fn share(
         &mut self,
         alloc: Global,
@@ -41,24 +42,25 @@ impl State {
         gone: u32,
         top: ThreadState,
         counted: Counted<'_>,
-    ) -> Result<Option<Taken>, AllocError>
+        taken: &mut Option<Taken>,
+    ) -> Result<(), AllocError>
         requires there { (s : ThreadOf) × (thread_at self.old thread ≡ Some s) }
         requires room { HasRoom self.old }
         requires typed { (s : ThreadOf) → thread_at self.old thread ≡ Some s → IsTypedBySome (program_view code.now.program) (with_thread self.old thread (over (thread_view top) (below gone s))) }
         requires frame { (s : ThreadOf) → thread_at self.old thread ≡ Some s → (0 < length (thread_view top).frames) ⊎ (below gone s ≡ []) }
         requires alone { (s : ThreadOf) → thread_at self.old thread ≡ Some s → TellsAlone (program_view code.now.program) (with_thread self.old thread (over (thread_view top) (below gone s))) thread (over (thread_view top) (below gone s)) (says_alone (program_view code.now.program) counted (thread_view top)) }
-        ensures ok { IfOk result (λ a. (s : ThreadOf) → thread_at self.old thread ≡ Some s → Shares (program_view code.now.program) limit (with_thread self.old thread (over (thread_view top) (below gone s))) thread (taken_act a) self.new) }
-        ensures message { IfOk result (λ a. (k : ℕ) → taken_act a ≡ Some (ActReceive k) → taken_message a ≡ message_at self.old k) }
+        ensures ok { OnOk result ((s : ThreadOf) → thread_at self.old thread ≡ Some s → Shares (program_view code.now.program) limit (with_thread self.old thread (over (thread_view top) (below gone s))) thread (taken_act taken.new) self.new) }
+        ensures message { OnOk result ((k : ℕ) → taken_act taken.new ≡ Some (ActReceive k) → taken_message taken.new ≡ message_at self.old k) }
         ensures err { OnErr result (self.new ≡ self.old) }
     {
         if self.placed.has_at_most(thread, gone) {
-            return self.share_whole(alloc, code, limit, thread, top, counted);
+            return self.share_whole(alloc, code, limit, thread, top, counted, taken);
         }
         let kept = self.set_aside(alloc, thread, top)?;
-        match self.take_open(alloc, code, limit, thread, counted) {
-            Ok(taken) => {
+        match self.take_open(alloc, code, limit, thread, counted, taken) {
+            Ok(()) => {
                 self.cover(alloc, thread, gone, kept);
-                Ok(taken)
+                Ok(())
             }
             Err(AllocError) => {
                 let_go(self.swap(thread, taken_up(kept)));
@@ -76,20 +78,21 @@ impl State {
         thread: u32,
         top: ThreadState,
         counted: Counted<'_>,
-    ) -> Result<Option<Taken>, AllocError>
+        taken: &mut Option<Taken>,
+    ) -> Result<(), AllocError>
         requires there { (s : ThreadOf) × (thread_at self.old thread ≡ Some s) }
         requires room { HasRoom self.old }
         requires typed { IsTypedBySome (program_view code.now.program) (with_thread self.old thread (thread_view top)) }
         requires alone { TellsAlone (program_view code.now.program) (with_thread self.old thread (thread_view top)) thread (thread_view top) (says_alone (program_view code.now.program) counted (thread_view top)) }
-        ensures ok { IfOk result (λ a. Shares (program_view code.now.program) limit (with_thread self.old thread (thread_view top)) thread (taken_act a) self.new) }
-        ensures message { IfOk result (λ a. (k : ℕ) → taken_act a ≡ Some (ActReceive k) → taken_message a ≡ message_at self.old k) }
+        ensures ok { OnOk result (Shares (program_view code.now.program) limit (with_thread self.old thread (thread_view top)) thread (taken_act taken.new) self.new) }
+        ensures message { OnOk result ((k : ℕ) → taken_act taken.new ≡ Some (ActReceive k) → taken_message taken.new ≡ message_at self.old k) }
         ensures err { OnErr result (self.new ≡ self.old) }
     {
         let kept = self.swap(thread, top);
-        match self.take_open(alloc, code, limit, thread, counted) {
-            Ok(taken) => {
+        match self.take_open(alloc, code, limit, thread, counted, taken) {
+            Ok(()) => {
                 let_go(kept);
-                Ok(taken)
+                Ok(())
             }
             Err(AllocError) => {
                 let_go(self.swap(thread, kept));
@@ -98,7 +101,8 @@ impl State {
         }
     }
 
-    /// Takes the step of the thread that is open, if one is. Counts tell whether it may free a mailbox. An error changes nothing.
+    /// Takes the step of the thread that is open, if one is: `taken` says which, so that it isn't moved from call to call.
+    /// Counts tell whether the thread may free a mailbox. An error changes nothing of the configuration.
     pub fn take_open(
         &mut self,
         alloc: Global,
@@ -106,20 +110,25 @@ impl State {
         limit: u32,
         thread: u32,
         counted: Counted<'_>,
-    ) -> Result<Option<Taken>, AllocError>
+        taken: &mut Option<Taken>,
+    ) -> Result<(), AllocError>
         requires room { HasRoom self.old }
         requires ordered { IsOrdered self.old }
         requires live { ReferToLive self.old }
         requires alone { StandsAlone (program_view code.now.program) self.old thread counted }
-        ensures ok { IfOk result (λ a. Shares (program_view code.now.program) limit self.old thread (taken_act a) self.new) }
-        ensures message { IfOk result (λ a. (k : ℕ) → taken_act a ≡ Some (ActReceive k) → taken_message a ≡ message_at self.old k) }
+        ensures ok { OnOk result (Shares (program_view code.now.program) limit self.old thread (taken_act taken.new) self.new) }
+        ensures message { OnOk result ((k : ℕ) → taken_act taken.new ≡ Some (ActReceive k) → taken_message taken.new ≡ message_at self.old k) }
         ensures err { OnErr result (self.new ≡ self.old) }
     {
         let Some(act) = self.open_act(code, limit, thread, counted) else {
-            return Ok(None);
+            *taken = None;
+            return Ok(());
         };
         match self.step(alloc, code, &Step { thread, act }) {
-            Ok(message) => Ok(Some(Taken { act, message })),
+            Ok(message) => {
+                *taken = Some(Taken { act, message });
+                Ok(())
+            }
             // The act is enabled.
             Err(StepError::Disabled) => unreachable!(),
             Err(StepError::NoMemory) => Err(AllocError),

@@ -1,6 +1,5 @@
 // The steps of a thread.
 ghost use Rattle.std.specs.Prelude.{◌≡◌, ℕ, true, Some, None, option_map, IfOk};
-ghost use Rattle.pat_model.specs.Configs.{thread_at};
 ghost use Rattle.pat_model.specs.Orders.{IsOrdered};
 ghost use Rattle.pat_model.specs.Steps.{ActNew, ActSend, ActFree, ActReceive, message_at, step as after_step};
 ghost use Rattle.pat_model_laws.specs.Laws.{IsEnabled};
@@ -10,14 +9,13 @@ ghost use Rattle.pat_reduce_threads.specs.ThreadViews.{message_view};
 ghost use Rattle.pat_reduce.specs.Views.{act_view, step_view};
 ghost use Rattle.pat_commits.specs.Machines.{HasRoom};
 ghost use Rattle.pat_machine_placed.specs.Alone.{is_beside};
-ghost use Rattle.pat_machine_states.specs.Stepping.{ReferToLive, guarded_in};
+ghost use Rattle.pat_machine_states.specs.Stepping.{ReferToLive};
 ghost use Rattle.pat_machine_states.specs.Taking.{outcome};
 
 use crate::State;
 use pat_executable::Executable;
 use pat_machine_pending::delivery;
 use pat_reduce::{Act, Message, Step, StepError};
-use pat_reduce_threads::guard_of;
 use std::alloc::Global;
 
 impl State {
@@ -108,19 +106,6 @@ impl State {
                 Ok(())
             }
             Err(error) => Err(error),
-        }
-    }
-
-    // The mailbox that the thread guards.
-    pub(crate) fn guarded(&self, code: &Executable, thread: u32) -> Option<u32>
-        ensures { result ≡ guarded_in (program_view code.now.program) (thread_at self.now thread) }
-    {
-        match self.thread(thread) {
-            Some(state) => match guard_of(code, &state.control) {
-                Some(guard) => Some(guard.mailbox),
-                None => None,
-            },
-            None => None,
         }
     }
 

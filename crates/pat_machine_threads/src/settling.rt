@@ -1,9 +1,9 @@
 // Local steps of a kept thread, on a copy of its top.
-ghost use Rattle.std.specs.Prelude.{◌≡◌, ◌<◌, ◌≤◌, ◌⊎◌, [], length, Some, IfOk, IfSome, OnOk, IsTrue, IsFalse};
+ghost use Rattle.std.specs.Prelude.{◌≡◌, ◌<◌, ◌≤◌, ◌⊎◌, [], ◌∷◌, length, Some, IfOk, IfSome, OnOk, IsTrue, IsFalse};
 ghost use Rattle.pat_model.specs.Configs.{Running};
 ghost use Rattle.pat_model.specs.Programs.{keep};
 ghost use Rattle.pat_model.specs.Values.{Value as ValueOf};
-ghost use Rattle.pat_model.specs.Steps.{at_node, bind_name, local_step, resume, thread_of};
+ghost use Rattle.pat_model.specs.Steps.{at_node, bind_name, frame_of, local_step, resume, thread_of};
 ghost use Rattle.pat_reduce_threads.specs.Views.{program_view};
 ghost use Rattle.pat_reduce_threads.specs.ThreadViews.{frame_view, thread_view};
 ghost use Rattle.pat_reduce_values.specs.ValueViews.{env_view, value_view};
@@ -14,8 +14,8 @@ use crate::copies::{copy_frame, copy_top};
 use crate::run::run_locally;
 use crate::tops::{frame_below, has_at_most};
 use pat_reduce::{Control, Frame, StepError, ThreadState, Value};
-use pat_reduce_threads::{Core, core_of, enter};
-use pat_reduce_values::{Executable, bound, keep_free};
+use pat_reduce_threads::{Core, core_of, enter, node_with};
+use pat_reduce_values::{Executable, bound, keep_free, kept_but};
 use pat_sequences::Stack;
 use std::alloc::{AllocError, Global};
 
@@ -85,7 +85,7 @@ fn uncover(alloc: Global, kept: &ThreadState, settled: &mut Settled) -> Result<(
 }
 
 // A copy of the kept control, and no step; or first steps that are taken without a copy of the control: a frame goes on with the value
-// that is there, and a call enters its function.
+// that is there, a call enters its function, and a let goes on with its bound term.
 fn begin(
     alloc: Global,
     code: &Executable,
@@ -111,7 +111,7 @@ fn begin(
             steps: 1,
         }),
         (Control::Node { node, env }, _) if allowance > 0 => {
-            match called(alloc, code, *node, env.as_slice())? {
+            match first_step(alloc, code, *node, env.as_slice())? {
                 Some(end) => Ok(Settled {
                     end,
                     gone: 0,
@@ -154,6 +154,41 @@ fn are_free(code: &Executable, node: u32, env: &[(u32, Value)]) -> bool
         }
     }
     true
+}
+
+// The thread after the local step at a node, with no frame below, if a let stands there, or a call that can be taken.
+fn first_step(
+    alloc: Global,
+    code: &Executable,
+    node: u32,
+    env: &[(u32, Value)],
+) -> Result<Option<ThreadState>, AllocError>
+    ensures { IfOk result (λ o. IfSome o (λ s. local_step (program_view code.now.program) (thread_of (Running node (env_view env.now)) []) ≡ Some (thread_view s))) }
+{
+    match core_of(code, node) {
+        Some(Core::Let { var, bound, body }) => {
+            Ok(Some(opened(alloc, code, *var, *bound, *body, env)?))
+        }
+        _ => called(alloc, code, node, env),
+    }
+}
+
+// The thread at the bound term of a let, with the frame that waits for its value.
+fn opened(
+    alloc: Global,
+    code: &Executable,
+    var: Option<u32>,
+    bound: u32,
+    body: u32,
+    env: &[(u32, Value)],
+) -> Result<ThreadState, AllocError>
+    ensures { IfOk result (λ s. thread_view s ≡ thread_of (at_node (program_view code.now.program) bound (env_view env.now)) (frame_of (program_view code.now.program) var body (env_view env.now) ∷ [])) }
+{
+    let control = node_with(alloc, code, bound, env)?;
+    let env = kept_but(alloc, code, body, var, env)?;
+    let mut frames = Stack::new(alloc);
+    frames.push(Frame { var, body, env })?;
+    Ok(ThreadState { control, frames })
 }
 
 // The thread after the call at a node, with no frame below, if a call stands there that can be taken.

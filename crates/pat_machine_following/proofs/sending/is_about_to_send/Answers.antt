@@ -6,8 +6,8 @@ use Rattle.pat_machine_shares.specs.Opening.{is_sending}
 use Rattle.pat_machine_following.proofs.Senders.{sends_at}
 use Rattle.pat_machine_following.proofs.sending.is_about_to_send.Goals as goal
 
-pub returns-in-Node : goal.returns-in-Node
-returns-in-Node c sends =
+pub returns-then-matches : goal.returns-then-matches
+returns-then-matches c sends =
     let p = program_view c.args.code.now.program in
     let s = c.args.state.now in
     sends_at p (redex p (control_view s.control)) (map frame_view s.frames) (ap is_sending (sym c.plain_act.ensures) ∙ sym c.is_sending.ensures ∙ sends)

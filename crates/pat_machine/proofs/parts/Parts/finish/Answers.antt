@@ -99,9 +99,9 @@ enter-requires-clause-went c =
     let s = c.args.settled in
     let h = subst (λ x. IsSettled (program_of x) x.config t n s) (sym c.in_ok-prepare.ensures.same) c.requires.settled in
     let d = c.share.new.state in
-    let commit = commit_of p m.state t n s h m.limit d (entry_of c.args.worker c.args.job s.steps (taken_act c.in_ok-taken.taken)) refl refl (c.in_ok-taken.ensures.ok h.kept h.there) in
-    let run = run_of p n m.limit (half_way m.state t h.kept s) d t s.steps (taken_act c.in_ok-taken.taken) (c.in_ok-taken.ensures.ok h.kept h.there) h.run.local.within in
-    (m.state, went_after _ m.state c.args.worker c.args.job s.steps c.threads_made-newcomer.result s.gone h.kept (thread_view s.end) (taken_act c.in_ok-taken.taken) (taken_message c.in_ok-taken.taken) kept.stands kept.lent kept.noted lent c.threads_made-newcomer.ensures commit h.there run c.in_ok-taken.ensures.counted c.in_ok-prepare.ensures.listed c.in_ok-taken.ensures.message)
+    let commit = commit_of p m.state t n s h m.limit d (entry_of c.args.worker c.args.job s.steps (taken_act c.share.new.taken)) refl refl (c.in_ok-share.ensures.ok h.kept h.there) in
+    let run = run_of p n m.limit (half_way m.state t h.kept s) d t s.steps (taken_act c.share.new.taken) (c.in_ok-share.ensures.ok h.kept h.there) h.run.local.within in
+    (m.state, went_after _ m.state c.args.worker c.args.job s.steps c.threads_made-newcomer.result s.gone h.kept (thread_view s.end) (taken_act c.share.new.taken) (taken_message c.share.new.taken) kept.stands kept.lent kept.noted lent c.threads_made-newcomer.ensures commit h.there run c.in_ok-share.ensures.counted c.in_ok-prepare.ensures.listed c.in_ok-share.ensures.message)
 
 pub returns-clause-ok : goal.returns-clause-ok
 returns-clause-ok c =
@@ -115,7 +115,7 @@ returns-clause-ok c =
     let s = c.args.settled in
     let h = subst (λ x. IsSettled (program_of x) x.config t n s) (sym c.in_ok-prepare.ensures.same) c.requires.settled in
     let d = c.share.new.state in
-    let commit = commit_of p m.state t n s h m.limit d (entry_of c.args.worker c.args.job s.steps (taken_act c.in_ok-taken.taken)) refl refl (c.in_ok-taken.ensures.ok h.kept h.there) in
-    let run = run_of p n m.limit (half_way m.state t h.kept s) d t s.steps (taken_act c.in_ok-taken.taken) (c.in_ok-taken.ensures.ok h.kept h.there) h.run.local.within in
+    let commit = commit_of p m.state t n s h m.limit d (entry_of c.args.worker c.args.job s.steps (taken_act c.share.new.taken)) refl refl (c.in_ok-share.ensures.ok h.kept h.there) in
+    let run = run_of p n m.limit (half_way m.state t h.kept s) d t s.steps (taken_act c.share.new.taken) (c.in_ok-share.ensures.ok h.kept h.there) h.run.local.within in
     subst (λ x. Committed x c.args.worker c.args.job c.enter.result (shown c.enter.new.self)) c.in_ok-prepare.ensures.same
-    (c.enter.ensures.committed m.state (went_after _ m.state c.args.worker c.args.job s.steps c.threads_made-newcomer.result s.gone h.kept (thread_view s.end) (taken_act c.in_ok-taken.taken) (taken_message c.in_ok-taken.taken) kept.stands kept.lent kept.noted lent c.threads_made-newcomer.ensures commit h.there run c.in_ok-taken.ensures.counted c.in_ok-prepare.ensures.listed c.in_ok-taken.ensures.message))
+    (c.enter.ensures.committed m.state (went_after _ m.state c.args.worker c.args.job s.steps c.threads_made-newcomer.result s.gone h.kept (thread_view s.end) (taken_act c.share.new.taken) (taken_message c.share.new.taken) kept.stands kept.lent kept.noted lent c.threads_made-newcomer.ensures commit h.there run c.in_ok-share.ensures.counted c.in_ok-prepare.ensures.listed c.in_ok-share.ensures.message))

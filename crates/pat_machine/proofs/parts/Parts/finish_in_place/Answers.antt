@@ -73,9 +73,9 @@ enter-requires-clause-went c =
     let lent = subst (λ x. IsLent x c.args.job) (sym c.in_ok-prepare.ensures.same) c.requires.lent in
     let h = subst (λ x. StandsStill (program_of x) x.config t) (sym c.in_ok-prepare.ensures.same) c.requires.still in
     let d = c.share_in_place.new.state in
-    let commit = commit_in_place p m.state t h c.args.worker n m.limit d (taken_act c.in_ok-taken.taken) (kept.stands.table.some t n lent) c.in_ok-taken.ensures.ok in
-    let run = subst (λ x. run_from p x (shared_step t (taken_act c.in_ok-taken.taken)) ≡ Some d) (sym (with_same m.state t h.kept h.there)) c.in_ok-taken.ensures.ok.taken in
-    (m.state, went_after _ m.state c.args.worker c.args.job 0 c.threads_made-newcomer.result 0 h.kept (top_of 0 h.kept) (taken_act c.in_ok-taken.taken) (taken_message c.in_ok-taken.taken) kept.stands kept.lent kept.noted lent c.threads_made-newcomer.ensures commit h.there run c.in_ok-taken.ensures.counted c.in_ok-prepare.ensures.listed c.in_ok-taken.ensures.message)
+    let commit = commit_in_place p m.state t h c.args.worker n m.limit d (taken_act c.share_in_place.new.taken) (kept.stands.table.some t n lent) c.in_ok-share_in_place.ensures.ok in
+    let run = subst (λ x. run_from p x (shared_step t (taken_act c.share_in_place.new.taken)) ≡ Some d) (sym (with_same m.state t h.kept h.there)) c.in_ok-share_in_place.ensures.ok.taken in
+    (m.state, went_after _ m.state c.args.worker c.args.job 0 c.threads_made-newcomer.result 0 h.kept (top_of 0 h.kept) (taken_act c.share_in_place.new.taken) (taken_message c.share_in_place.new.taken) kept.stands kept.lent kept.noted lent c.threads_made-newcomer.ensures commit h.there run c.in_ok-share_in_place.ensures.counted c.in_ok-prepare.ensures.listed c.in_ok-share_in_place.ensures.message)
 
 pub returns-clause-ok : goal.returns-clause-ok
 returns-clause-ok c =
@@ -88,7 +88,7 @@ returns-clause-ok c =
     let lent = subst (λ x. IsLent x c.args.job) (sym c.in_ok-prepare.ensures.same) c.requires.lent in
     let h = subst (λ x. StandsStill (program_of x) x.config t) (sym c.in_ok-prepare.ensures.same) c.requires.still in
     let d = c.share_in_place.new.state in
-    let commit = commit_in_place p m.state t h c.args.worker n m.limit d (taken_act c.in_ok-taken.taken) (kept.stands.table.some t n lent) c.in_ok-taken.ensures.ok in
-    let run = subst (λ x. run_from p x (shared_step t (taken_act c.in_ok-taken.taken)) ≡ Some d) (sym (with_same m.state t h.kept h.there)) c.in_ok-taken.ensures.ok.taken in
+    let commit = commit_in_place p m.state t h c.args.worker n m.limit d (taken_act c.share_in_place.new.taken) (kept.stands.table.some t n lent) c.in_ok-share_in_place.ensures.ok in
+    let run = subst (λ x. run_from p x (shared_step t (taken_act c.share_in_place.new.taken)) ≡ Some d) (sym (with_same m.state t h.kept h.there)) c.in_ok-share_in_place.ensures.ok.taken in
     subst (λ x. Committed x c.args.worker c.args.job c.enter.result (shown c.enter.new.self)) c.in_ok-prepare.ensures.same
-    (c.enter.ensures.committed m.state (went_after _ m.state c.args.worker c.args.job 0 c.threads_made-newcomer.result 0 h.kept (top_of 0 h.kept) (taken_act c.in_ok-taken.taken) (taken_message c.in_ok-taken.taken) kept.stands kept.lent kept.noted lent c.threads_made-newcomer.ensures commit h.there run c.in_ok-taken.ensures.counted c.in_ok-prepare.ensures.listed c.in_ok-taken.ensures.message))
+    (c.enter.ensures.committed m.state (went_after _ m.state c.args.worker c.args.job 0 c.threads_made-newcomer.result 0 h.kept (top_of 0 h.kept) (taken_act c.share_in_place.new.taken) (taken_message c.share_in_place.new.taken) kept.stands kept.lent kept.noted lent c.threads_made-newcomer.ensures commit h.there run c.in_ok-share_in_place.ensures.counted c.in_ok-prepare.ensures.listed c.in_ok-share_in_place.ensures.message))

@@ -1,5 +1,5 @@
 use Rattle.std.proofs.Common.{sym, ap, ◌∙◌, subst, arith}
-use Rattle.std.proofs.lemmas.Result.{IfOk-weaker}
+use Rattle.std.proofs.lemmas.Result.{on_ok_weaker}
 use Rattle.pat_model.specs.Configs.{thread_at, with_thread}
 use Rattle.pat_model.specs.Orders.{IsOrdered}
 use Rattle.pat_model.specs.Steps.{message_at}
@@ -47,7 +47,7 @@ cover-requires c = λ r at.
     let a = c.in_ok-kept.ensures.ok in
     let ordered = subst IsOrdered (sym a.put) (ordered_on_top c.args.self.now t (thread_view c.args.top) (below c.args.gone s.0) (c.requires.typed s.0 s.1).typed.numbers.ordered) in
     let there = top_there c.args.self.now middle t c.args.top c.in_ok-kept.kept a in
-    let few = frames_after (program_view c.args.code.now.program) middle t (thread_view c.args.top) r ordered there (taken_act c.in-Ok.taken) c.take_open.new.self c.in-Ok.ensures.ok.taken at in
+    let few = frames_after (program_view c.args.code.now.program) middle t (thread_view c.args.top) r ordered there (taken_act c.take_open.new.taken) c.take_open.new.self c.in-Ok.ensures.ok.taken at in
     let room = room_there c.args.self.now middle t c.args.top c.in_ok-kept.kept a in
     omega arith
 
@@ -60,7 +60,7 @@ swap-requires c = (
 pub returns-in-Ok-clause-ok : goal.returns-in-Ok-clause-ok
 returns-in-Ok-clause-ok c = λ s at.
     let a = c.in_ok-kept.ensures.ok in
-    share_over (program_view c.args.code.now.program) c.args.limit c.args.self.now c.set_aside.new.self c.take_open.new.self c.cover.new.self c.args.thread c.args.gone (aside_view c.in_ok-kept.kept) (thread_view c.args.top) (taken_act c.in-Ok.taken)
+    share_over (program_view c.args.code.now.program) c.args.limit c.args.self.now c.set_aside.new.self c.take_open.new.self c.cover.new.self c.args.thread c.args.gone (aside_view c.in_ok-kept.kept) (thread_view c.args.top) (taken_act c.take_open.new.taken)
     a.there a.put c.in-Ok.ensures.ok c.cover.ensures s at (c.requires.frame s at)
 
 pub returns-in-Err-clause-err : goal.returns-in-Err-clause-err
@@ -91,8 +91,8 @@ pub returns-then-has_at_most-clause-ok : goal.returns-then-has_at_most-clause-ok
 returns-then-has_at_most-clause-ok c =
     let p = program_view c.args.code.now.program in
     let t = c.args.thread in
-    IfOk-weaker c.share_whole.result _ _
-    (λ a shares. λ s at.
+    on_ok_weaker c.share_whole.result
+    (λ shares. λ s at.
     let same = over_whole _ c.args.self.now t c.args.gone (thread_view c.args.top) s c.has_at_most.result c.self.view_is c.has_at_most.ensures c.if-has_at_most.true at in
-    subst (λ x. Shares p c.args.limit (with_thread c.args.self.now t x) t (taken_act a) c.share_whole.new.self) (sym same) shares)
+    subst (λ x. Shares p c.args.limit (with_thread c.args.self.now t x) t (taken_act c.share_whole.new.taken) c.share_whole.new.self) (sym same) shares)
     c.share_whole.ensures.ok
