@@ -27,6 +27,7 @@ REFUSALS = {
     "load": [],
     "verify": TEXT + [BAD_TEXT, rf"rejected at node \d+: (?:{RULES})"],
     "replay": TEXT + [BAD_TEXT, r"refused at entry \d+"],
+    "order": TEXT + [BAD_TEXT, r"refused at entry \d+", r"too many entries"],
 }
 # The statuses of a command that isn't refused, with good ports and enough memory.
 STATUSES = {"run": {0, 6, 7, 8}, "load": {0, 6, 7, 8}}
@@ -46,6 +47,11 @@ class Answer:
         """The lines behind %%output."""
         lines = self.lines()
         return lines[lines.index("%%output") + 1:]
+
+    def history(self):
+        """The lines of the history, its first line aside."""
+        lines = self.lines()
+        return lines[1:lines.index("%%output")]
 
 
 def call(program, words, given, seconds=20, environment=None):

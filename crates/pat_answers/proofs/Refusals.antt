@@ -16,4 +16,5 @@ small bytes (verdict.Resolve k s) r other = r.1.small
 small bytes (verdict.BadText o) r other = absurd r
 small bytes (verdict.Rejected n rule) r other = absurd r
 small bytes (verdict.RefusedAt i) r other = absurd r
+small bytes verdict.TooManyEntries r other = absurd r
 small bytes (verdict.Unaccepted reason) r other = absurd r

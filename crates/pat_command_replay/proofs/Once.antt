@@ -1,143 +1,24 @@
 -- Bytes have one answer.
-use Rattle.std.proofs.Common.{◌≡◌, ◌⊎◌, ◌+◌, ℕ, List, codes, length, Option, Some, None, refl, sym, ap, ◌∙◌, subst, ⊎_elim}
-use Rattle.pat_model.specs.Programs.{Program}
-use Rattle.pat_model.specs.Configs.{Config, start}
-use Rattle.pat_model.specs.Runs.{Entry, replay}
-use Rattle.pat_commits.specs.Refusals.{IsRefusedAt}
-use Rattle.pat_commit_laws.specs.Laws.{NoReplayIsRefused, OneEntryIsRefused}
-use Rattle.pat_history_text.specs.HistoryText.{marker}
-use Rattle.pat_history_text.specs.Reading.{ReadsAs, Unread}
-use Rattle.pat_history_text_laws.specs.Laws.{ReadingIsOne, UnreadIsOne, UnreadIsNotRead}
-use Rattle.pat_marked.specs.Marked.{IsMarked, IsUnmarked}
-use Rattle.pat_marked.specs.Splits.{OneSplit}
-use Rattle.pat_lines.specs.RunText.{replay_text}
-use Rattle.pat_front.specs.declared.verdict.Verdict.{Verdict}
-use Rattle.pat_front.specs.declared.verdict.Verdict.TheVariants as verdict
-use Rattle.pat_marked_programs.specs.MarkedPrograms.{HasProgram, IsMarkedRefusal}
-use Rattle.pat_marked_programs.specs.OneProgram.{OneProgram}
-use Rattle.pat_command_replay.specs.Allowed.{IsHistoryPart, standing, IsReplay, HasReplay, HasBadLine, HasBadEntry, Unreplayed, RefusesText, IsReplayed, IsReplayRefusal}
+use Rattle.std.proofs.Common.{◌≡◌, ℕ, List, sym, ap, ◌∙◌}
+use Rattle.pat_marked_histories.specs.RunText.{replay_text}
+use Rattle.pat_marked_histories.specs.Histories.{standing}
+use Rattle.pat_marked_histories.specs.OneReplay.{OneReplay}
+use Rattle.pat_command_replay.specs.Allowed.{IsReplayed}
 use Rattle.pat_command_replay.specs.Answers.{OneAnswer}
 
-abbrev output_mark : List ℕ
-output_mark = codes "%%output"
-
--- a text has one part that is a history's
-one_part : (text : List ℕ) → OneSplit output_mark text → (a b : List ℕ) → IsHistoryPart text a → IsHistoryPart text b → a ≡ b
-one_part text split a b h k =
-    ⊎_elim
-    (λ (m : (rest : List ℕ) × IsMarked output_mark text a rest).
-    ⊎_elim
-    (λ (n : (rest : List ℕ) × IsMarked output_mark text b rest). (split.same a b m.0 n.0 m.1 n.1).0)
-    (λ (u : IsUnmarked output_mark text × (b ≡ text)). absurd (split.not_both a m.0 m.1 u.0))
-    k)
-    (λ (u : IsUnmarked output_mark text × (a ≡ text)).
-    ⊎_elim
-    (λ (n : (rest : List ℕ) × IsMarked output_mark text b rest). absurd (split.not_both b n.0 n.1 u.0))
-    (λ (w : IsUnmarked output_mark text × (b ≡ text)). u.1 ∙ sym w.1)
-    k)
-    h
-
-same_config : (c d : Config) → ◌≡◌ {A = Option Config} (Some c) (Some d) → c ≡ d
-same_config c d e = cc
-
-module _ (refused_law : NoReplayIsRefused) (once_law : OneEntryIsRefused) (one_reading : ReadingIsOne) (one_unread : UnreadIsOne) (not_read : UnreadIsNotRead) (p : Program) (text : List ℕ) (split : OneSplit output_mark text) where
-  module _ (a b : List ℕ) (own : IsHistoryPart text a) (other : IsHistoryPart text b) where
-    same_entries : (es fs : List Entry) → ReadsAs a es → ReadsAs b fs → es ≡ fs
-    same_entries es fs h k = one_reading a es fs h (subst (λ x. ReadsAs x fs) (one_part text split b a other own) k)
-
-    clash : (at : ℕ) (es : List Entry) → Unread a at → ReadsAs b es → ⊥
-    clash at es u k = not_read a at es u (subst (λ x. ReadsAs x es) (one_part text split b a other own) k)
-
-    same_place : (m n : ℕ) → Unread a m → Unread b n → m ≡ n
-    same_place m n u w = one_unread a m n u (subst (λ x. Unread x n) (one_part text split b a other own) w)
-
-  same_output : (out other : List ℕ) → HasReplay p text out → HasReplay p text other → out ≡ other
-  same_output out other h k =
-      let es = same_entries h.part k.part h.own k.own h.entries k.entries h.read k.read in
-      let c = h.replay.config in
-      let d = k.replay.config in
-      let led : Some c ≡ Some d = sym h.replay.replayed ∙ ap (replay p) es ∙ k.replay.replayed in
-      let same : c ≡ d = same_config c d led in
-      h.replay.shown
-      ∙ ap (λ xs. replay_text xs c (standing p c)) es
-      ∙ ap (λ x. replay_text k.entries x (standing p x)) same
-      ∙ sym k.replay.shown
-
-  not_replayed : (from : ℕ) (out : List ℕ) (v : Verdict) → HasReplay p text out → Unreplayed p from text v → ⊥
-  not_replayed from out (verdict.BadText o) h u = clash u.part h.part u.own h.own u.offset h.entries u.unread h.read
-  not_replayed from out (verdict.RefusedAt i) h u =
-      let es = same_entries h.part u.part h.own u.own h.entries u.entries h.read u.read in
-      let led : Some h.replay.config ≡ None = sym h.replay.replayed ∙ ap (replay p) es ∙ (refused_law p (start p) u.entries).1 (i, u.refused) in
-      cc
-  not_replayed from out verdict.TooLong h u = absurd u
-  not_replayed from out (verdict.Syntax o) h u = absurd u
-  not_replayed from out (verdict.NumberTooWide o) h u = absurd u
-  not_replayed from out (verdict.TooDeep o) h u = absurd u
-  not_replayed from out (verdict.Resolve k s) h u = absurd u
-  not_replayed from out (verdict.Rejected n r) h u = absurd u
-  not_replayed from out (verdict.Unaccepted reason) h u = absurd u
-
-  -- what isn't replayed has a bad line, or a bad entry
-  data Why (from : ℕ) : Verdict → Type 0 where
-    bad_line : {o : ℕ} → HasBadLine from text o → Why from (verdict.BadText o)
-    bad_entry : {i : ℕ} → HasBadEntry p text i → Why from (verdict.RefusedAt i)
-
-  why : (from : ℕ) (v : Verdict) → Unreplayed p from text v → Why from v
-  why from (verdict.BadText o) u = bad_line u
-  why from (verdict.RefusedAt i) u = bad_entry u
-  why from verdict.TooLong u = absurd u
-  why from (verdict.Syntax o) u = absurd u
-  why from (verdict.NumberTooWide o) u = absurd u
-  why from (verdict.TooDeep o) u = absurd u
-  why from (verdict.Resolve k s) u = absurd u
-  why from (verdict.Rejected n r) u = absurd u
-  why from (verdict.Unaccepted reason) u = absurd u
-
-  one_why : (from : ℕ) (v w : Verdict) → Why from v → Why from w → v ≡ w
-  one_why from v w (bad_line {o = m} a) (bad_line {o = n} b) =
-      let places = same_place a.part b.part a.own b.own a.offset b.offset a.unread b.unread in
-      ap verdict.BadText (a.is ∙ ap (λ k. from + k) places ∙ sym b.is)
-  one_why from v w (bad_line a) (bad_entry b) = absurd (clash a.part b.part a.own b.own a.offset b.entries a.unread b.read)
-  one_why from v w (bad_entry a) (bad_line b) = absurd (clash b.part a.part b.own a.own b.offset a.entries b.unread a.read)
-  one_why from v w (bad_entry {i = i} a) (bad_entry {i = j} b) =
-      let es = same_entries b.part a.part b.own a.own b.entries a.entries b.read a.read in
-      ap verdict.RefusedAt (once_law p (start p) a.entries i j a.refused (subst (λ xs. IsRefusedAt p (start p) xs j) es b.refused))
-
-module _ (refused_law : NoReplayIsRefused) (once_law : OneEntryIsRefused) (one_reading : ReadingIsOne) (one_unread : UnreadIsOne) (not_read : UnreadIsNotRead) (split : (text : List ℕ) → OneSplit output_mark text) (bytes : List ℕ) (program : OneProgram marker bytes) where
-  moved_output : (f g t u : List ℕ) (p q : Program) (out : List ℕ) → (f ≡ g) × (t ≡ u) × (p ≡ q) → HasReplay p t out → HasReplay q u out
-  moved_output f g t u p q out same h = subst (λ r. HasReplay r u out) same.2 (subst (λ s. HasReplay p s out) same.1 h)
-
-  moved : (f g t u : List ℕ) (p q : Program) (v : Verdict) → (f ≡ g) × (t ≡ u) × (p ≡ q) → Unreplayed p (length f) t v → Unreplayed q (length g) u v
-  moved f g t u p q v same h =
-      subst (λ r. Unreplayed r (length g) u v) same.2
-      (subst (λ s. Unreplayed p (length g) s v) same.1
-      (subst (λ k. Unreplayed p (length k) t v) same.0 h))
-
-  one_text : (v w : Verdict) → RefusesText bytes v → RefusesText bytes w → v ≡ w
-  one_text v w a b =
-      let same = program.same b.front a.front b.text a.text b.program a.program b.has a.has in
-      let own = why refused_law once_law one_reading one_unread not_read a.program a.text (split a.text) (length a.front) in
-      one_why refused_law once_law one_reading one_unread not_read a.program a.text (split a.text) (length a.front) v w
-      (own v a.unreplayed)
-      (own w (moved b.front a.front b.text a.text b.program a.program w same b.unreplayed))
+module _ (bytes : List ℕ) (one : OneReplay bytes) where
+  same_output : (out other : List ℕ) → IsReplayed bytes out → IsReplayed bytes other → out ≡ other
+  same_output out other a b =
+      let same = one.same a.program b.program a.entries b.entries a.config b.config a.replays b.replays in
+      a.shown
+      ∙ ap (λ es. replay_text es a.config (standing a.program a.config)) same.1
+      ∙ ap (λ p. replay_text b.entries a.config (standing p a.config)) same.0
+      ∙ ap (λ c. replay_text b.entries c (standing b.program c)) same.2
+      ∙ sym b.shown
 
   pub one_answer : OneAnswer bytes
   one_answer = record {
-    one_output = λ out other a b.
-        let same = program.same b.front a.front b.text a.text b.program a.program b.has a.has in
-        same_output refused_law once_law one_reading one_unread not_read a.program a.text (split a.text) out other a.replayed (moved_output b.front a.front b.text a.text b.program a.program other same b.replayed);
-    not_both = λ out v a r.
-        ⊎_elim
-        (λ (m : IsMarkedRefusal marker bytes v). program.not_both a.front a.text a.program v a.has m)
-        (λ (t : RefusesText bytes v).
-        let same = program.same t.front a.front t.text a.text t.program a.program t.has a.has in
-        not_replayed refused_law once_law one_reading one_unread not_read a.program a.text (split a.text) (length a.front) out v a.replayed (moved t.front a.front t.text a.text t.program a.program v same t.unreplayed))
-        r;
-    one_refusal = λ v w x y.
-        ⊎_elim
-        (λ (m : IsMarkedRefusal marker bytes v).
-        ⊎_elim (λ (n : IsMarkedRefusal marker bytes w). program.one_refusal v w m n) (λ (t : RefusesText bytes w). absurd (program.not_both t.front t.text t.program v t.has m)) y)
-        (λ (t : RefusesText bytes v).
-        ⊎_elim (λ (n : IsMarkedRefusal marker bytes w). absurd (program.not_both t.front t.text t.program w t.has n)) (λ (u : RefusesText bytes w). one_text v w t u) y)
-        x;
+    one_output = same_output;
+    not_both = λ out v a r. one.not_both a.program a.entries a.config v a.replays r;
+    one_refusal = one.one_refusal;
   }

@@ -1,106 +1,24 @@
 -- What `replay` may answer.
-use Rattle.std.specs.Prelude.{◌≡◌, ◌⊎◌, ◌+◌, ◌≤◌, ℕ, not, List, length, codes, Option, Some, None, if◌then◌else◌}
+use Rattle.std.specs.Prelude.{◌≡◌, ℕ, List}
 use Rattle.pat_model.specs.Programs.{Program}
-use Rattle.pat_model.specs.Configs.{Config, start}
-use Rattle.pat_model.specs.Runs.{Entry, Outcome, EndDone, EndWaiting, replay, has_threads, can_step}
-use Rattle.pat_commits.specs.Refusals.{IsRefusedAt}
-use Rattle.pat_history_text.specs.HistoryText.{marker}
-use Rattle.pat_history_text.specs.Reading.{ReadsAs, Unread}
-use Rattle.pat_marked.specs.Marked.{IsMarked, IsUnmarked}
-use Rattle.pat_marked_programs.specs.MarkedPrograms.{HasProgram, IsMarkedRefusal}
-use Rattle.pat_lines.specs.RunText.{replay_text}
+use Rattle.pat_model.specs.Configs.{Config}
+use Rattle.pat_model.specs.Runs.{Entry}
+use Rattle.pat_marked_histories.specs.RunText.{replay_text}
 use Rattle.pat_front.specs.Lines.{line_of_verdict}
-use Rattle.pat_front.specs.declared.verdict.Verdict.{Verdict}
-use Rattle.pat_front.specs.declared.verdict.Verdict.TheVariants as verdict
 use Rattle.pat_answers.specs.declared.status.Status.{Status}
 use Rattle.pat_answers.specs.declared.status.Status.TheVariants.{Ok, Refused}
+use Rattle.pat_marked_histories.specs.Histories.{standing, Replays, IsReplayRefusal}
 
--- ---- a history
-
--- the history stops before the first line `%%output`, if there is one
-abbrev pub IsHistoryPart : (text part : List ℕ) → Type 0
-IsHistoryPart text part = ((rest : List ℕ) × IsMarked (codes "%%output") text part rest) ⊎ (IsUnmarked (codes "%%output") text × (part ≡ text))
-
--- how a configuration stands: done, waiting, or none of them, where a thread is left and a step is enabled
-abbrev pub standing : Program → Config → Option Outcome
-standing p c = if not (has_threads c.threads) then Some EndDone else if not (can_step p c) then Some EndWaiting else None
-
--- the history leads from the start of the program to a configuration, and this is its output, and how it stands
-pub record IsReplay (p : Program) (es : List Entry) (out : List ℕ) : Type 0 where
-  pub config : Config
-  pub replayed : replay p es ≡ Some config
-  pub shown : out ≡ replay_text es config (standing p config)
-
--- ---- behind a program
-
--- the text spells a history that replays
-pub record HasReplay (p : Program) (text out : List ℕ) : Type 0 where
-  pub part : List ℕ
-  pub own : IsHistoryPart text part
-  pub entries : List Entry
-  pub read : ReadsAs part entries
-  pub replay : IsReplay p entries out
-
--- a line of the text, of which the first byte has this offset, isn't read; it is the first
-pub record HasBadLine (from : ℕ) (text : List ℕ) (at : ℕ) : Type 0 where
-  pub part : List ℕ
-  pub own : IsHistoryPart text part
-  pub offset : ℕ
-  pub is : at ≡ from + offset
-  pub unread : Unread part offset
-
--- the text spells a history whose entries before this one replay, and this one doesn't: it has no step, or a step that isn't enabled then
-pub record HasBadEntry (p : Program) (text : List ℕ) (i : ℕ) : Type 0 where
-  pub part : List ℕ
-  pub own : IsHistoryPart text part
-  pub entries : List Entry
-  pub read : ReadsAs part entries
-  pub refused : IsRefusedAt p (start p) entries i
-
--- why the text isn't replayed
-abbrev pub Unreplayed : Program → (from : ℕ) → (text : List ℕ) → Verdict → Type 0
-Unreplayed p from text (verdict.BadText o) = HasBadLine from text o
-Unreplayed p from text (verdict.RefusedAt i) = HasBadEntry p text i
-Unreplayed p from text _ = ⊥
-
--- ---- whole inputs
-
--- the bytes are the text of a program, and behind it that of a history that replays
+-- the bytes are the text of a program, and behind it that of a history that replays, and this is its output, and how it stands
 pub record IsReplayed (bytes out : List ℕ) : Type 0 where
-  pub front : List ℕ
-  pub text : List ℕ
   pub program : Program
-  pub has : HasProgram marker bytes front text program
-  pub replayed : HasReplay program text out
-
--- the text behind the program isn't replayed
-pub record RefusesText (bytes : List ℕ) (v : Verdict) : Type 0 where
-  pub front : List ℕ
-  pub text : List ℕ
-  pub program : Program
-  pub has : HasProgram marker bytes front text program
-  pub unreplayed : Unreplayed program (length front) text v
-
--- why the bytes are refused
-abbrev pub IsReplayRefusal : List ℕ → Verdict → Type 0
-IsReplayRefusal bytes v = IsMarkedRefusal marker bytes v ⊎ RefusesText bytes v
+  pub entries : List Entry
+  pub config : Config
+  pub replays : Replays bytes program entries config
+  pub shown : out ≡ replay_text entries config (standing program config)
 
 -- the text and the status of `replay` on these bytes
 abbrev pub AllowedReplay : List ℕ → List ℕ → Status → Type 0
 AllowedReplay bytes out Ok = IsReplayed bytes out
 AllowedReplay bytes out (Refused v) = IsReplayRefusal bytes v × (out ≡ line_of_verdict v)
 AllowedReplay bytes out _ = ⊥
-
--- ---- parts of an answer
-
--- what is answered of a text behind a program
-abbrev pub AnswersText : Program → (from : ℕ) → (text out : List ℕ) → Status → Type 0
-AnswersText p from text out Ok = HasReplay p text out
-AnswersText p from text out (Refused v) = Unreplayed p from text v × (out ≡ line_of_verdict v)
-AnswersText p from text out _ = ⊥
-
--- what is answered of a history
-abbrev pub AnswersEntries : Program → List Entry → (out : List ℕ) → Status → Type 0
-AnswersEntries p es out Ok = IsReplay p es out
-AnswersEntries p es out (Refused (verdict.RefusedAt i)) = IsRefusedAt p (start p) es i × (out ≡ line_of_verdict (verdict.RefusedAt i))
-AnswersEntries p es out _ = ⊥

@@ -3,7 +3,6 @@
 
 mod command;
 mod laws;
-mod standing;
 
 pub use command::answer_replay;
 pub use laws::replay_law;

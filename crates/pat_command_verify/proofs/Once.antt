@@ -63,6 +63,7 @@ module _ (none_bad : ValidIsNoneBad) (one_reading : ReadingIsOne) (bytes : List 
   not_accepted p from text (verdict.TooDeep o) a u = absurd u
   not_accepted p from text (verdict.Resolve k s) a u = absurd u
   not_accepted p from text (verdict.RefusedAt i) a u = absurd u
+  not_accepted p from text verdict.TooManyEntries a u = absurd u
   not_accepted p from text (verdict.Unaccepted reason) a u = absurd u
 
   -- what isn't accepted is a line that isn't read, or a derivation that is bad
@@ -79,6 +80,7 @@ module _ (none_bad : ValidIsNoneBad) (one_reading : ReadingIsOne) (bytes : List 
   why p from text (verdict.TooDeep o) u = absurd u
   why p from text (verdict.Resolve k s) u = absurd u
   why p from text (verdict.RefusedAt i) u = absurd u
+  why p from text verdict.TooManyEntries u = absurd u
   why p from text (verdict.Unaccepted reason) u = absurd u
 
   one_why : (p : Program) (from : ℕ) (text : List ℕ) (v w : Verdict) → Why p from text v → Why p from text w → v ≡ w

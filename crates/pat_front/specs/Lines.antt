@@ -62,6 +62,7 @@ verdict_text (verdict.Resolve k s) = rule_words k ++ place_words s
 verdict_text (verdict.BadText o) = codes "bad text at " ++ decimal o
 verdict_text (verdict.Rejected n r) = rejected_words n r
 verdict_text (verdict.RefusedAt i) = codes "refused at entry " ++ decimal i
+verdict_text verdict.TooManyEntries = codes "too many entries"
 verdict_text (verdict.Unaccepted r) = reason_text r
 
 -- the line, with its end

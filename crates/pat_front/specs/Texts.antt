@@ -41,6 +41,7 @@ IsRefusal bytes (verdict.Resolve k s) = (t : Tree) × IsTreeText bytes t × name
 IsRefusal bytes (verdict.BadText o) = ⊥
 IsRefusal bytes (verdict.Rejected n r) = ⊥
 IsRefusal bytes (verdict.RefusedAt i) = ⊥
+IsRefusal bytes verdict.TooManyEntries = ⊥
 IsRefusal bytes (verdict.Unaccepted reason) = ⊥
 
 -- what an error says of the bytes; want of memory says nothing

@@ -28,6 +28,8 @@ pub enum Verdict {
     Rejected(u32, Rule),
     /// The first entry of a history that doesn't fit.
     RefusedAt(u32),
+    /// A history that replays has more entries than are brought into order.
+    TooManyEntries,
     /// It is the text of a program that isn't accepted.
     Unaccepted(Reason),
 }
@@ -66,6 +68,7 @@ fn push_verdict(text: &mut Vec<u8>, verdict: Verdict) -> Result<(), AllocError>
         Verdict::BadText(offset) => push_at(text, b"bad text at ", offset),
         Verdict::Rejected(node, rule) => push_rejected(text, node, rule),
         Verdict::RefusedAt(entry) => push_at(text, b"refused at entry ", entry),
+        Verdict::TooManyEntries => push_words(text, b"too many entries"),
         Verdict::Unaccepted(reason) => push_reason(text, reason),
     }
 }

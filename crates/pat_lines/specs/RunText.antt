@@ -41,3 +41,7 @@ run_text entries c o = history_text entries ++ output_text c.printed ++ line (ou
 -- the text of a replay: the lines that were printed, and how it stands after the history
 abbrev pub replay_text : List Entry → Config → Option Outcome → List ℕ
 replay_text entries c o = flat_map output_line c.printed ++ line (standing_text o (step_count entries) (keys_of c.threads) (length c.live))
+
+-- the text of a history in order: the history, its output, and how it stands
+abbrev pub order_text : List Entry → Config → Option Outcome → List ℕ
+order_text entries c o = history_text entries ++ output_text c.printed ++ line (standing_text o (step_count entries) (keys_of c.threads) (length c.live))

@@ -7,4 +7,4 @@ mod standing;
 
 pub use pat_history::read;
 pub use pat_machine::{Outcome, Remains};
-pub use run_text::{replay_text_of, text_of};
+pub use run_text::{order_text_of, replay_text_of, text_of};

@@ -6,7 +6,7 @@ ghost use Rattle.pat_model.specs.Runs.{IsHistory};
 ghost use Rattle.pat_reduce.specs.Views.{entry_view};
 ghost use Rattle.pat_machine.specs.Gives.{outcome_view};
 ghost use Rattle.pat_machine.specs.Remains.{remains_of};
-ghost use Rattle.pat_lines.specs.RunText.{output_line, output_text, run_text, replay_text};
+ghost use Rattle.pat_lines.specs.RunText.{output_line, output_text, run_text, replay_text, order_text};
 
 use crate::counting::count_steps;
 use crate::standing::push_standing;
@@ -46,6 +46,24 @@ pub fn replay_text_of(
 {
     let mut text = Vec::new(alloc);
     push_lines(&mut text, printed)?;
+    push_standing(&mut text, standing, count_steps(entries), remains)?;
+    Ok(text)
+}
+
+/// The history, the lines printed, and how it stands: its outcome, or none where a thread can go on.
+pub fn order_text_of(
+    alloc: Global,
+    entries: &[Entry],
+    printed: &[Text],
+    remains: &Remains,
+    standing: Option<Outcome>,
+) -> Result<Vec<u8>, AllocError>
+    requires history { IsHistory (map entry_view entries.now) }
+    requires few { length entries.now < 4294967296 }
+    ensures { (c : Config) → c.printed ≡ printed.now → remains_of c ≡ remains.now → IfOk result (λ t. t.items ≡ order_text (map entry_view entries.now) c (option_map outcome_view standing)) }
+{
+    let mut text = pat_history::write(alloc, entries)?;
+    push_output(&mut text, printed)?;
     push_standing(&mut text, standing, count_steps(entries), remains)?;
     Ok(text)
 }

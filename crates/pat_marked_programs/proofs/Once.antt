@@ -40,6 +40,7 @@ module _ (mark bytes : List ℕ) (split : OneSplit mark bytes) (one : (front_byt
   bytes_alone A f t (verdict.Resolve k s) r small m = absurd r
   bytes_alone A f t (verdict.Rejected n q) r small m = absurd r
   bytes_alone A f t (verdict.RefusedAt i) r small m = absurd r
+  bytes_alone A f t verdict.TooManyEntries r small m = absurd r
   bytes_alone A f t (verdict.Unaccepted reason) r small m = absurd r
 
   -- they are too many for what they are, or a program alone
@@ -57,6 +58,7 @@ module _ (mark bytes : List ℕ) (split : OneSplit mark bytes) (one : (front_byt
   bare (verdict.Resolve k s) r = absurd r
   bare (verdict.Rejected n q) r = absurd r
   bare (verdict.RefusedAt i) r = absurd r
+  bare verdict.TooManyEntries r = absurd r
   bare (verdict.Unaccepted reason) r = absurd r
 
   one_bare : (v w : Verdict) → Bare v → Bare w → v ≡ w

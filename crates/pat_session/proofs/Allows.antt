@@ -6,11 +6,11 @@ use Rattle.pat_ports.specs.Bytes.{AppendsFront}
 use Rattle.pat_input.specs.Inputs.{IsInput, limit, whole_limit}
 use Rattle.pat_load.specs.LoadText.{load_text}
 use Rattle.pat_front.specs.declared.verdict.Verdict.{Verdict}
-use Rattle.pat_front.specs.declared.verdict.Verdict.TheVariants.{TooLong, Syntax, NumberTooWide, TooDeep, Resolve, BadText, Rejected, RefusedAt, Unaccepted}
+use Rattle.pat_front.specs.declared.verdict.Verdict.TheVariants.{TooLong, Syntax, NumberTooWide, TooDeep, Resolve, BadText, Rejected, RefusedAt, TooManyEntries, Unaccepted}
 use Rattle.pat_answers.specs.declared.status.Status.{Status}
 use Rattle.pat_answers.specs.declared.status.Status.TheVariants.{Ok, Refused, Usage, ReadFault, WriteFault, NoMemory, Budget, Waiting, Full}
 use Rattle.pat_session.specs.declared.words.Command.{Command}
-use Rattle.pat_session.specs.declared.words.Command.TheVariants.{Check, Derive, Print, Run, Replay, Verify, Load, Help}
+use Rattle.pat_session.specs.declared.words.Command.TheVariants.{Check, Derive, Print, Run, Replay, Order, Verify, Load, Help}
 use Rattle.pat_session.specs.Ports.{IsCutShort, Written}
 use Rattle.pat_answers.specs.Answers.{IsStatusWithin}
 use Rattle.pat_command_print.specs.Allowed.{AllowedPrint}
@@ -25,11 +25,13 @@ use Rattle.pat_command_load.specs.Allowed.{Whole, Summary, RunShows, ShowsOne, A
 use Rattle.pat_command_load.proofs.Statuses.{load_status, run_status}
 use Rattle.pat_command_replay.specs.Allowed.{AllowedReplay}
 use Rattle.pat_command_replay.proofs.Statuses.{replay_status}
+use Rattle.pat_command_order.specs.Allowed.{AllowedOrder}
+use Rattle.pat_command_order.proofs.Statuses.{order_status}
 use Rattle.pat_command_verify.specs.Allowed.{AllowedVerify}
 use Rattle.pat_command_verify.proofs.Statuses.{verify_status}
 use Rattle.pat_session.specs.Allowed.{IsCommand, HasCommand, HasInput, Takes, AllowedTo, limit_of, Allowed, usage_line}
 use Rattle.pat_session.specs.Calls.{ReadsAll}
-use Rattle.pat_session.specs.Answers.{Completes, BreaksOff, Begins, Answers, IsAccepted, AcceptsSafe, ShowsChecked, ShowsDerived, ShowsLoad, ShowsRun, ShowsTree, ShowsReplay, ShowsVerified, ShowsVerdict}
+use Rattle.pat_session.specs.Answers.{Completes, BreaksOff, Begins, Answers, IsAccepted, AcceptsSafe, ShowsChecked, ShowsDerived, ShowsLoad, ShowsRun, ShowsTree, ShowsReplay, ShowsOrder, ShowsVerified, ShowsVerdict}
 use Rattle.pat_session.proofs.OneCommand.{one_command}
 
 -- ---- statuses
@@ -63,6 +65,7 @@ command_status Derive bytes text s a = of_input limit bytes s (derive_status byt
 command_status Print bytes text s a = of_input limit bytes s (print_status bytes text s a)
 command_status (Run o) bytes text s a = of_input limit bytes s (run_status Whole o bytes text s a)
 command_status Replay bytes text s a = of_input whole_limit bytes s (replay_status bytes text s a)
+command_status Order bytes text s a = of_input whole_limit bytes s (order_status bytes text s a)
 command_status Verify bytes text s a = of_input whole_limit bytes s (verify_status bytes text s a)
 command_status (Load n o) bytes text s a = of_input limit (load_text n) s (load_status n o text s a)
 command_status Help bytes text s a = of_ok s a.0
@@ -74,6 +77,7 @@ input_status Derive bytes text s has a = derive_status bytes text s a
 input_status Print bytes text s has a = print_status bytes text s a
 input_status (Run o) bytes text s has a = run_status Whole o bytes text s a
 input_status Replay bytes text s has a = replay_status bytes text s a
+input_status Order bytes text s has a = order_status bytes text s a
 input_status Verify bytes text s has a = verify_status bytes text s a
 input_status (Load n o) bytes text s has a = absurd has
 input_status Help bytes text s has a = absurd has
@@ -106,6 +110,7 @@ is_too_long (Resolve k s) = inr (λ e. let clash : Resolve k s ≡ TooLong = e i
 is_too_long (BadText n) = inr (λ e. let clash : BadText n ≡ TooLong = e in cc)
 is_too_long (Rejected n r) = inr (λ e. let clash : Rejected n r ≡ TooLong = e in cc)
 is_too_long (RefusedAt n) = inr (λ e. let clash : RefusedAt n ≡ TooLong = e in cc)
+is_too_long TooManyEntries = inr (λ e. let clash : TooManyEntries ≡ TooLong = e in cc)
 is_too_long (Unaccepted r) = inr (λ e. let clash : Unaccepted r ≡ TooLong = e in cc)
 
 -- where the bytes are too many, that is what is answered
@@ -312,8 +317,29 @@ module _ (words : List (List ℕ)) (had left old new : Option (List ℕ)) where
         bytes = c.bytes;
         text = c.text;
         input = input;
-        whole = input.all own.has.small;
+        whole = input.all own.replays.has.small;
         replayed = own;
+        written = c.written;
+      }
+
+  -- ---- order
+
+  is_order : (c : Command) (bytes text : List ℕ) (s : Status) → IsCommand Order words → IsCommand c words → AllowedTo c bytes text s → AllowedOrder bytes text s
+  is_order c bytes text s order command a = subst (λ d. AllowedTo d bytes text s) (one_command words c Order command order) a
+
+  -- what is brought into order is the history that was read
+  pub shows_order : (s : Status) → Answers words had left old new s → IsCommand Order words → s ≡ Ok → ShowsOrder had left old new
+  shows_order s a order e =
+      let c : Completes words had left old new Ok = at_status s Ok e a in
+      let k = c.allowed in
+      let own = is_order k.0 c.bytes c.text Ok order k.1 k.2 in
+      let input = c.input Order order in
+      record {
+        bytes = c.bytes;
+        text = c.text;
+        input = input;
+        whole = input.all own.replays.has.small;
+        ordered = own;
         written = c.written;
       }
 

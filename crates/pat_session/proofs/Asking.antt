@@ -15,11 +15,12 @@ use Rattle.pat_options.specs.declared.options.RunOptions.{RunOptions}
 use Rattle.pat_options.specs.Options.{IsWithin}
 use Rattle.pat_command_load.specs.Allowed.{AllowedLoad, Whole, AllowedRun}
 use Rattle.pat_command_replay.specs.Allowed.{AllowedReplay}
+use Rattle.pat_command_order.specs.Allowed.{AllowedOrder}
 use Rattle.pat_command_verify.specs.Allowed.{AllowedVerify}
 use Rattle.pat_session.specs.declared.commands.Asked.{Asked}
 use Rattle.pat_session.specs.declared.commands.Asked.TheVariants as asked
 use Rattle.pat_session.specs.declared.words.Command.{Command}
-use Rattle.pat_session.specs.declared.words.Command.TheVariants.{Check, Derive, Print, Run, Replay, Verify, Load, Help}
+use Rattle.pat_session.specs.declared.words.Command.TheVariants.{Check, Derive, Print, Run, Replay, Order, Verify, Load, Help}
 use Rattle.pat_session.specs.Allowed.{HasInput, Takes, AllowedTo, limit_of}
 use Rattle.pat_session.specs.Asking.{Asks, IsAsked}
 
@@ -35,6 +36,7 @@ module _ {E : Type 0} (c : Command) (bytes : List ℕ) (r : Result Answer E) whe
       go Print h = absurd h
       go (Run o) h = absurd h
       go Replay h = absurd h
+      go Order h = absurd h
       go Verify h = absurd h
       go (Load n u) h = absurd h
       go Help h = absurd h
@@ -48,6 +50,7 @@ module _ {E : Type 0} (c : Command) (bytes : List ℕ) (r : Result Answer E) whe
       go Print h = absurd h
       go (Run o) h = absurd h
       go Replay h = absurd h
+      go Order h = absurd h
       go Verify h = absurd h
       go (Load n u) h = absurd h
       go Help h = absurd h
@@ -61,6 +64,7 @@ module _ {E : Type 0} (c : Command) (bytes : List ℕ) (r : Result Answer E) whe
       go Print h = answer h
       go (Run o) h = absurd h
       go Replay h = absurd h
+      go Order h = absurd h
       go Verify h = absurd h
       go (Load n u) h = absurd h
       go Help h = absurd h
@@ -74,6 +78,7 @@ module _ {E : Type 0} (c : Command) (bytes : List ℕ) (r : Result Answer E) whe
       go Print h = absurd h
       go (Run o) h = subst (λ k. IfOk r (λ a. AllowedRun Whole k bytes a.text.items a.status)) (sym h.0) (answer h.2)
       go Replay h = absurd h
+      go Order h = absurd h
       go Verify h = absurd h
       go (Load n u) h = absurd h
       go Help h = absurd h
@@ -87,6 +92,21 @@ module _ {E : Type 0} (c : Command) (bytes : List ℕ) (r : Result Answer E) whe
       go Print h = absurd h
       go (Run o) h = absurd h
       go Replay h = subst (λ l. IfOk r (λ a. AllowedReplay l a.text.items a.status)) h answer
+      go Order h = absurd h
+      go Verify h = absurd h
+      go (Load n u) h = absurd h
+      go Help h = absurd h
+
+  pub of_order : (read : Vec ℕ Global) → Asks c bytes (asked.Order read) → IfOk r (λ a. AllowedOrder read.items a.text.items a.status) → IfOk r (λ a. AllowedTo c bytes a.text.items a.status)
+  of_order read asks answer = go c asks
+    where
+      go : (d : Command) → Asks d bytes (asked.Order read) → IfOk r (λ a. AllowedTo d bytes a.text.items a.status)
+      go Check h = absurd h
+      go Derive h = absurd h
+      go Print h = absurd h
+      go (Run o) h = absurd h
+      go Replay h = absurd h
+      go Order h = subst (λ l. IfOk r (λ a. AllowedOrder l a.text.items a.status)) h answer
       go Verify h = absurd h
       go (Load n u) h = absurd h
       go Help h = absurd h
@@ -100,6 +120,7 @@ module _ {E : Type 0} (c : Command) (bytes : List ℕ) (r : Result Answer E) whe
       go Print h = absurd h
       go (Run o) h = absurd h
       go Replay h = absurd h
+      go Order h = absurd h
       go Verify h = subst (λ l. IfOk r (λ a. AllowedVerify l a.text.items a.status)) h answer
       go (Load n u) h = absurd h
       go Help h = absurd h
@@ -113,6 +134,7 @@ module _ {E : Type 0} (c : Command) (bytes : List ℕ) (r : Result Answer E) whe
       go Print h = absurd h
       go (Run o) h = absurd h
       go Replay h = absurd h
+      go Order h = absurd h
       go Verify h = absurd h
       go (Load n o) h =
           subst (λ k. IfOk r (λ a. AllowedLoad k o a.text.items a.status)) (sym h.0)
@@ -126,6 +148,7 @@ check_read input (Derive, bytes, h) = absurd h
 check_read input (Print, bytes, h) = absurd h
 check_read input (Run o, bytes, h) = absurd h
 check_read input (Replay, bytes, h) = absurd h
+check_read input (Order, bytes, h) = absurd h
 check_read input (Verify, bytes, h) = absurd h
 check_read input (Load n o, bytes, h) = absurd h
 check_read input (Help, bytes, h) = absurd h
@@ -136,6 +159,7 @@ derive_read input (Derive, bytes, h) = (bytes, h)
 derive_read input (Print, bytes, h) = absurd h
 derive_read input (Run o, bytes, h) = absurd h
 derive_read input (Replay, bytes, h) = absurd h
+derive_read input (Order, bytes, h) = absurd h
 derive_read input (Verify, bytes, h) = absurd h
 derive_read input (Load n o, bytes, h) = absurd h
 derive_read input (Help, bytes, h) = absurd h
@@ -146,6 +170,7 @@ print_read input (Derive, bytes, h) = absurd h
 print_read input (Print, bytes, h) = (bytes, h)
 print_read input (Run o, bytes, h) = absurd h
 print_read input (Replay, bytes, h) = absurd h
+print_read input (Order, bytes, h) = absurd h
 print_read input (Verify, bytes, h) = absurd h
 print_read input (Load n o, bytes, h) = absurd h
 print_read input (Help, bytes, h) = absurd h
@@ -156,6 +181,7 @@ run_read options input (Derive, bytes, h) = absurd h
 run_read options input (Print, bytes, h) = absurd h
 run_read options input (Run o, bytes, h) = (bytes, h.2)
 run_read options input (Replay, bytes, h) = absurd h
+run_read options input (Order, bytes, h) = absurd h
 run_read options input (Verify, bytes, h) = absurd h
 run_read options input (Load n o, bytes, h) = absurd h
 run_read options input (Help, bytes, h) = absurd h
@@ -167,6 +193,7 @@ run_within options input (Derive, bytes, h) = absurd h
 run_within options input (Print, bytes, h) = absurd h
 run_within options input (Run o, bytes, h) = h.1
 run_within options input (Replay, bytes, h) = absurd h
+run_within options input (Order, bytes, h) = absurd h
 run_within options input (Verify, bytes, h) = absurd h
 run_within options input (Load n o, bytes, h) = absurd h
 run_within options input (Help, bytes, h) = absurd h
@@ -178,6 +205,7 @@ load_within size options (Derive, bytes, h) = absurd h
 load_within size options (Print, bytes, h) = absurd h
 load_within size options (Run o, bytes, h) = absurd h
 load_within size options (Replay, bytes, h) = absurd h
+load_within size options (Order, bytes, h) = absurd h
 load_within size options (Verify, bytes, h) = absurd h
 load_within size options (Load n o, bytes, h) = (h.2, h.3)
 load_within size options (Help, bytes, h) = absurd h

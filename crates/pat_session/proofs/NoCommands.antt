@@ -4,7 +4,7 @@ use Rattle.std.specs.Prelude.{codes}
 use Rattle.std.proofs.lemmas.List.{take_rest}
 use Rattle.pat_options.specs.declared.options.RunOptions.{RunOptions}
 use Rattle.pat_options.specs.Options.{options_of}
-use Rattle.pat_session.specs.declared.words.Command.TheVariants.{Check, Derive, Print, Run, Replay, Verify, Load, Help}
+use Rattle.pat_session.specs.declared.words.Command.TheVariants.{Check, Derive, Print, Run, Replay, Order, Verify, Load, Help}
 use Rattle.pat_session.specs.Allowed.{HasCommand, size_of}
 
 abbrev first_length : List (List ℕ) → ℕ
@@ -34,6 +34,7 @@ no_options_here w ws run load some (Check, h) = let one = ap length h in omega (
 no_options_here w ws run load some (Derive, h) = let one = ap length h in omega (arith, some, one)
 no_options_here w ws run load some (Print, h) = let one = ap length h in omega (arith, some, one)
 no_options_here w ws run load some (Replay, h) = let one = ap length h in omega (arith, some, one)
+no_options_here w ws run load some (Order, h) = let one = ap length h in omega (arith, some, one)
 no_options_here w ws run load some (Verify, h) = let one = ap length h in omega (arith, some, one)
 no_options_here w ws run load some (Help, h) = let one = ap length h in omega (arith, some, one)
 no_options_here w ws run load some (Run o, h) = run (ap first_word h.1)
@@ -45,6 +46,7 @@ no_such_options ws none (Check, h) = let clash : 3 ≡ 5 = ap first_length h in 
 no_such_options ws none (Derive, h) = let clash : 3 ≡ 6 = ap first_length h in omega (arith, clash)
 no_such_options ws none (Print, h) = let clash : 3 ≡ 5 = ap first_length h in omega (arith, clash)
 no_such_options ws none (Replay, h) = let clash : 3 ≡ 6 = ap first_length h in omega (arith, clash)
+no_such_options ws none (Order, h) = let clash : 3 ≡ 5 = ap first_length h in omega (arith, clash)
 no_such_options ws none (Verify, h) = let clash : 3 ≡ 6 = ap first_length h in omega (arith, clash)
 no_such_options ws none (Help, h) = let clash : 3 ≡ 4 = ap first_length h in omega (arith, clash)
 no_such_options ws none (Run o, h) = let both : None ≡ Some o = sym none ∙ ap options_of (ap rest_words h.1) ∙ h.2 in cc
@@ -63,6 +65,7 @@ loading ws (Check, h) = let clash : 4 ≡ 5 = ap first_length h in absurd (omega
 loading ws (Derive, h) = let clash : 4 ≡ 6 = ap first_length h in absurd (omega (arith, clash))
 loading ws (Print, h) = let clash : 4 ≡ 5 = ap first_length h in absurd (omega (arith, clash))
 loading ws (Replay, h) = let clash : 4 ≡ 6 = ap first_length h in absurd (omega (arith, clash))
+loading ws (Order, h) = let clash : 4 ≡ 5 = ap first_length h in absurd (omega (arith, clash))
 loading ws (Verify, h) = let clash : 4 ≡ 6 = ap first_length h in absurd (omega (arith, clash))
 loading ws (Help, h) = let clash : 108 ≡ 104 = ap first_byte h in absurd (omega (arith, clash))
 loading ws (Run o, h) = let clash : 4 ≡ 3 = ap first_length h.1 in absurd (omega (arith, clash))
@@ -87,15 +90,16 @@ no_load_options w ws none h =
     cc
 
 -- another word alone
-pub no_such_word : (w : List ℕ) → (w ≡ codes "run" → ⊥) → (w ≡ codes "load" → ⊥) → (w ≡ codes "check" → ⊥) → (w ≡ codes "derive" → ⊥) → (w ≡ codes "print" → ⊥) → (w ≡ codes "replay" → ⊥) → (w ≡ codes "verify" → ⊥) → (w ≡ codes "help" → ⊥) → HasCommand (w ∷ []) → ⊥
-no_such_word w run load check derive print replay verify help (Check, h) = check (ap first_word h)
-no_such_word w run load check derive print replay verify help (Derive, h) = derive (ap first_word h)
-no_such_word w run load check derive print replay verify help (Print, h) = print (ap first_word h)
-no_such_word w run load check derive print replay verify help (Replay, h) = replay (ap first_word h)
-no_such_word w run load check derive print replay verify help (Verify, h) = verify (ap first_word h)
-no_such_word w run load check derive print replay verify help (Help, h) = help (ap first_word h)
-no_such_word w run load check derive print replay verify help (Run o, h) = run (ap first_word h.1)
-no_such_word w run load check derive print replay verify help (Load n o, h) = load (ap first_word h.words_are)
+pub no_such_word : (w : List ℕ) → (w ≡ codes "run" → ⊥) → (w ≡ codes "load" → ⊥) → (w ≡ codes "check" → ⊥) → (w ≡ codes "derive" → ⊥) → (w ≡ codes "print" → ⊥) → (w ≡ codes "replay" → ⊥) → (w ≡ codes "order" → ⊥) → (w ≡ codes "verify" → ⊥) → (w ≡ codes "help" → ⊥) → HasCommand (w ∷ []) → ⊥
+no_such_word w run load check derive print replay order verify help (Check, h) = check (ap first_word h)
+no_such_word w run load check derive print replay order verify help (Derive, h) = derive (ap first_word h)
+no_such_word w run load check derive print replay order verify help (Print, h) = print (ap first_word h)
+no_such_word w run load check derive print replay order verify help (Replay, h) = replay (ap first_word h)
+no_such_word w run load check derive print replay order verify help (Order, h) = order (ap first_word h)
+no_such_word w run load check derive print replay order verify help (Verify, h) = verify (ap first_word h)
+no_such_word w run load check derive print replay order verify help (Help, h) = help (ap first_word h)
+no_such_word w run load check derive print replay order verify help (Run o, h) = run (ap first_word h.1)
+no_such_word w run load check derive print replay order verify help (Load n o, h) = load (ap first_word h.words_are)
 
 -- the first word and those behind it
 pub first_and_rest : {S : Type 0} (bytes : S → List ℕ) (ws : List S) (none word : S) → 1 ≤ length ws → word ≡ get_or ws 0 none → bytes word ∷ map bytes (take (length ws - 1) (drop 1 ws)) ≡ map bytes ws

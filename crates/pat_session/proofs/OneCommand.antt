@@ -4,7 +4,7 @@ use Rattle.std.specs.Prelude.{bytes_eq, codes, option_map, if◌then◌else◌}
 use Rattle.pat_options.specs.declared.options.RunOptions.{RunOptions}
 use Rattle.pat_options.specs.Options.{options_of}
 use Rattle.pat_session.specs.declared.words.Command.{Command}
-use Rattle.pat_session.specs.declared.words.Command.TheVariants.{Check, Derive, Print, Run, Replay, Verify, Load, Help}
+use Rattle.pat_session.specs.declared.words.Command.TheVariants.{Check, Derive, Print, Run, Replay, Order, Verify, Load, Help}
 use Rattle.pat_session.specs.Allowed.{IsCommand, HasCommand, HasInput, AsksInput, size_of}
 
 abbrev load_by : Option ℕ → Option RunOptions → Option Command
@@ -24,6 +24,7 @@ asked_by (w ∷ ws) =
     else if bytes_eq w (codes "print") then Some Print
     else if bytes_eq w (codes "run") then option_map (λ o. Run o) (options_of ws)
     else if bytes_eq w (codes "replay") then Some Replay
+    else if bytes_eq w (codes "order") then Some Order
     else if bytes_eq w (codes "verify") then Some Verify
     else if bytes_eq w (codes "load") then loading ws
     else if bytes_eq w (codes "help") then Some Help
@@ -35,6 +36,7 @@ asked_for words Derive p = ap asked_by p
 asked_for words Print p = ap asked_by p
 asked_for words (Run o) p = ap asked_by p.1 ∙ ap (λ k. option_map (λ (u : RunOptions). Run u) k) p.2
 asked_for words Replay p = ap asked_by p
+asked_for words Order p = ap asked_by p
 asked_for words Verify p = ap asked_by p
 asked_for words (Load n o) p = ap asked_by p.words_are ∙ ap (λ k. load_by k (options_of p.rest)) p.spelled ∙ ap (λ k. load_by (Some n) k) p.options
 asked_for words Help p = ap asked_by p

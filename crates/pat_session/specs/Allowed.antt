@@ -7,15 +7,16 @@ use Rattle.pat_command_derive.specs.Allowed.{AllowedDerive}
 use Rattle.pat_command_print.specs.Allowed.{AllowedPrint}
 use Rattle.pat_command_load.specs.Allowed.{AllowedLoad, Whole, AllowedRun}
 use Rattle.pat_command_replay.specs.Allowed.{AllowedReplay}
+use Rattle.pat_command_order.specs.Allowed.{AllowedOrder}
 use Rattle.pat_command_verify.specs.Allowed.{AllowedVerify}
 use Rattle.pat_options.specs.declared.options.RunOptions.{RunOptions}
 use Rattle.pat_options.specs.Options.{IsWithin, number_of, options_of}
 use Rattle.pat_input.specs.Inputs.{IsInputWithin, limit, whole_limit}
 use Rattle.pat_session.specs.declared.words.Command.{Command}
-use Rattle.pat_session.specs.declared.words.Command.TheVariants.{Check, Derive, Print, Run, Replay, Verify, Load, Help}
+use Rattle.pat_session.specs.declared.words.Command.TheVariants.{Check, Derive, Print, Run, Replay, Order, Verify, Load, Help}
 
 abbrev pub usage_line : List ℕ
-usage_line = codes "usage: pat check|derive|verify|print|run|replay|load|help" ++ 10 ∷ []
+usage_line = codes "usage: pat check|derive|verify|print|run|replay|order|load|help" ++ 10 ∷ []
 
 -- ---- words
 
@@ -43,6 +44,7 @@ IsCommand Derive words = words ≡ codes "derive" ∷ []
 IsCommand Print words = words ≡ codes "print" ∷ []
 IsCommand (Run o) words = (rest : List (List ℕ)) × (words ≡ codes "run" ∷ rest) × (options_of rest ≡ Some o)
 IsCommand Replay words = words ≡ codes "replay" ∷ []
+IsCommand Order words = words ≡ codes "order" ∷ []
 IsCommand Verify words = words ≡ codes "verify" ∷ []
 IsCommand (Load n o) words = IsLoad n o words
 IsCommand Help words = words ≡ codes "help" ∷ []
@@ -76,6 +78,7 @@ limit_of Derive = limit
 limit_of Print = limit
 limit_of (Run o) = limit
 limit_of Replay = whole_limit
+limit_of Order = whole_limit
 limit_of Verify = whole_limit
 limit_of (Load n o) = 0
 limit_of Help = 0
@@ -96,6 +99,7 @@ AllowedTo Derive bytes text status = AllowedDerive bytes text status
 AllowedTo Print bytes text status = AllowedPrint bytes text status
 AllowedTo (Run o) bytes text status = AllowedRun Whole o bytes text status
 AllowedTo Replay bytes text status = AllowedReplay bytes text status
+AllowedTo Order bytes text status = AllowedOrder bytes text status
 AllowedTo Verify bytes text status = AllowedVerify bytes text status
 AllowedTo (Load n o) bytes text status = AllowedLoad n o text status
 AllowedTo Help bytes text status = (status ≡ Ok) × (text ≡ usage_line)

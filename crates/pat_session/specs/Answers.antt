@@ -16,6 +16,7 @@ use Rattle.pat_options.specs.declared.options.RunOptions.{RunOptions}
 use Rattle.pat_command_load.specs.Allowed.{Whole, Summary, RunShows}
 use Rattle.pat_load.specs.LoadText.{load_text}
 use Rattle.pat_command_replay.specs.Allowed.{IsReplayed}
+use Rattle.pat_command_order.specs.Allowed.{IsOrdered}
 use Rattle.pat_command_verify.specs.Allowed.{IsVerified}
 use Rattle.pat_derivation_text.specs.DerivationText.{derivation_text}
 use Rattle.pat_command_check.specs.Inputs.{IsAcceptedText}
@@ -140,6 +141,15 @@ pub record ShowsReplay (had left old new : Option (List ℕ)) : Type 0 where
   pub input : IsInputWithin whole_limit had left bytes
   pub whole : IsAtEnd left
   pub replayed : IsReplayed bytes text
+  pub written : Appends old new text
+
+-- so, and the sink took the text of that history with its entries in order
+pub record ShowsOrder (had left old new : Option (List ℕ)) : Type 0 where
+  pub bytes : List ℕ
+  pub text : List ℕ
+  pub input : IsInputWithin whole_limit had left bytes
+  pub whole : IsAtEnd left
+  pub ordered : IsOrdered bytes text
   pub written : Appends old new text
 
 -- all that the source had was read and is the text of a program, and behind it that of a derivation which is valid, so the program is

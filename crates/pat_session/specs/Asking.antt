@@ -5,7 +5,7 @@ use Rattle.pat_input.specs.Inputs.{IsRead}
 use Rattle.pat_session.specs.declared.commands.Asked.{Asked}
 use Rattle.pat_session.specs.declared.commands.Asked.TheVariants as asked
 use Rattle.pat_session.specs.declared.words.Command.{Command}
-use Rattle.pat_session.specs.declared.words.Command.TheVariants.{Check, Derive, Print, Run, Replay, Verify, Load, Help}
+use Rattle.pat_session.specs.declared.words.Command.TheVariants.{Check, Derive, Print, Run, Replay, Order, Verify, Load, Help}
 
 -- it is what the command asks of these bytes
 abbrev pub Asks : Command → List ℕ → Asked → Type 0
@@ -14,6 +14,7 @@ Asks Derive bytes (asked.Derive input) = IsRead bytes input
 Asks Print bytes (asked.Print input) = IsRead bytes input
 Asks (Run o) bytes (asked.Run options input) = (o ≡ options) × IsWithin options × IsRead bytes input
 Asks Replay bytes (asked.Replay read) = read.items ≡ bytes
+Asks Order bytes (asked.Order read) = read.items ≡ bytes
 Asks Verify bytes (asked.Verify read) = read.items ≡ bytes
 Asks (Load n o) bytes (asked.Load size options) = (n ≡ size) × (o ≡ options) × (size ≤ 1000) × IsWithin options
 Asks c bytes a = ⊥
@@ -34,6 +35,7 @@ IsOfProgram Derive = Unit {0}
 IsOfProgram Print = Unit {0}
 IsOfProgram (Run o) = Unit {0}
 IsOfProgram Replay = ⊥
+IsOfProgram Order = ⊥
 IsOfProgram Verify = ⊥
 IsOfProgram (Load n o) = ⊥
 IsOfProgram Help = ⊥
@@ -41,5 +43,6 @@ IsOfProgram Help = ⊥
 -- or a program, and a text behind it
 abbrev pub IsOfTwoParts : Command → Type 0
 IsOfTwoParts Replay = Unit {0}
+IsOfTwoParts Order = Unit {0}
 IsOfTwoParts Verify = Unit {0}
 IsOfTwoParts _ = ⊥

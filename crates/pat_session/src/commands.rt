@@ -12,6 +12,7 @@ use pat_answers::Answer;
 use pat_command_check::answer_check;
 use pat_command_derive::answer_derive;
 use pat_command_load::{Detail, Finished, answer_load, answer_run};
+use pat_command_order::answer_order;
 use pat_command_print::answer_print;
 use pat_command_replay::answer_replay;
 use pat_command_verify::answer_verify;
@@ -28,6 +29,7 @@ pub enum Asked {
     Print(Input),
     Run(RunOptions, Input),
     Replay(Vec<u8>),
+    Order(Vec<u8>),
     Verify(Vec<u8>),
     Load(u32, RunOptions),
 }
@@ -48,6 +50,7 @@ pub fn answer_to<F: Fn(Accepted, RunOptions) -> Result<Finished, AllocError>>(
         Asked::Print(input) => answer_print(alloc, input),
         Asked::Run(options, input) => answer_run(alloc, run, Detail::Whole, options, input),
         Asked::Replay(bytes) => answer_replay(alloc, bytes.as_slice()),
+        Asked::Order(bytes) => answer_order(alloc, bytes.as_slice()),
         Asked::Verify(bytes) => answer_verify(alloc, bytes.as_slice()),
         Asked::Load(size, options) => answer_load(alloc, run, size, options),
     }
@@ -70,6 +73,7 @@ pub fn read_asked<S: Source>(
         Command::Load(size, options) => Ok(Asked::Load(size, options)),
         Command::Help => unreachable!(),
         Command::Replay => read_two_parts(alloc, command, source),
+        Command::Order => read_two_parts(alloc, command, source),
         Command::Verify => read_two_parts(alloc, command, source),
         _ => read_program(alloc, command, source),
     }
@@ -126,6 +130,7 @@ fn asked_of_two_parts(command: Command, bytes: Vec<u8>) -> Asked
 {
     match command {
         Command::Replay => Asked::Replay(bytes),
+        Command::Order => Asked::Order(bytes),
         Command::Verify => Asked::Verify(bytes),
         _ => unreachable!(),
     }

@@ -4,7 +4,7 @@ ghost use Rattle.pat_ports.specs.Causes.{Raised};
 ghost use Rattle.pat_ports.specs.Ends.{EndsOnce, EndsThere};
 ghost use Rattle.pat_front.specs.declared.verdict.Verdict.{Verdict};
 ghost use Rattle.pat_session.specs.Allowed.{IsCommand, HasCommand, HasBounds, HasInput, AsksInput};
-ghost use Rattle.pat_session.specs.Answers.{Answers, Begins, IsAccepted, IsHelped, AcceptsSafe, ShowsChecked, ShowsDerived, ShowsLoad, ShowsRun, ShowsTree, ShowsReplay, ShowsVerified, ShowsVerdict};
+ghost use Rattle.pat_session.specs.Answers.{Answers, Begins, IsAccepted, IsHelped, AcceptsSafe, ShowsChecked, ShowsDerived, ShowsLoad, ShowsRun, ShowsTree, ShowsReplay, ShowsOrder, ShowsVerified, ShowsVerdict};
 ghost use Rattle.pat_options.specs.Options.{IsWithin};
 ghost use Rattle.pat_command_load.specs.Runners.{RunGives, IsRunner};
 ghost use Rattle.pat_options.specs.declared.options.RunOptions.{RunOptions};
@@ -27,7 +27,7 @@ use std::alloc::{AllocError, Global};
 use std::sync::Wait;
 use std::thread::Threads;
 
-const USAGE: &[u8] = b"usage: pat check|derive|verify|print|run|replay|load|help\n";
+const USAGE: &[u8] = b"usage: pat check|derive|verify|print|run|replay|order|load|help\n";
 
 /// Reads the words and the source, does what they ask, and writes the whole answer. A run by several workers passes the gate and may
 /// wait; all else is answered as by `pat_alone`, which waits for nobody.
@@ -77,6 +77,9 @@ pub fn pat<R: Threads + Wait + Sync, S: Source, K: Sink, G: Gate>(
 
     // What a replay wrote: the output and the standing of just the history that was read, after the program that was read.
     ensures replayed { IsCommand Command.Replay (map string_bytes words.now) → result ≡ Status.Ok → ShowsReplay (S.rest source.old) (S.rest source.new) (K.taken sink.old) (K.taken sink.new) }
+
+    // What an ordering wrote: the text of that history with its entries in order, which leads to the same.
+    ensures ordered { IsCommand Command.Order (map string_bytes words.now) → result ≡ Status.Ok → ShowsOrder (S.rest source.old) (S.rest source.new) (K.taken sink.old) (K.taken sink.new) }
 
     // A run of the generated program, which is safe.
     ensures loaded { (size : ℕ) (options : RunOptions) → IsCommand (Command.Load size options) (map string_bytes words.now) → IsAccepted result → ShowsLoad size options (K.taken sink.old) (K.taken sink.new) result }
@@ -135,6 +138,9 @@ pub fn pat_alone<S: Source, K: Sink>(
 
     // What a replay wrote: the output and the standing of just the history that was read, after the program that was read.
     ensures replayed { IsCommand Command.Replay (map string_bytes words.now) → result ≡ Status.Ok → ShowsReplay (S.rest source.old) (S.rest source.new) (K.taken sink.old) (K.taken sink.new) }
+
+    // What an ordering wrote: the text of that history with its entries in order, which leads to the same.
+    ensures ordered { IsCommand Command.Order (map string_bytes words.now) → result ≡ Status.Ok → ShowsOrder (S.rest source.old) (S.rest source.new) (K.taken sink.old) (K.taken sink.new) }
 
     // A run of the generated program, which is safe.
     ensures loaded { (size : ℕ) (options : RunOptions) → IsCommand (Command.Load size options) (map string_bytes words.now) → IsAccepted result → ShowsLoad size options (K.taken sink.old) (K.taken sink.new) result }

@@ -18,6 +18,8 @@ pub enum Command {
     Run(RunOptions),
     /// Replay a history of a program.
     Replay,
+    /// Bring a history of a program into order.
+    Order,
     /// Judge a derivation of a program.
     Verify,
     /// Run the generated program of this size.
@@ -134,6 +136,9 @@ fn command_alone(word: &[u8]) -> Option<Command>
     }
     if word == b"replay".as_slice() {
         return Some(Command::Replay);
+    }
+    if word == b"order".as_slice() {
+        return Some(Command::Order);
     }
     if word == b"verify".as_slice() {
         return Some(Command::Verify);

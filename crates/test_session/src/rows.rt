@@ -15,7 +15,11 @@ const FIRST: &[u8] = b"def main(): Unit { let x = 2 in print(x * 21) }\n";
 
 const FIRST_TEXT: &[u8] = b"%%history\n0 0 2 print\n0 0 0 end\n%%output\nout 42\ndone 4\n";
 
-const USAGE: &[u8] = b"usage: pat check|derive|verify|print|run|replay|load|help\n";
+// Threads 1 and 2 wait; thread 0 goes on behind a step of thread 1, and ends behind one of thread 2.
+const WAITS_BETWEEN: &[u8] =
+    b"interface I { m() }\ndef wait(a: I?, b: I!m): Unit { guard a : m { receive m() from c -> free(c); b ! m() } }\ndef main(): Unit { let a = new[I] in let b = new[I] in spawn { wait(a, b) }; spawn { wait(b, a) } }\n%%history\n0 0 1 new\n0 0 2 new\n0 0 2 spawn\n0 1 1 -\n0 0 1 spawn\n0 2 1 -\n0 0 0 end\n%%output\nwaiting 13 1 2\n";
+
+const USAGE: &[u8] = b"usage: pat check|derive|verify|print|run|replay|order|load|help\n";
 
 fn bad(offset: u32) -> Status {
     Status::Refused(Verdict::BadText(offset))
@@ -215,13 +219,15 @@ pub fn words_that_are_no_command<R: Abort + Threads + Wait + Sync>(
     rt: &R,
     alloc: Global,
 ) -> Result<(), Fail> {
-    let rows: [&[&str]; 28] = [
+    let rows: [&[&str]; 30] = [
         &[],
         &["run", "run"],
         &["runs"],
         &["check", "run"],
         &["print", "run"],
         &["replay", "--steps", "1"],
+        &["order", "order"],
+        &["orders"],
         &["run", "--steps"],
         &["run", "--steps", "1000001"],
         &["run", "--steps", "00000001"],
@@ -376,6 +382,58 @@ pub fn replay_rows<R: Abort + Threads + Wait + Sync>(rt: &R, alloc: Global) -> R
         ),
     ];
     try_rows(rt, alloc, "replay", &rows)
+}
+
+pub fn order_rows<R: Abort + Threads + Wait + Sync>(rt: &R, alloc: Global) -> Result<(), Fail> {
+    let rows: [(&[u8], Status, &[u8]); 10] = [
+        (
+            WAITS_BETWEEN,
+            Status::Ok,
+            b"%%history\n0 0 1 new\n0 0 2 new\n0 0 2 spawn\n0 0 1 spawn\n0 0 0 end\n0 1 1 -\n0 2 1 -\n%%output\nwaiting 13 1 2\n",
+        ),
+        (
+            b"def main(): Unit { spawn { print(1) }; print(2) }\n%%history\n0 0 1 spawn\n1 1 0 print\n0 0 1 print\n1 1 0 end\n0 0 0 end\n",
+            Status::Ok,
+            b"%%history\n0 0 1 spawn\n1 1 0 print\n0 0 1 print\n0 0 0 end\n1 1 0 end\n%%output\nout 1\nout 2\ndone 7\n",
+        ),
+        (
+            b"def main(): Unit { spawn { () } }\n%%history\n0 0 0 spawn\n0 1 0 end\n",
+            Status::Ok,
+            b"%%history\n0 0 0 spawn\n0 1 0 end\n%%output\nopen 2\n",
+        ),
+        (
+            b"def main(): Unit { print(7) }\n%%history\n3 0 0 print\n%%output\nwhatever\n%%history\n",
+            Status::Ok,
+            b"%%history\n3 0 0 print\n%%output\nout 7\nopen 1\n",
+        ),
+        (
+            b"def main(): Unit { () }\n%%history\n",
+            Status::Ok,
+            b"%%history\n%%output\nopen 0\n",
+        ),
+        (
+            b"def main(): Unit { () }\n%%history\n0 0 0 end\n0 0 0 end\n",
+            refused(1),
+            b"refused at entry 1\n",
+        ),
+        (
+            b"def main(): Unit { spawn { () } }\n%%history\n0 1 0 end\n0 0 0 spawn\n",
+            refused(0),
+            b"refused at entry 0\n",
+        ),
+        (
+            b"def main(): Unit { () }\n%%history\n0 0 00 end\n",
+            bad(34),
+            b"bad text at 34\n",
+        ),
+        (b"def main(): Unit { () }\n", bad(24), b"bad text at 24\n"),
+        (
+            b"def main() Unit { () }\n%%history\nnone\n",
+            Status::Refused(Verdict::Syntax(11)),
+            b"syntax error at 11\n",
+        ),
+    ];
+    try_rows(rt, alloc, "order", &rows)
 }
 
 // A program of so many lets in a row.

@@ -11,6 +11,7 @@ fn calls(rt: HostRuntime) -> Result<(), Fail> {
     rows::words_that_are_no_command(&rt, alloc)?;
     rows::calls_of_several_words(&rt, alloc)?;
     rows::replay_rows(&rt, alloc)?;
+    rows::order_rows(&rt, alloc)?;
     rows::an_entry_has_256_steps_at_most(&rt, alloc)?;
     rows::a_program_has_1048576_bytes_at_most(&rt, alloc)?;
     rows::each_read_and_each_write_fails_in_turn(&rt, alloc)?;

@@ -1,20 +1,12 @@
-use Rattle.std.proofs.Common.{drop, rules, subst}
-use Rattle.std.specs.Prelude.{IfOk}
-use Rattle.std.proofs.lemmas.List.{take_rest}
-use Rattle.pat_core.specs.Views.{program_view}
-use Rattle.pat_history_text.specs.HistoryText.{marker}
-use Rattle.pat_marked_programs.specs.MarkedPrograms.{IsMarkedRefusal}
-use Rattle.pat_command_replay.specs.Allowed.{AnswersText}
-use Rattle.pat_command_replay.proofs.Answering.{answered, refused}
+use Rattle.std.proofs.Common.{rules}
+use Rattle.pat_marked_histories.specs.Histories.{IsReplayRefusal}
+use Rattle.pat_command_replay.proofs.Answering.{refused}
 use Rattle.pat_command_replay.proofs.command.answer_replay.Goals as goal
 
 pub returns-in-Ok : goal.returns-in-Ok
-returns-in-Ok c =
-    let p = program_view c.in-Ok.program in
-    let own = subst (λ l. IfOk c.replay_text.result (λ a. AnswersText p c.in-Ok.at l a.text.items a.status)) (take_rest c.args.bytes.now c.in-Ok.at) c.replay_text.ensures in
-    answered c.args.bytes.now c.in-Ok.at (drop c.in-Ok.at c.args.bytes.now) p c.replay_text.result c.in-Ok.ensures.program c.in-Ok.ensures.within own
+returns-in-Ok c = c.shown-answer.ensures c.args.bytes.now c.in-Ok.ensures.gives
 
 pub returns-in-Err-Refused : goal.returns-in-Err-Refused
 returns-in-Err-Refused c =
-    let why : IsMarkedRefusal marker c.args.bytes.now c.in-Err-Refused.verdict = search rules in
+    let why : IsReplayRefusal c.args.bytes.now c.in-Err-Refused.verdict = search rules in
     refused c.args.bytes.now c.in-Err-Refused.verdict c.verdict_answer.result why c.verdict_answer.ensures

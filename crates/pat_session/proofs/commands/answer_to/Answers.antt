@@ -1,6 +1,6 @@
 use Rattle.std.proofs.Common.{sym, subst}
 use Rattle.pat_session.specs.Asking.{Asks, IsAsked}
-use Rattle.pat_session.proofs.Asking.{of_check, of_derive, of_print, of_run, of_load, of_replay, check_read, derive_read, print_read, run_read, run_within, load_within}
+use Rattle.pat_session.proofs.Asking.{of_check, of_derive, of_print, of_run, of_load, of_replay, of_order, check_read, derive_read, print_read, run_read, run_within, load_within}
 use Rattle.pat_session.proofs.commands.answer_to.Goals as goal
 
 pub answer_check-requires : goal.answer_check-requires

@@ -1,5 +1,5 @@
 use Rattle.std.proofs.Common.{map, string_bytes}
-use Rattle.pat_session.proofs.Allows.{usage_only, accepts_safe, shows_checked, shows_derived, shows_load, shows_run, shows_tree, shows_replay, shows_verified, shows_verdict}
+use Rattle.pat_session.proofs.Allows.{usage_only, accepts_safe, shows_checked, shows_derived, shows_load, shows_run, shows_tree, shows_replay, shows_order, shows_verified, shows_verdict}
 use Rattle.pat_session.proofs.session.pat.Goals as goal
 
 pub returns-clause-read_fault : goal.returns-clause-read_fault
@@ -34,6 +34,9 @@ returns-clause-verified g c = shows_verified (map string_bytes c.args.words.now)
 
 pub returns-clause-replayed : goal.returns-clause-replayed
 returns-clause-replayed g c = shows_replay (map string_bytes c.args.words.now) (g.S.Source.rest c.args.source.now) (g.S.Source.rest c.dispatch.new.source) (g.K.Sink.taken c.args.sink.now) (g.K.Sink.taken c.dispatch.new.sink) c.dispatch.result c.dispatch.ensures.call.output
+
+pub returns-clause-ordered : goal.returns-clause-ordered
+returns-clause-ordered g c = shows_order (map string_bytes c.args.words.now) (g.S.Source.rest c.args.source.now) (g.S.Source.rest c.dispatch.new.source) (g.K.Sink.taken c.args.sink.now) (g.K.Sink.taken c.dispatch.new.sink) c.dispatch.result c.dispatch.ensures.call.output
 
 pub returns-clause-checked : goal.returns-clause-checked
 returns-clause-checked g c = shows_checked (map string_bytes c.args.words.now) (g.S.Source.rest c.args.source.now) (g.S.Source.rest c.dispatch.new.source) (g.K.Sink.taken c.args.sink.now) (g.K.Sink.taken c.dispatch.new.sink) c.dispatch.result c.dispatch.ensures.call.output

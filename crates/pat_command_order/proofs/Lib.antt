@@ -1,0 +1,4 @@
+mod Answering
+-- for the crates above
+pub mod Statuses
+mod Once

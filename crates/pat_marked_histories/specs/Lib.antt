@@ -1,0 +1,4 @@
+pub use Rattle.pat_lines.specs.RunText
+pub mod Histories
+pub mod OneReplay
+pub mod Gives

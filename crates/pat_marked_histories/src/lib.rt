@@ -1,0 +1,12 @@
+//! The history behind a program's text, replayed.
+#![tactic(auto)]
+
+mod histories;
+mod laws;
+mod standing;
+
+pub use histories::{Replayed, replay_bytes};
+pub use laws::history_law;
+// what is written of it
+pub use pat_lines::{Remains, order_text_of, replay_text_of};
+pub use standing::standing_of;
