@@ -1,5 +1,5 @@
 // A valid derivation of a program: inferred, solved and judged.
-ghost use Rattle.std.specs.Prelude.{◌≡◌, IfOk, OnOk, IfErr};
+ghost use Rattle.std.specs.Prelude.{◌≡◌, IfOk, OnOk, IfErr, IsTrue, IsFalse};
 ghost use Rattle.pat_model.specs.WellFormed.{WellFormed};
 ghost use Rattle.pat_typing.specs.Typings.{IsTypable};
 ghost use Rattle.pat_validity.specs.Validity.{IsValid};
@@ -100,20 +100,23 @@ fn derivation_by(
     ensures typable { OnOk result (IsTypable (program_view program.now)) }
 {
     let derivation = derivation_of(alloc, program, problem, solution)?;
-    confirm(alloc, program, &derivation)?;
-    Ok(derivation)
+    match has_passed(alloc, program, &derivation) {
+        Ok(true) => Ok(derivation),
+        // What is made of a solution is valid, and the judge accepts that.
+        Ok(false) => unreachable!(),
+        Err(AllocError) => Err(AllocError),
+    }
 }
 
-/// Asks the judge, who accepts what is valid.
-fn confirm(alloc: Global, program: &Program, derivation: &Derivation) -> Result<(), AllocError>
-    requires well { WellFormed (program_view program.now) }
-    requires valid { IsValid (program_view program.now) (derivation_view derivation.now) }
-    ensures { OnOk result (IsTypable (program_view program.now)) }
+/// Whether the judge accepts a derivation, whoever made it: only then is the program known to be typable.
+fn has_passed(alloc: Global, program: &Program, derivation: &Derivation) -> Result<bool, AllocError>
+    requires { WellFormed (program_view program.now) }
+    ensures typable { IfOk result (λ b. IsTrue b → IsTypable (program_view program.now)) }
+    ensures refused { IfOk result (λ b. IsFalse b → IsValid (program_view program.now) (derivation_view derivation.now) → ⊥) }
 {
     first_bad_laws();
     match judge(alloc, program, derivation)? {
-        None => Ok(()),
-        // A valid derivation breaks no rule.
-        Some(_) => unreachable!(),
+        None => Ok(true),
+        Some(_) => Ok(false),
     }
 }

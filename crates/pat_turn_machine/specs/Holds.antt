@@ -8,7 +8,7 @@ use Rattle.pat_machine.specs.declared.job.Receipt.{Receipt}
 use Rattle.pat_machine.specs.declared.job.Outcome.{Outcome}
 use Rattle.pat_machine.specs.declared.job.CommitRefused.{CommitRefused}
 use Rattle.pat_machine.specs.declared.job.CommitRefused.TheVariants as refusal
-use Rattle.pat_machine.specs.Shown.{Shown}
+use Rattle.pat_machine.specs.Shown.{Shown, IsMachine}
 use Rattle.pat_machine.specs.Gives.{IsLent, TakeGives, StateGives, CommitGives, GivesBack, OutcomeGives}
 use Rattle.pat_turn.specs.Rule.{entries_naming}
 use Rattle.pat_turn.specs.Shown.{ShownPass}
@@ -18,9 +18,11 @@ use Rattle.pat_turn_machine.specs.declared.machines.Taken.TheVariants as given
 abbrev pub worker_of : Entry → ℕ
 worker_of e = e.worker
 
--- in a hold of the turn the machine was found so and was left so: it has the name that the pass has, its history begins with what the pass
--- had seen and has no further entry of the pass, and the pass has now seen the history as it was left
+-- in a hold of the turn the machine was found so and was left so: what was found is a machine, with all that is always true of one; it has
+-- the name that the pass has, its history begins with what the pass had seen and has no further entry of the pass, and the pass has now
+-- seen the history as it was left
 pub record IsHold (pass : ShownPass Named Entry) (now : List Entry) (found left : Shown) : Type 0 where
+  pub facts : IsMachine found
   pub named : pass.name ≡ Some found.named
   pub prefix : IsPrefix pass.seen found.history
   pub own : entries_naming worker_of pass.number found.history ≡ entries_naming worker_of pass.number pass.seen

@@ -27,6 +27,7 @@ pub fn take_in_turn<R: Wait>(
     ensures taken { (found left : Shown) × IsHold pass.old pass.new.seen found left × TakingGives found result left }
 {
     let mut machine = turn.hold(rt, pass);
+    let _history = machine.history();
     let taken = take(&mut machine);
     let news = news_of(turn, &machine, &taken, is_busy);
     turn.put_back(pass, machine, news);
@@ -71,6 +72,7 @@ pub fn commit_in_turn<R: Wait>(
 {
     let worker = pass.number();
     let mut machine = turn.hold(rt, pass);
+    let _history = machine.history();
     let result = commit(&mut machine, worker, job, run);
     turn.put_back(pass, machine, news_of_commit(&result));
     result
@@ -84,6 +86,7 @@ pub fn give_back_in_turn<R: Wait>(rt: &R, turn: &Turn<Machine>, pass: &mut Pass<
     ensures back { (found left : Shown) × IsHold pass.old pass.new.seen found left × GivesBack found job left }
 {
     let mut machine = turn.hold(rt, pass);
+    let _history = machine.history();
     machine.give_back(job);
     turn.put(pass, machine);
 }

@@ -1,5 +1,6 @@
 mod Crossing
 mod Placed
 mod Holding
+mod Rounds
 mod Rows
 mod Ending

@@ -1,9 +1,9 @@
 // One job of a worker.
-ghost use Rattle.std.specs.Prelude.{◌≡◌, ◌<◌, false, vec_len, vec_capacity, IfOk, OnOk};
+ghost use Rattle.std.specs.Prelude.{◌≡◌, ◌<◌, false, vec_len, vec_capacity, IfOk, OnOk, OnErr};
 ghost use Rattle.pat_core.specs.Views.{program_view};
 ghost use Rattle.pat_reduce_threads.specs.ThreadViews.{thread_view};
 ghost use Rattle.pat_commits.specs.Commits.{IsLocalRun};
-ghost use Rattle.pat_workers.specs.Workers.{IsOfProgram, IsRunOf, HasReceipts};
+ghost use Rattle.pat_workers.specs.Workers.{IsOfProgram, IsRunOf, HasReceipts, WasCommitted, WentBack};
 
 use pat_executable::Executable;
 use pat_machine::{CommitRefused, Job, Machine, Receipt};
@@ -34,7 +34,7 @@ pub struct Task {
 }
 
 /// Takes a job's local steps outside the turn, and commits it between the two calls of the gate. The receipt goes behind the others.
-/// Where memory runs out the job goes back.
+/// Where memory runs out the job goes back, so that nobody waits for it.
 pub fn serve<R: Wait, G: Gate>(
     rt: &R,
     alloc: Global,
@@ -50,6 +50,8 @@ pub fn serve<R: Wait, G: Gate>(
     requires receipts { HasReceipts worker.old }
     ensures pass { worker.new.pass ≡ record worker.old.pass { seen = worker.new.pass.seen } }
     ensures receipts { HasReceipts worker.new }
+    ensures done { OnOk result (WasCommitted worker.old.pass worker.new.pass.seen task.job) }
+    ensures back { OnErr result (WentBack worker.old.pass worker.new.pass.seen task.job) }
 {
     let job = task.job;
     match prepare(alloc, code, &mut worker.receipts, task) {
@@ -96,6 +98,8 @@ fn commit<R: Wait, G: Gate>(
     requires receipts { HasReceipts worker.old }
     ensures pass { worker.new.pass ≡ record worker.old.pass { seen = worker.new.pass.seen } }
     ensures receipts { HasReceipts worker.new }
+    ensures done { OnOk result (WasCommitted worker.old.pass worker.new.pass.seen job) }
+    ensures back { OnErr result (WentBack worker.old.pass worker.new.pass.seen job) }
 {
     let number = worker.pass.number();
     let call = worker.receipts.len() as u64 + 1;
@@ -112,8 +116,10 @@ fn commit<R: Wait, G: Gate>(
             worker.receipts.push_reserved(receipt);
             Ok(())
         }
-        // Nobody else has the job, so this doesn't come; if it did, the job would be done with.
-        Err(CommitRefused::NotOut(_)) => Ok(()),
-        Err(CommitRefused::NoMemory(_)) => Err(AllocError),
+        Err(error) => match error {
+            // Nobody else has the job, so this doesn't come; if it did, the job would be done with.
+            CommitRefused::NotOut(_) => Ok(()),
+            CommitRefused::NoMemory(_) => Err(AllocError),
+        },
     }
 }

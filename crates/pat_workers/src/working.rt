@@ -2,7 +2,9 @@
 ghost use Rattle.std.specs.Prelude.{◌≡◌, ℕ, ◌<◌, false, length, slice_index_or, IfOk};
 ghost use Rattle.std.specs.List.{All};
 ghost use Rattle.std.specs.Thread.{IsSync};
-ghost use Rattle.pat_workers.specs.Workers.{IsOfProgram, IsReady, HasReceipts, IsWorked};
+ghost use Rattle.pat_machine.specs.Shown.{Shown};
+ghost use Rattle.pat_turn_machine.specs.Holds.{IsHold, TakingGives};
+ghost use Rattle.pat_workers.specs.Workers.{IsOfProgram, IsReady, HasReceipts, IsRound, IsWorked};
 
 use crate::serving::{Task, Worker, serve};
 use pat_executable::Executable;
@@ -34,10 +36,11 @@ fn work<R: Wait, G: Gate>(
     };
     for _ in rt.forever() {
         if !work_once(rt, alloc, turn, code, gate, &mut worker) {
-            break;
+            return worker;
         }
     }
-    worker
+    // The loop has no other end.
+    unreachable!()
 }
 
 // So many short jobs one behind the other, and the worker naps: where jobs are short, each of several workers would wait longer for
@@ -60,17 +63,19 @@ fn work_once<R: Wait, G: Gate>(
     requires receipts { HasReceipts worker.old }
     ensures pass { worker.new.pass ≡ record worker.old.pass { seen = worker.new.pass.seen } }
     ensures receipts { HasReceipts worker.new }
+    ensures round { IsRound worker.old.pass worker.new.pass.seen result }
 {
     match take(rt, turn, worker) {
         Taken::Job(job, state) => {
-            let task = Task { job, state };
-            if serve(rt, alloc, turn, code, gate, worker, task).is_err() {
-                return false;
+            match serve(rt, alloc, turn, code, gate, worker, Task { job, state }) {
+                Ok(()) => {
+                    if worker.short_jobs >= ENOUGH {
+                        turn.nap(rt, &mut worker.pass);
+                    }
+                    true
+                }
+                Err(AllocError) => false,
             }
-            if worker.short_jobs >= ENOUGH {
-                turn.nap(rt, &mut worker.pass);
-            }
-            true
         }
         Taken::Nothing => {
             turn.rest(rt, &mut worker.pass);
@@ -87,6 +92,7 @@ fn take<R: Wait>(rt: &R, turn: &Turn<Machine>, worker: &mut Worker) -> Taken
     requires receipts { HasReceipts worker.old }
     ensures pass { worker.new.pass ≡ record worker.old.pass { seen = worker.new.pass.seen } }
     ensures receipts { HasReceipts worker.new }
+    ensures taken { (found left : Shown) × IsHold worker.old.pass worker.new.pass.seen found left × TakingGives found result left }
 {
     let is_busy = worker.short_jobs == 0;
     take_in_turn(rt, turn, &mut worker.pass, is_busy)

@@ -24,6 +24,6 @@ pub returns-clause-committed : goal.returns-clause-committed
 returns-clause-committed g c = (
   c.hold-machine.result,
   c.commit-result.new.machine,
-  record { named = c.hold-machine.ensures.name; prefix = c.hold-machine.ensures.seen; own = c.hold-machine.ensures.own; saw = ap (λ p. p.seen) c.put_back.ensures },
+  record { facts = c.history-history.ensures.facts; named = c.hold-machine.ensures.name; prefix = c.hold-machine.ensures.seen; own = c.hold-machine.ensures.own; saw = ap (λ p. p.seen) c.put_back.ensures },
   subst (λ w. CommittingGives c.hold-machine.result w c.args.job c.commit-result.result c.commit-result.new.machine) c.number-worker.ensures c.commit-result.ensures,
 )

@@ -18,6 +18,6 @@ pub returns-clause-back : goal.returns-clause-back
 returns-clause-back g c = (
   c.hold-machine.result,
   c.give_back.new.self,
-  record { named = c.hold-machine.ensures.name; prefix = c.hold-machine.ensures.seen; own = c.hold-machine.ensures.own; saw = ap (λ p. p.seen) c.put.ensures },
+  record { facts = c.history-history.ensures.facts; named = c.hold-machine.ensures.name; prefix = c.hold-machine.ensures.seen; own = c.hold-machine.ensures.own; saw = ap (λ p. p.seen) c.put.ensures },
   c.give_back.ensures,
 )

@@ -18,6 +18,6 @@ pub returns-clause-taken : goal.returns-clause-taken
 returns-clause-taken g c = (
   c.hold-machine.result,
   c.take-taken.new.machine,
-  record { named = c.hold-machine.ensures.name; prefix = c.hold-machine.ensures.seen; own = c.hold-machine.ensures.own; saw = ap (λ p. p.seen) c.put_back.ensures },
+  record { facts = c.history-history.ensures.facts; named = c.hold-machine.ensures.name; prefix = c.hold-machine.ensures.seen; own = c.hold-machine.ensures.own; saw = ap (λ p. p.seen) c.put_back.ensures },
   c.take-taken.ensures,
 )
