@@ -36,9 +36,11 @@ def steps(series: Series!, n: Int): Unit {
 
 def sum(values: Master?): Unit {
     guard values : Value.Value {
-        receive Value(x) from values -> print(x); guard values : Value {
-            receive Value(y) from values -> free(values); print(y)
-        }
+        receive Value(x) from values ->
+            print(x);
+            guard values : Value {
+                receive Value(y) from values -> free(values); print(y)
+            }
     }
 }
 

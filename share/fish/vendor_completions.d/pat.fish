@@ -1,0 +1,17 @@
+# Made by tools/make_pages from docs/LANGUAGE.md.
+complete -c pat -f
+complete -c pat -n __fish_use_subcommand -a check -d 'says accepted, or what keeps the program from that'
+complete -c pat -n __fish_use_subcommand -a run -d 'runs a program: its history, what it printed, how it ended'
+complete -c pat -n __fish_use_subcommand -a replay -d 'reads a program and a history behind it: what that run printed, or which entry isn'\''t a step'
+complete -c pat -n __fish_use_subcommand -a order -d 'reads what replay reads, and writes that history with commits that don'\''t touch each other in the order of their threads'
+complete -c pat -n __fish_use_subcommand -a derive -d 'writes what it found of the program'\''s types, as a derivation'
+complete -c pat -n __fish_use_subcommand -a verify -d 'judges a program and a derivation behind it, whoever wrote that'
+complete -c pat -n __fish_use_subcommand -a print -d 'writes the program in canonical form'
+complete -c pat -n __fish_use_subcommand -a load -d 'runs a program that it makes, of N actors, 1,000 at most'
+complete -c pat -n __fish_use_subcommand -a help -d 'writes the line of usage'
+complete -c pat -n '__fish_seen_subcommand_from run' -l workers -x -d 'how many workers take the steps'
+complete -c pat -n '__fish_seen_subcommand_from run' -l steps -x -d 'after how many steps the run is cut short'
+complete -c pat -n '__fish_seen_subcommand_from run' -l messages -x -d 'how many messages may be pending'
+complete -c pat -n '__fish_seen_subcommand_from load' -l workers -x -d 'how many workers take the steps'
+complete -c pat -n '__fish_seen_subcommand_from load' -l steps -x -d 'after how many steps the run is cut short'
+complete -c pat -n '__fish_seen_subcommand_from load' -l messages -x -d 'how many messages may be pending'
