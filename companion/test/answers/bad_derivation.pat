@@ -1,0 +1,3 @@
+def main(): Unit { print(1) }
+%%derivation
+node 0 Unit

@@ -1,0 +1,3 @@
+def turn(): Unit { turn() }
+
+def main(): Unit { turn() }

@@ -1,0 +1,3 @@
+def two(): Int { 2 }
+
+def main(): Unit { print(two() + 1) }

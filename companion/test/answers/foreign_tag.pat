@@ -1,0 +1,3 @@
+interface Lock { Take(), Release() }
+
+def main(): Unit { let l = new[Lock] in l ! Relase(); guard l : Release { receive Release() from l -> free(l) } }

@@ -1,0 +1,4 @@
+interface Client { Answer(Int) }
+interface Server { Ask(Server!Answer) }
+
+def main(): Unit { () }

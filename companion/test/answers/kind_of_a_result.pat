@@ -1,0 +1,3 @@
+def half(n: Int): Bool { n + 1 }
+
+def main(): Unit { () }

@@ -1,0 +1,1 @@
+def main(): Unit { 1 + 2; print("three") }

@@ -1,0 +1,5 @@
+interface I { m() }
+
+def f(n: Int): Unit { n ! m() }
+
+def main(): Unit { () }

@@ -1,0 +1,3 @@
+def main(): Unit { let x = 2 in print(x) }
+%%history
+0 0 2 print

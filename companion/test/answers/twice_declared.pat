@@ -1,0 +1,3 @@
+interface I { m(), m() }
+
+def main(): Unit { () }

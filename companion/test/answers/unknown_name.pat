@@ -1,0 +1,4 @@
+def main(): Unit {
+    let number = 1 in
+    print(nunber)
+}
