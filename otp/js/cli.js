@@ -1,0 +1,181 @@
+// Runs a program of pat on several Erlang nodes. `pat check` says before that the program is safe, and `pat replay` says
+// afterwards whether what is left of the run is a run of the program, what it printed and how it stands. What is decided here is
+// how the nodes are started, that the lines which were shown are those that `pat replay` says, and the exit status.
+import { spawnSync } from 'node:child_process';
+import { chmodSync, existsSync, mkdirSync, mkdtempSync, readFileSync, readdirSync, renameSync, rmSync, statSync, writeFileSync }
+  from 'node:fs';
+import { randomBytes } from 'node:crypto';
+import { tmpdir } from 'node:os';
+import { dirname, join, resolve } from 'node:path';
+import { fileURLToPath } from 'node:url';
+import { parse, Source } from '../../companion/parse.js';
+import { translate } from './translate.js';
+import { Nodes, areLoopback, hostNodes, localNodes } from './nodes.js';
+import { certificates } from './tls.js';
+
+const HERE = dirname(fileURLToPath(import.meta.url)), OTP = dirname(HERE), ROOT = dirname(OTP);
+const USAGE = `usage: pat-otp [--nodes N | --hosts FILE] [--steps N] [--messages N] [--out HISTORY] FILE
+  --nodes N      so many nodes on this machine, from 1 to 63; else 1
+  --hosts FILE   a node for each line HOST PORT [COMMAND] (docs/OTP.md)
+  --steps N      the run ends after so many steps; else 1,000,000
+  --messages N   so many messages may be pending, from 1 to 1,000,000; else 1,000,000
+  --out HISTORY  where the run's text goes, as \`pat run\` writes it
+  --spread all   each new thread goes to the next node, and not the first thread's alone
+  --schedulers N for each node on this machine; else its processors are divided among the nodes
+  --times        says how long it took, and how much of a processor each node
+  --tls, --no-tls  whether the nodes talk through TLS; else where a host is beyond loopback
+PAT names the program pat, else it is the one of this checkout.
+`;
+const MOST_NODES = 63, MOST_MESSAGES = 1_000_000, MOST_STEPS = 2 ** 32 - 1;
+/** Standard output is for lines of the program alone. */
+const LOGGER = '{kernel, [{logger, [{handler, default, logger_std_h, #{config => #{type => standard_error}}}]}]}';
+/** What \`pat replay\` takes: program and history together. */
+const MOST_BYTES = 67_108_864;
+const STATUS = { done: 0, refused: 1, usage: 2, unread: 3, unwritten: 4, machine: 5, budget: 6, waiting: 7, full: 8, lost: 10 };
+
+class Problem extends Error { constructor(status, message) { super(message); this.status = status; } }
+const say = text => process.stderr.write(`pat-otp: ${text}\n`);
+
+function options(words) {
+  const given = { nodes: 1, steps: 1_000_000, messages: MOST_MESSAGES, spread: 'main' }, files = [];
+  const number = (word, least, most) => {
+    if (!/^\d{1,10}$/.test(word ?? '') || Number(word) < least || Number(word) > most) throw new Problem(STATUS.usage, USAGE);
+    return Number(word);
+  };
+  const text = word => { if (word === undefined) throw new Problem(STATUS.usage, USAGE); return word; };
+  const known = {
+    '--nodes': word => { given.nodes = number(word, 1, MOST_NODES); },
+    '--steps': word => { given.steps = number(word, 0, MOST_STEPS); },
+    '--messages': word => { given.messages = number(word, 1, MOST_MESSAGES); },
+    '--schedulers': word => { given.schedulers = number(word, 1, 1024); },
+    '--hosts': word => { given.hosts = text(word); },
+    '--out': word => { given.out = text(word); },
+    '--spread': word => { if (word !== 'all' && word !== 'main') throw new Problem(STATUS.usage, USAGE); given.spread = word; },
+  };
+  for (let at = 0; at < words.length; at++) {
+    if (Object.hasOwn(known, words[at])) known[words[at]](words[++at]);
+    else if (words[at] === '--times') given.times = true;
+    else if (words[at] === '--tls' || words[at] === '--no-tls') given.tls = words[at] === '--tls';
+    else files.push(words[at]);
+  }
+  if (files.length !== 1 || files[0].startsWith('--')) throw new Problem(STATUS.usage, USAGE);
+  return { ...given, file: files[0] };
+}
+
+const patProgram = () => process.env.PAT ?? join(ROOT, 'pat');
+function pat(words, input) {
+  const done = spawnSync(patProgram(), words, { input, maxBuffer: 2 * MOST_BYTES, stdio: ['pipe', 'pipe', 'inherit'] });
+  if (done.error) throw new Problem(STATUS.machine, `${patProgram()}: ${done.error.message}`);
+  return { status: done.status, text: done.stdout };
+}
+
+/** The folder of the compiled runtime, which is made where a source is newer. (Tests name another one.) */
+function runtime() {
+  if (process.env.PAT_OTP_RUNTIME) return resolve(process.env.PAT_OTP_RUNTIME);
+  const ebin = join(OTP, 'ebin'), application = join(ebin, 'pat_otp.app');
+  const sources = readdirSync(join(OTP, 'src')).map(name => join('src', name)), made = [...sources, 'include/pat_otp.hrl'];
+  const newest = Math.max(...made.map(name => statSync(join(OTP, name)).mtimeMs));
+  if (existsSync(application) && statSync(application).mtimeMs > newest) return ebin;
+  mkdirSync(ebin, { recursive: true });
+  // (made beside it and moved: another run may just be starting its nodes)
+  const fresh = mkdtempSync(join(ebin, 'new-'));
+  const done = spawnSync('erlc', ['+debug_info', '-I', 'include', '-o', fresh, ...sources.filter(name => name.endsWith('.erl'))],
+    { cwd: OTP, stdio: ['ignore', 2, 2] });
+  if (done.status !== 0) throw new Problem(STATUS.machine, 'the runtime in otp/src can\'t be compiled');
+  for (const name of readdirSync(fresh)) renameSync(join(fresh, name), join(ebin, name));
+  rmSync(fresh, { recursive: true });
+  writeFileSync(application, readFileSync(join(OTP, 'src/pat_otp.app.src')));
+  return ebin;
+}
+
+/** The program and the nodes' words, in a folder that this user alone may read. */
+function prepare(folder, source, { nodes, steps, messages, spread }) {
+  writeFileSync(join(folder, '.erlang.cookie'), randomBytes(24).toString('hex'));
+  chmodSync(join(folder, '.erlang.cookie'), 0o400);
+  writeFileSync(join(folder, 'program.erl'), translate(parse(source), 'program'));
+  const names = nodes.slice(1).map(({ name }) => `'${name}'`).join(', ');
+  const bytes = MOST_BYTES - source.bytes.length - '\n%%history\n'.length;
+  const words = `{role, head}, {nodes, [${names}]}, {folder, "."}, {program, "program"}, {steps, ${steps}}, {messages, ${messages}}, `
+    + `{bytes, ${bytes}}, {spread, ${spread}}`;
+  writeFileSync(join(folder, 'head.config'), `[{pat_otp, [${words}]}, ${LOGGER}].\n`);
+  writeFileSync(join(folder, 'node.config'), `[{pat_otp, [{role, node}]}, ${LOGGER}].\n`);
+}
+
+/** What the nodes made of it: how they say that it ended, the history and the lines that were shown. */
+async function runOn(nodes, folder) {
+  const shown = [];
+  nodes.start();
+  nodes.head.stdout.on('data', piece => { shown.push(piece); process.stdout.write(piece); });
+  await nodes.ended();
+  await nodes.stop();
+  if (!nodes.hasBegun() && !existsSync(join(folder, 'ended'))) throw new Problem(STATUS.machine, 'the nodes couldn\'t be started');
+  const [ending, took, times] = existsSync(join(folder, 'ended')) ? readFileSync(join(folder, 'ended'), 'utf8').split('\n')
+    : ['lost the head'];
+  const entries = nodes.hasBegun() ? readFileSync(join(folder, 'history')) : Buffer.alloc(0);
+  // (a head that is lost may leave the front of a line)
+  return { ending, took, times, entries: entries.subarray(0, entries.lastIndexOf(10) + 1), shown: Buffer.concat(shown) };
+}
+
+/** What `pat replay` says of it, taken apart: the lines and the outcome. */
+function judge(source, entries) {
+  const { status, text } = pat(['replay'], Buffer.concat([source.bytes, Buffer.from('\n%%history\n'), entries]));
+  const cut = text.lastIndexOf(10, text.length - 2) + 1;
+  return { status, lines: text.subarray(0, cut), outcome: text.subarray(cut).toString().trim() };
+}
+
+/** The last line and the exit status; `wrong` says what doesn't fit. */
+function conclude({ ending, shown }, judged) {
+  const refuse = wrong => ({ line: judged.outcome, status: STATUS.refused, wrong });
+  if (judged.status !== 0) return refuse('the history is no run of the program: what was shown is void');
+  const [word, steps] = judged.outcome.split(' ');
+  const isFront = judged.lines.subarray(0, shown.length).equals(shown);
+  if (!isFront || (judged.lines.length !== shown.length && !ending.startsWith('lost')))
+    return refuse('the lines that were shown aren\'t those of the history: what was shown is void');
+  if (word !== 'open') return { line: judged.outcome, status: STATUS[word] };
+  if (ending === 'budget' || ending === 'full') return { line: `${ending} ${steps}`, status: STATUS[ending] };
+  if (ending === 'long')
+    return { line: judged.outcome, status: STATUS.budget, note: 'the history is as long as `pat replay` takes it: the run ends here' };
+  if (ending.startsWith('lost'))
+    return { line: judged.outcome, status: STATUS.lost, note: `a node was lost (${ending}): this is how far the history leads` };
+  return refuse(`the nodes say that the run ended (${ending}), and its history is open`);
+}
+
+async function main(words) {
+  const given = options(words);
+  const source = new Source(read(given.file));
+  const checked = pat(['check'], source.bytes);
+  if (checked.status !== 0) { process.stdout.write(checked.text); return checked.status; }
+  const nodes = given.hosts ? await hostNodes(given.hosts) : await localNodes(given.nodes);
+  const tls = given.tls ?? !areLoopback(nodes);
+  const folder = mkdtempSync(join(tmpdir(), 'pat-otp-'));
+  const all = new Nodes({ nodes, folder, runtime: runtime(), schedulers: given.schedulers, tls });
+  process.on('exit', () => { all.kill(); rmSync(folder, { recursive: true, force: true }); });
+  for (const signal of ['SIGINT', 'SIGTERM', 'SIGHUP']) process.on(signal, () => process.exit(130));
+  prepare(folder, source, { ...given, nodes });
+  if (tls) certificates(folder, nodes);
+  return finish(await runOn(all, folder), source, given);
+}
+function finish(run, source, given) {
+  if (/^(absent|failed)/.test(run.ending)) throw new Problem(STATUS.machine, run.ending);
+  const judged = judge(source, run.entries), end = conclude(run, judged);
+  if (given.out) write(given.out, Buffer.concat([Buffer.from('%%history\n'), run.entries, Buffer.from('%%output\n'), judged.lines,
+    Buffer.from(`${end.line}\n`)]));
+  // A lost head may not have shown all that its history has.
+  process.stdout.write(judged.lines.subarray(end.wrong ? judged.lines.length : run.shown.length));
+  process.stdout.write(`${end.line}\n`);
+  for (const text of [end.note, end.wrong]) if (text) say(text);
+  if (given.times) say(`${run.took} microseconds; milliseconds of a processor, of the head and each node: ${run.times}`);
+  return end.status;
+}
+function read(file) {
+  try { return new Uint8Array(readFileSync(file)); } catch (problem) { throw new Problem(STATUS.unread, problem.message); }
+}
+function write(file, bytes) {
+  try { writeFileSync(file, bytes); } catch (problem) { throw new Problem(STATUS.unwritten, problem.message); }
+}
+
+try { process.exitCode = await main(process.argv.slice(2)); } catch (problem) {
+  if (problem.status === STATUS.usage) process.stderr.write(problem.message);
+  else say(problem.status ? problem.message : problem.stack);
+  process.exitCode = problem.status ?? STATUS.machine;
+}

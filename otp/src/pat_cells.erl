@@ -1,0 +1,28 @@
+%% The numbers that all processes of a node share, in one array of atomics, and what a node knows of the run.
+-module(pat_cells).
+-export([make/0, all/0, counts/0, set_run/1, run/0]).
+-export_type([counts/0, run/0]).
+-include("pat_otp.hrl").
+
+-type counts() :: {Posted :: non_neg_integer(), Taken :: non_neg_integer(), Active :: integer()}.
+-type run() :: #{place := non_neg_integer(), nodes := tuple(), places := #{node() => pos_integer()}, head := node(),
+                 spread := main | all}.
+
+-spec make() -> ok.
+make() -> persistent_term:put(?MODULE, atomics:new(?CELLS, [{signed, true}])).
+
+-spec all() -> atomics:atomics_ref().
+all() -> persistent_term:get(?MODULE).
+
+%% The order of reading matters: whoever is seen idle here has added what it took before (pat_rest).
+-spec counts() -> counts().
+counts() ->
+    Cells = all(),
+    Active = atomics:get(Cells, ?ACTIVE),
+    {atomics:get(Cells, ?POSTED), atomics:get(Cells, ?TAKEN), Active}.
+
+-spec set_run(run()) -> ok.
+set_run(Run) -> persistent_term:put({?MODULE, run}, Run).
+
+-spec run() -> run().
+run() -> persistent_term:get({?MODULE, run}).

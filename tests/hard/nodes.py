@@ -1,0 +1,245 @@
+"""Runs of ./pat-otp for tests: with the runtime as it is, with messages that are held back, and with runtimes that are wrong."""
+import glob
+import os
+import re
+import shutil
+import signal
+import subprocess
+import tempfile
+import threading
+import time
+
+ROOT = os.path.realpath(os.path.join(os.path.dirname(os.path.realpath(__file__)), "..", ".."))
+COMMAND = os.path.join(ROOT, "pat-otp")
+SOURCES = os.path.join(ROOT, "otp", "src")
+# A run of a test takes a second or two, and may take much longer where the machine does other work.
+SECONDS = 300
+
+HELD = "erlang:spawn(fun() -> receive after rand:uniform(4) - 1 -> {} ! Message end end)"
+# Each message is held back by itself for some milliseconds, so that none keeps its place among the others; and a mailbox's weight
+# is 3, so that it has to be split further all the time. Threads are held back as soon as 50 of their entries aren't written.
+DELAYS = [
+    ("pat_thread.erl", "    To ! Message,\n", f"    {HELD.format('To')},\n"),
+    ("pat_host.erl", "    Thread ! Message,\n", f"    {HELD.format('Thread')},\n"),
+    ("pat_weight.erl", "(1 bsl 56)", "3"),
+    ("pat_log.erl", "-define(AHEAD, 500000).", "-define(AHEAD, 50)."),
+]
+
+# Runtimes with one thing wrong in each. `pat replay`, or what is compared with it, has to find that out.
+WRONG = {
+    "free without a look at weights": [
+        ("pat_mailbox.erl", "=:= 0 andalso pat_weight:add(Home, Weight) of\n        Whole -> Released;",
+         "=:= 0 of\n        true -> Released;"),
+        ("pat_mailbox.erl", "    Whole = pat_weight:whole(),\n", "    _ = {Home, Weight},\n")],
+    "free not behind where the names went": [
+        ("pat_mailbox.erl", "released = max(Released, Stamp)}", "released = min(Released, Stamp)}")],
+    "receive not behind its send": [
+        ("pat_thread.erl", "pat_entries:note(Stamp, 0, {'receive'", "pat_entries:note(min(Stamp, 0), 0, {'receive'")],
+    "no weight with a message": [
+        ("pat_thread.erl", "Sends, Stamp}, Weight}),", "Sends, Stamp}, 0}),\n    give_back(element(1, Target), Weight),")],
+    "names that go in local steps given back at once": [
+        ("pat_thread.erl", "put(gone, [{Name, Weight} | get(gone)]), ok", "give_back(Name, Weight)")],
+    "payloads without weight": [
+        ("pat_thread.erl", "    Weight = pat_names:hand_over(Target),\n",
+         "    [give_back(Name, Part) || {Name, Part} <- Weights],\n    Weight = pat_names:hand_over(Target),\n"),
+        ("pat_thread.erl", "{Tag, Values, Weights, get(thread), Sends, Stamp}",
+         "{Tag, Values, [{Name, 0} || {Name, _} <- Weights], get(thread), Sends, Stamp}")],
+    "a local step too many": [
+        ("pat_thread.erl", "{'receive', From, Sent}),\n", "{'receive', From, Sent}),\n    put(steps, 1),\n")],
+    "a local step too few": [
+        ("pat_entries.erl", "get(thread), Steps, Act}", "get(thread), max(0, Steps - 1), Act}")],
+    "lines in another order": [
+        ("pat_history.erl", "file:write(user, lists:reverse(Shown))", "file:write(user, Shown)")],
+    "a promise before all entries are there": [
+        ("pat_log.erl", "        0 -> self() ! {closed, Floor};\n        _ -> erlang:send_after(?LOOK, self(), look)",
+         "        _ -> self() ! {closed, Floor}")],
+    "entries that aren't above the floor": [
+        ("pat_entries.erl", "max(get(clock), atomics:get(Cells, ?FLOOR))", "get(clock)")],
+    "a thread not behind its spawn": [
+        ("pat_thread.erl", "pat_entries:begin_thread(Thread, Stamp)", "pat_entries:begin_thread(Thread, min(Stamp, 0))")],
+    "rest by one look": [
+        ("pat_rest.erl", "{Same, Same, 0} = Last ->", "{_, _, 0} = Last when Last =/= none ->"),
+        ("pat_rest.erl", "Counts -> {noreply, later(State#state{last = Counts})}",
+         "{_, _, 0} = Counts -> pat_run:at_rest(Counts), {noreply, State};\n"
+         "        Counts -> {noreply, later(State#state{last = Counts})}")],
+    "a message twice": [
+        ("pat_thread.erl", "    To ! Message,\n",
+         "    case Message of {message, _, _, _} -> To ! Message; _ -> ok end,\n    To ! Message,\n")],
+    "lost entries": [
+        ("pat_log.erl", "rouse(State#state{runs = [Run | Runs],",
+         "rouse(State#state{runs = case rand:uniform(4) of 1 -> Runs; _ -> [Run | Runs] end,")],
+}
+
+# Two nodes lose each other while both keep the head, and find each other again.
+PARTED = [("pat_node.erl", "    {reply, ok, #state{head = Head}};\n", """    _ = Place =:= 2 andalso spawn(fun() ->
+        timer:sleep(PARTED_AFTER), Other = element(tuple_size(Nodes), Nodes),
+        erlang:disconnect_node(Other), timer:sleep(20), net_kernel:connect_node(Other) end),
+    {reply, ok, #state{head = Head}};\n""")]
+
+
+def runtime(folder, name, edits):
+    """A compiled runtime with these edits; its folder."""
+    there = os.path.join(folder, re.sub(r"\W", "_", name), "ebin")
+    changed = {}
+    for file, old, new in edits:
+        text = changed.get(file) or open(os.path.join(SOURCES, file), encoding="utf-8").read()
+        if text.count(old) != 1:
+            raise RuntimeError(f"{name}: {file} has {text.count(old)} times {old!r}")
+        changed[file] = text.replace(old, new)
+    shutil.copytree(os.path.join(ROOT, "otp", "ebin"), there)
+    for file, text in changed.items():
+        path = os.path.join(os.path.dirname(there), file)
+        with open(path, "w", encoding="utf-8") as out:
+            out.write(text)
+        subprocess.run(["erlc", "+nowarn_unused_vars", "-I", os.path.join(ROOT, "otp", "include"), "-o", there, path], check=True)
+    return there
+
+
+def compiled(program):
+    """Has the runtime compiled, as the command does it when it is first called."""
+    with tempfile.NamedTemporaryFile("w", suffix=".pat") as file:
+        file.write("def main(): Unit { () }\n")
+        file.flush()
+        subprocess.run([COMMAND, file.name], check=True, stdout=subprocess.DEVNULL, timeout=SECONDS, env=dict(os.environ, PAT=program))
+
+
+class Run:
+    """What came of a run: `status`, `lines` (the last is the outcome), `said`, `history`, and `left`, processes that it left."""
+
+    def __init__(self, program, file, words=(), ebin=None, disturb=None, seconds=SECONDS):
+        self.folder = tempfile.mkdtemp(prefix="pat-otp-test-")
+        out = os.path.join(self.folder, "history")
+        environment = dict(os.environ, PAT=program, TMPDIR=self.folder)
+        if ebin:
+            environment["PAT_OTP_RUNTIME"] = ebin
+        process = subprocess.Popen([COMMAND, *words, "--out", out, file], env=environment,
+                                   stdout=subprocess.PIPE, stderr=subprocess.PIPE)
+        self.nodes = []
+        disturber = threading.Thread(target=disturb, args=(self,)) if disturb else None
+        if disturber:
+            disturber.start()
+        try:
+            output, said = process.communicate(timeout=seconds)
+            self.status = process.returncode
+        except subprocess.TimeoutExpired:
+            process.terminate()
+            output, said = process.communicate()
+            self.status = "no end"
+        if disturber:
+            disturber.join()
+        self.lines = output.decode().splitlines()
+        self.said = said.decode()
+        self.history = open(out, encoding="utf-8").read() if os.path.exists(out) else ""
+        self.left = processes_at(self.folder)
+        for pid in self.left:
+            send_signal(pid, signal.SIGKILL)
+        shutil.rmtree(self.folder, ignore_errors=True)
+
+    def pids(self, patience=30):
+        """The processes of the nodes, the head's last; empty where it ended before."""
+        until = time.time() + patience
+        while time.time() < until:
+            found = glob.glob(os.path.join(self.folder, "pat-otp-*", "pids"))
+            if found:
+                try:
+                    self.nodes = [int(it) for it in open(found[0], encoding="ascii").read().split()]
+                    return self.nodes
+                except OSError:
+                    return []
+            time.sleep(0.01)
+        return []
+
+    def began(self, size, patience=15):
+        """Waits until the history has so many bytes, or for so many seconds of its being there; whether the run is still on."""
+        begun = None
+        while begun is None or time.time() < begun + patience:
+            found = glob.glob(os.path.join(self.folder, "pat-otp-*", "history"))
+            if found:
+                begun = begun or time.time()
+                try:
+                    if os.path.getsize(found[0]) >= size:
+                        return True
+                except OSError:
+                    return False
+            elif not any(is_alive(it) for it in self.nodes):
+                return False
+            time.sleep(0.002)
+        return True
+
+    def entries(self):
+        lines = self.history.splitlines()
+        return lines[1:lines.index("%%output")] if "%%output" in lines else []
+
+
+def processes_at(folder):
+    """Those whose home is below the folder, as that of nodes is."""
+    found = []
+    for name in filter(str.isdigit, os.listdir("/proc")):
+        try:
+            with open(f"/proc/{name}/environ", "rb") as file:
+                if f"HOME={folder}/".encode() in file.read() and is_alive(name):
+                    found.append(int(name))
+        except OSError:
+            pass
+    return found
+
+
+def is_alive(pid):
+    try:
+        with open(f"/proc/{pid}/stat", encoding="ascii", errors="replace") as file:
+            return file.read().rsplit(")", 1)[1].split()[0] not in "ZX"
+    except OSError:
+        return False
+
+
+def send_signal(pid, number):
+    try:
+        os.kill(pid, number)
+    except ProcessLookupError:
+        pass
+
+
+def kill(which, bytes_written):
+    """Disturbs a run: kills a node (by its place; 0 is the head) when the history has so many bytes."""
+    def disturb(run):
+        pids = run.pids()
+        if pids and run.began(bytes_written):
+            send_signal(pids[which - 1], signal.SIGKILL)
+    return disturb
+
+
+def suspend(which, bytes_written, seconds):
+    """Disturbs a run: a node says nothing for so long, and then wakes up."""
+    def disturb(run):
+        pids = run.pids()
+        if pids and run.began(bytes_written):
+            send_signal(pids[which - 1], signal.SIGSTOP)
+            time.sleep(seconds)
+            send_signal(pids[which - 1], signal.SIGCONT)
+    return disturb
+
+
+def is_safe(program, text):
+    return subprocess.run([program, "check"], input=text, stdout=subprocess.PIPE, check=False).returncode == 0
+
+
+def replayed(program, text, history):
+    """What `pat replay` says of a run's text, as lines."""
+    done = subprocess.run([program, "replay"], input=text + b"\n" + history.encode(), stdout=subprocess.PIPE, check=False)
+    return done.stdout.decode().splitlines()
+
+
+def ended(program, text):
+    """How `pat run` ends, in a word."""
+    done = subprocess.run([program, "run", "--steps", "1000000"], input=text, stdout=subprocess.PIPE, check=False)
+    return done.stdout.decode().splitlines()[-1].split(" ")[0]
+
+
+def most_pending(entries):
+    """How many messages were pending at most."""
+    most = now = 0
+    for it in entries:
+        act = it.split(" ")[3]
+        now += (act == "send") - (act == "receive")
+        most = max(most, now)
+    return most
