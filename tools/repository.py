@@ -29,6 +29,20 @@ def uses():
     return found
 
 
+@functools.lru_cache(maxsize=None)
+def rooms():
+    """The rooms of rooms.txt in its order: which other rooms each may import of, and its crates."""
+    found, room = {}, None
+    for line in read("rooms.txt").splitlines():
+        line = line.partition("#")[0]
+        if line.startswith(" "):
+            found[room][1].extend(line.split())
+        elif line.strip():
+            room, _, stands_on = line.partition(":")
+            found[room] = (set(found) if stands_on.split() == ["*"] else set(stands_on.split()), [])
+    return found
+
+
 def own(names):
     """Those of the names that are crates of the repository."""
     return [name for name in names if name in uses()]

@@ -40,8 +40,8 @@ WRONG = {
     "names that go in local steps given back at once": [
         ("pat_thread.erl", "put(gone, [{Name, Weight} | get(gone)]), ok", "give_back(Name, Weight)")],
     "payloads without weight": [
-        ("pat_thread.erl", "    Weight = pat_names:hand_over(Target),\n",
-         "    [give_back(Name, Part) || {Name, Part} <- Weights],\n    Weight = pat_names:hand_over(Target),\n"),
+        ("pat_thread.erl", "    Weight = pat_resolver_spec:hand_over(Target),\n",
+         "    [give_back(Name, Part) || {Name, Part} <- Weights],\n    Weight = pat_resolver_spec:hand_over(Target),\n"),
         ("pat_thread.erl", "{Tag, Values, Weights, get(thread), Sends, Stamp}",
          "{Tag, Values, [{Name, 0} || {Name, _} <- Weights], get(thread), Sends, Stamp}")],
     "a local step too many": [

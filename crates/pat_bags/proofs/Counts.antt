@@ -2,7 +2,7 @@
 use Rattle.std.proofs.Common.{◌≡◌, ◌≢◌, ℕ, ◌<◌, ◌≤◌, List, length, get_or, set, replicate, Bool, true, false, sym, ◌∙◌, arith, ⊎_elim, nat_eq, subst}
 use Rattle.std.proofs.lemmas.List.{get_or_past, get_or-set_same, get_or-set_other, get_or-replicate, length-replicate}
 use Rattle.std.proofs.lemmas.Bool.{cases_lt, cond_both, eqb-true, eq-eqb}
-use Rattle.pat_words.specs.Words.{Word, no_word, one, LiesIn}
+use Rattle.pat_words_spec.specs.Words.{Word, no_word, one, LiesIn}
 use Rattle.pat_words_laws.proofs.WordLaws.{word_ext, count_eq}
 use Rattle.pat_bags.specs.Views.{counted}
 

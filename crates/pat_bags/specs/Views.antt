@@ -1,6 +1,6 @@
 -- A bag seen as a word.
 use Rattle.std.specs.Prelude.{ℕ, List, slice_index}
-use Rattle.pat_words.specs.Words.{Word}
+use Rattle.pat_words_spec.specs.Words.{Word}
 use Rattle.pat_bags.specs.declared.Bag.{Bag}
 
 -- the word of a list of counts: none beyond its end

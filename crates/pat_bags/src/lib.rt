@@ -2,8 +2,8 @@
 #![tactic(auto)]
 
 ghost use Rattle.std.specs.Prelude.{◌≡◌, ◌<◌, ◌+◌, ◌^◌, ℕ, IsTrue, ◌↔◌, IfSome, IsSome};
-ghost use Rattle.pat_words.specs.Words.{plus, one, no_word, LiesIn};
-ghost use Rattle.pat_words.specs.Cuts.{cut_at};
+ghost use Rattle.pat_words_spec.specs.Words.{plus, one, no_word, LiesIn};
+ghost use Rattle.pat_words_spec.specs.Cuts.{cut_at};
 ghost use Rattle.pat_bags.specs.Views.{word_of};
 
 /// The number of tags that a bag counts.

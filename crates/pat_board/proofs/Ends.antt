@@ -3,15 +3,15 @@ use Rattle.std.proofs.Common.{◌≡◌, ℕ, zero, suc, ◌+◌, ◌<◌, ◌�
 use Rattle.std.specs.Map.{lookup}
 use Rattle.std.specs.Prelude.{option_and_then}
 use Rattle.std.proofs.lemmas.Bool.{cases_lt}
-use Rattle.pat_model.specs.Programs.{Program}
-use Rattle.pat_model.specs.Configs.{Config}
-use Rattle.pat_model.specs.Steps.{Act, ActLocal, ActNew, ActSend, ActSpawn, ActPrint, ActEnd, ActFree, ActReceive, Step, step, thread_step}
-use Rattle.pat_model.specs.Runs.{Outcome, EndDone, EndWaiting, EndFull, EndBudget, step_count, outcome, can_step_without_sending}
-use Rattle.pat_model_laws.specs.Laws.{IsEnabled, IsFull, Ends, OtherTestIsExact, OutcomeIsExact}
-use Rattle.pat_commits.specs.Opens.{IsOpen}
-use Rattle.pat_commits.specs.Lendings.{Out, NoneOut, SomeOut, allowances}
-use Rattle.pat_commit_laws.proofs.Runs.{limited_now}
-use Rattle.pat_commit_laws.proofs.Endings.{open_no_full}
+use Rattle.pat_semantics_spec.specs.Programs.{Program}
+use Rattle.pat_semantics_spec.specs.Configs.{Config}
+use Rattle.pat_semantics_spec.specs.Steps.{Act, ActLocal, ActNew, ActSend, ActSpawn, ActPrint, ActEnd, ActFree, ActReceive, Step, step, thread_step}
+use Rattle.pat_semantics_spec.specs.Runs.{Outcome, EndDone, EndWaiting, EndFull, EndBudget, step_count, outcome, can_step_without_sending}
+use Rattle.pat_semantics_laws.specs.Laws.{IsEnabled, IsFull, Ends, OtherTestIsExact, OutcomeIsExact}
+use Rattle.pat_machine_spec.specs.Opens.{IsOpen}
+use Rattle.pat_machine_spec.specs.Lendings.{Out, NoneOut, SomeOut, allowances}
+use Rattle.pat_machine_laws.proofs.Runs.{limited_now}
+use Rattle.pat_machine_laws.proofs.Endings.{open_no_full}
 use Rattle.pat_machine.specs.declared.job.Outcome.{Outcome as CodeOutcome}
 use Rattle.pat_machine.specs.declared.job.Outcome.TheVariants as ending
 use Rattle.pat_machine.specs.Shown.{Shown, program_of, entries_of, IsMachine}

@@ -1,13 +1,13 @@
 -- What the calls of a board give.
 use Rattle.std.specs.Prelude.{◌≡◌, ℕ, ◌<◌, List, length, map, Option, Some, None, Result, Ok, Err, ◌↔◌}
-use Rattle.pat_model.specs.Programs.{Program}
-use Rattle.pat_model.specs.Configs.{Config}
-use Rattle.pat_model.specs.Steps.{Act, Step}
-use Rattle.pat_model.specs.Runs.{step_count, outcome}
+use Rattle.pat_semantics_spec.specs.Programs.{Program}
+use Rattle.pat_semantics_spec.specs.Configs.{Config}
+use Rattle.pat_semantics_spec.specs.Steps.{Act, Step}
+use Rattle.pat_semantics_spec.specs.Runs.{step_count, outcome}
 use Rattle.pat_core.specs.Views.{program_view}
 use Rattle.pat_reduce.specs.declared.history.Entry.{Entry}
 use Rattle.pat_reduce.specs.Views.{entry_view}
-use Rattle.pat_commits.specs.Opens.{IsOpen}
+use Rattle.pat_machine_spec.specs.Opens.{IsOpen}
 use Rattle.pat_machine.specs.declared.job.Named.{Named}
 use Rattle.pat_machine.specs.declared.job.Outcome.{Outcome}
 use Rattle.pat_machine.specs.Gives.{outcome_view}

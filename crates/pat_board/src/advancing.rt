@@ -1,18 +1,18 @@
 // What an advance does to a machine while it is held.
 ghost use Rattle.std.specs.Prelude.{◌≡◌, None, Err, IfOk, OnErr};
 ghost use Rattle.pat_core.specs.Views.{program_view};
-ghost use Rattle.pat_reduce_threads.specs.ThreadViews.{thread_view};
-ghost use Rattle.pat_commits.specs.Commits.{IsLocalRun};
-ghost use Rattle.pat_commits.specs.Lendings.{NoneOut};
+ghost use Rattle.pat_reduce.specs.threads.ThreadViews.{thread_view};
+ghost use Rattle.pat_machine_spec.specs.Commits.{IsLocalRun};
+ghost use Rattle.pat_machine_spec.specs.Lendings.{NoneOut};
 ghost use Rattle.pat_machine.specs.Shown.{program_of, IsMachine};
 ghost use Rattle.pat_machine.specs.Gives.{Committed, IsOver, OutcomeGives};
 ghost use Rattle.pat_board.specs.Advancing.{TakingGives, Keeps, Advances};
 
 use crate::answers::{Advance, AdvanceRefused};
-use pat_executable::Executable;
 use pat_machine::{CommitRefused, Job, Machine, Outcome, Receipt, TakeRefused};
 use pat_machine_threads::{LocalRun, local_run};
-use pat_model_laws::outcome_laws;
+use pat_reduce_values::Executable;
+use pat_semantics_laws::outcome_laws;
 use std::alloc::{AllocError, Global};
 
 /// Takes all jobs back, and serves one job of the thread that is named, or of the one whose turn it is.

@@ -1,19 +1,19 @@
 // The board and its seats.
 ghost use Rattle.std.specs.Prelude.{◌≡◌, ◌<◌, ◌≤◌, IfOk};
 ghost use Rattle.pat_reduce.specs.Views.{config_view};
-ghost use Rattle.pat_commits.specs.Lendings.{NoneOut};
+ghost use Rattle.pat_machine_spec.specs.Lendings.{NoneOut};
 ghost use Rattle.pat_turn.specs.Shown.{AreNew, IsOfAll};
-ghost use Rattle.pat_turn_machine.specs.Holds.{worker_of};
+ghost use Rattle.pat_workers.specs.turns.Holds.{worker_of};
 ghost use Rattle.pat_board.specs.Seats.{IsSeatOf, AreSeatsOf, Looked, LeadsTo};
 ghost use Rattle.pat_board.specs.Advances.{AdvanceGives};
 
 use crate::advancing::advance;
 use crate::answers::{Advance, AdvanceRefused};
-use pat_accepted::Accepted;
-use pat_executable::Executable;
 use pat_machine::Machine;
 use pat_reduce::Config;
+use pat_reduce_values::Executable;
 use pat_turn::{News, Pass, Turn};
+use pat_typed_program::Accepted;
 use std::alloc::{AllocError, Global};
 use std::marker::Model;
 use std::sync::Wait;

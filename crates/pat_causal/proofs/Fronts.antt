@@ -2,11 +2,11 @@
 use Rattle.std.proofs.Common.{◌≡◌, ℕ, zero, suc, ◌+◌, ◌<◌, ◌≤◌, List, [], ◌∷◌, ◌++◌, length, get_or, map, drop, refl, sym, ap, ◌∙◌, subst, arith, append-nil, append_assoc, length-append}
 use Rattle.std.specs.Prelude.{take}
 use Rattle.std.proofs.lemmas.List.{drop_all}
-use Rattle.pat_model.specs.Runs.{Entry}
+use Rattle.pat_semantics_spec.specs.Runs.{Entry}
 use Rattle.pat_reduce.specs.declared.history.Entry.{Entry as CodeEntry}
 use Rattle.pat_reduce.specs.Views.{entry_view}
-use Rattle.pat_causal_order.specs.Independent.{spawned_by, sent_by, spawns, sends}
-use Rattle.pat_causal_order.specs.Reordered.{most_entries, LeadsTo, IsReordered}
+use Rattle.pat_causal_spec.specs.Independent.{spawned_by, sent_by, spawns, sends}
+use Rattle.pat_causal_spec.specs.Reordered.{most_entries, LeadsTo, IsReordered}
 use Rattle.pat_causal_laws.specs.Moving.{SettledFrom, IsMoving}
 use Rattle.pat_causal_laws.proofs.Settled.{is_settled}
 use Rattle.pat_causal_laws.proofs.Moves.{begins, spawns_join, sends_join, spawns_few, sends_few, leads_spawns, leads_sends}

@@ -2,11 +2,11 @@
 use Rattle.std.proofs.Common.{◌≡◌, ℕ, suc, ◌+◌, ◌-◌, ◌<◌, ◌≤◌, true, false, List, [], ◌∷◌, ◌++◌, length, get_or, map, sym, ap, subst, arith, length-append}
 use Rattle.std.specs.Prelude.{take, slice_get}
 use Rattle.std.proofs.lemmas.Bool.{and_parts}
-use Rattle.pat_model.specs.Runs.{Entry}
+use Rattle.pat_semantics_spec.specs.Runs.{Entry}
 use Rattle.pat_reduce.specs.declared.history.Entry.{Entry as CodeEntry}
 use Rattle.pat_reduce.specs.Views.{entry_view}
-use Rattle.pat_causal_order.specs.Independent.{spawned_by, sent_by, independent_at, is_greater, is_out_of_order}
-use Rattle.pat_causal_order.specs.Reordered.{most_entries, exchanged, LeadsTo}
+use Rattle.pat_causal_spec.specs.Independent.{spawned_by, sent_by, independent_at, is_greater, is_out_of_order}
+use Rattle.pat_causal_spec.specs.Reordered.{most_entries, exchanged, LeadsTo}
 use Rattle.pat_causal_laws.specs.Moving.{SettledFrom, IsMoving}
 use Rattle.pat_causal_laws.proofs.Moves.{moves_on, stops_here, stops_first, leads_on, exchanged_length, exchanged_take}
 use Rattle.pat_causal.specs.declared.counts.Counts.{Counts as CodeCounts}

@@ -1,11 +1,11 @@
 // Histories in order: each entry moves forward past greater threads' entries that are independent of it.
 ghost use Rattle.std.specs.Prelude.{◌≡◌, ◌≤◌, ◌<◌, ◌+◌, ◌^◌, Some, length, map, take, IfOk, OnOk};
-ghost use Rattle.pat_model.specs.Programs.{Program};
-ghost use Rattle.pat_model.specs.Configs.{Config};
-ghost use Rattle.pat_model.specs.Runs.{replay};
+ghost use Rattle.pat_semantics_spec.specs.Programs.{Program};
+ghost use Rattle.pat_semantics_spec.specs.Configs.{Config};
+ghost use Rattle.pat_semantics_spec.specs.Runs.{replay};
 ghost use Rattle.pat_reduce.specs.Views.{entry_view};
-ghost use Rattle.pat_causal_order.specs.Independent as of;
-ghost use Rattle.pat_causal_order.specs.Reordered.{IsReordered, most_entries};
+ghost use Rattle.pat_causal_spec.specs.Independent as of;
+ghost use Rattle.pat_causal_spec.specs.Reordered.{IsReordered, most_entries};
 ghost use Rattle.pat_causal_laws.specs.Moving.{SettledFrom, IsMoving};
 ghost use Rattle.pat_causal.specs.Counts.{AreCounts};
 ghost use Rattle.pat_causal.specs.Leading.{LeadOn};

@@ -3,9 +3,9 @@
 
 ghost use Rattle.std.specs.Prelude.{◌≡◌, drop};
 ghost use Rattle.std.specs.Process.{exit_status};
-ghost use Rattle.pat_answers.specs.Statuses.{status_code};
+ghost use Rattle.pat_front.specs.exit_answers.Statuses.{status_code};
 
-use pat_answers::Status;
+use pat_front::Status;
 use pat_ports::{OpenGate, StdSink, StdSource};
 pub use pat_session::pat;
 use std::alloc::AllocError;

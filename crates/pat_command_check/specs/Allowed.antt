@@ -1,9 +1,9 @@
 -- What `check` may answer.
 use Rattle.std.specs.Prelude.{◌≡◌, ℕ, List}
-use Rattle.pat_answers.specs.Answers.{accepted_line}
-use Rattle.pat_answers.specs.declared.status.Status.{Status}
-use Rattle.pat_answers.specs.declared.status.Status.TheVariants.{Ok, Refused}
-use Rattle.pat_checked.specs.Inputs.{IsAcceptedText, IsCheckRefusal}
+use Rattle.pat_front.specs.exit_answers.Answers.{accepted_line}
+use Rattle.pat_front.specs.declared.exit_answers.status.Status.{Status}
+use Rattle.pat_front.specs.declared.exit_answers.status.Status.TheVariants.{Ok, Refused}
+use Rattle.pat_typecheck.specs.Inputs.{IsAcceptedText, IsCheckRefusal}
 
 -- the text and the status of `check` on these bytes
 abbrev pub AllowedCheck : List ℕ → List ℕ → Status → Type 0

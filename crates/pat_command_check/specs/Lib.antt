@@ -1,2 +1,2 @@
-pub use Rattle.pat_checked.specs.Inputs
+pub use Rattle.pat_typecheck.specs.Inputs
 pub mod Allowed

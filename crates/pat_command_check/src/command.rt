@@ -1,13 +1,13 @@
 // Whether the program of an input is accepted.
 ghost use Rattle.std.specs.Prelude.{ℕ, List, IfOk};
 ghost use Rattle.pat_input.specs.Inputs.{IsRead};
-ghost use Rattle.pat_answers.specs.Answers.{SaysAccepted};
-ghost use Rattle.pat_checked.specs.Checks.{IsChecked};
+ghost use Rattle.pat_front.specs.exit_answers.Answers.{SaysAccepted};
+ghost use Rattle.pat_typecheck.specs.Checks.{IsChecked};
 ghost use Rattle.pat_command_check.specs.Allowed.{AllowedCheck};
 
-use pat_answers::{Answer, accepted_answer};
-use pat_checked::{Checked, check_input};
+use pat_front::{Answer, accepted_answer};
 use pat_input::Input;
+use pat_typecheck::{Checked, check_input};
 use std::alloc::{AllocError, Global};
 
 /// What `check` answers on this input.

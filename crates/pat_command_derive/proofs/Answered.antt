@@ -5,9 +5,9 @@ use Rattle.pat_core.specs.declared.program.Program.{Program}
 use Rattle.pat_core.specs.Views.{program_view}
 use Rattle.pat_derivations.specs.declared.data.Derivation.{Derivation}
 use Rattle.pat_derivations.specs.Views.{derivation_view}
-use Rattle.pat_answers.specs.declared.answer.Answer.{Answer}
-use Rattle.pat_checked.specs.declared.inputs.Checked.TheVariants.{Accepted, Refused}
-use Rattle.pat_checked.specs.Checks.{IsChecked}
+use Rattle.pat_front.specs.declared.exit_answers.answer.Answer.{Answer}
+use Rattle.pat_typecheck.specs.declared.inputs.Checked.TheVariants.{Accepted, Refused}
+use Rattle.pat_typecheck.specs.Checks.{IsChecked}
 use Rattle.pat_command_derive.specs.Allowed.{AllowedDerive, SaysDerivation}
 
 pub accepted_allowed : {E : Type 0} (bytes : List ℕ) (p : Program) (d : Derivation) (r : Result Answer E) → IsChecked bytes (Accepted p d) → IfOk r (λ a. SaysDerivation (program_view p) (derivation_view d) a.text.items a.status) → IfOk r (λ a. AllowedDerive bytes a.text.items a.status)

@@ -1,9 +1,9 @@
 -- What `derive` answers is a command's.
 use Rattle.std.proofs.Common.{ℕ, List}
-use Rattle.pat_answers.specs.Answers.{IsCommandStatus}
-use Rattle.pat_answers.specs.declared.status.Status.{Status}
-use Rattle.pat_answers.specs.declared.status.Status.TheVariants.{Ok, Refused, Usage, ReadFault, WriteFault, NoMemory, Budget, Waiting, Full}
-use Rattle.pat_checked.proofs.Statuses.{refused_small}
+use Rattle.pat_front.specs.exit_answers.Answers.{IsCommandStatus}
+use Rattle.pat_front.specs.declared.exit_answers.status.Status.{Status}
+use Rattle.pat_front.specs.declared.exit_answers.status.Status.TheVariants.{Ok, Refused, Usage, ReadFault, WriteFault, NoMemory, Budget, Waiting, Full}
+use Rattle.pat_typecheck.proofs.Statuses.{refused_small}
 use Rattle.pat_command_derive.specs.Allowed.{AllowedDerive}
 
 pub derive_status : (bytes text : List ℕ) (s : Status) → AllowedDerive bytes text s → IsCommandStatus bytes s

@@ -1,11 +1,11 @@
 -- What `derive` may answer.
 use Rattle.std.specs.Prelude.{◌≡◌, ℕ, List}
-use Rattle.pat_model.specs.Programs.{Program}
-use Rattle.pat_validity.specs.Derivations.{Derivation}
-use Rattle.pat_derivation_text.specs.DerivationText.{derivation_text}
-use Rattle.pat_answers.specs.declared.status.Status.{Status}
-use Rattle.pat_answers.specs.declared.status.Status.TheVariants.{Ok, Refused}
-use Rattle.pat_checked.specs.Inputs.{IsAcceptedText, IsCheckRefusal}
+use Rattle.pat_semantics_spec.specs.Programs.{Program}
+use Rattle.pat_derivation_spec.specs.Derivations.{Derivation}
+use Rattle.pat_derivation_text_spec.specs.DerivationText.{derivation_text}
+use Rattle.pat_front.specs.declared.exit_answers.status.Status.{Status}
+use Rattle.pat_front.specs.declared.exit_answers.status.Status.TheVariants.{Ok, Refused}
+use Rattle.pat_typecheck.specs.Inputs.{IsAcceptedText, IsCheckRefusal}
 
 -- the text and the status of a derivation
 abbrev pub SaysDerivation : Program → Derivation → List ℕ → Status → Type 0

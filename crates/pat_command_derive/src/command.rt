@@ -3,15 +3,15 @@ ghost use Rattle.std.specs.Prelude.{ℕ, List, IfOk};
 ghost use Rattle.pat_core.specs.Views.{program_view};
 ghost use Rattle.pat_derivations.specs.Views.{derivation_view};
 ghost use Rattle.pat_input.specs.Inputs.{IsRead};
-ghost use Rattle.pat_checked.specs.Checks.{IsChecked};
+ghost use Rattle.pat_typecheck.specs.Checks.{IsChecked};
 ghost use Rattle.pat_command_derive.specs.Allowed.{AllowedDerive, SaysDerivation};
 
-use pat_answers::{Answer, Status};
-use pat_checked::{Checked, check_input};
 use pat_core::Program;
 use pat_deriv::write;
 use pat_derivations::Derivation;
+use pat_front::{Answer, Status};
 use pat_input::Input;
+use pat_typecheck::{Checked, check_input};
 use std::alloc::{AllocError, Global};
 
 /// What `derive` answers on this input.

@@ -1,19 +1,19 @@
 -- What parts of an answer allow.
 use Rattle.std.proofs.Common.{◌≡◌, ◌≤◌, ◌<◌, ℕ, List, [], ◌∷◌, length, Option, Result, Ok as Done, Err as Failed, refl, sym, ap, ◌∙◌, subst, inl, inr}
 use Rattle.std.specs.Prelude.{IfOk}
-use Rattle.pat_model.specs.Programs.{Program}
-use Rattle.pat_model.specs.Configs.{Config}
-use Rattle.pat_model.specs.Runs.{Entry, Outcome, IsHistory}
-use Rattle.pat_history_text_laws.specs.Readable.{AreReadable}
-use Rattle.pat_causal_order.specs.Reordered.{most_entries, exchanged, LeadsTo, IsReordered}
+use Rattle.pat_semantics_spec.specs.Programs.{Program}
+use Rattle.pat_semantics_spec.specs.Configs.{Config}
+use Rattle.pat_semantics_spec.specs.Runs.{Entry, Outcome, IsHistory}
+use Rattle.pat_history_laws.specs.Readable.{AreReadable}
+use Rattle.pat_causal_spec.specs.Reordered.{most_entries, exchanged, LeadsTo, IsReordered}
 use Rattle.pat_causal_laws.proofs.Histories.{leads_replays, leads_count}
 use Rattle.pat_causal_laws.proofs.Moves.{exchanged_length}
-use Rattle.pat_marked_histories.specs.RunText.{order_text}
+use Rattle.pat_replay_input.specs.RunText.{order_text}
 use Rattle.pat_front.specs.declared.verdict.Verdict.{Verdict}
 use Rattle.pat_front.specs.declared.verdict.Verdict.TheVariants as verdict
-use Rattle.pat_answers.specs.Answers.{SaysVerdict}
-use Rattle.pat_answers.specs.declared.answer.Answer.{Answer}
-use Rattle.pat_marked_histories.specs.Histories.{standing, Replays, IsReplayRefusal}
+use Rattle.pat_front.specs.exit_answers.Answers.{SaysVerdict}
+use Rattle.pat_front.specs.declared.exit_answers.answer.Answer.{Answer}
+use Rattle.pat_replay_input.specs.Histories.{standing, Replays, IsReplayRefusal}
 use Rattle.pat_command_order.specs.Allowed.{IsOrdered, HasTooMany, IsOrderRefusal, AllowedOrder}
 
 -- no entry that a reader takes has a local step as its shared act

@@ -1,13 +1,13 @@
 -- Bytes have one answer, but for the order that is found.
 use Rattle.std.proofs.Common.{◌≡◌, ◌≤◌, ◌<◌, ℕ, List, length, sym, ap, ◌∙◌, ⊎_elim, arith}
-use Rattle.pat_model.specs.Programs.{Program}
-use Rattle.pat_model.specs.Configs.{Config}
-use Rattle.pat_model.specs.Runs.{Entry}
-use Rattle.pat_causal_order.specs.Reordered.{most_entries}
+use Rattle.pat_semantics_spec.specs.Programs.{Program}
+use Rattle.pat_semantics_spec.specs.Configs.{Config}
+use Rattle.pat_semantics_spec.specs.Runs.{Entry}
+use Rattle.pat_causal_spec.specs.Reordered.{most_entries}
 use Rattle.pat_front.specs.declared.verdict.Verdict.{Verdict}
 use Rattle.pat_front.specs.declared.verdict.Verdict.TheVariants as verdict
-use Rattle.pat_marked_histories.specs.Histories.{Replays, IsReplayRefusal}
-use Rattle.pat_marked_histories.specs.OneReplay.{OneReplay}
+use Rattle.pat_replay_input.specs.Histories.{Replays, IsReplayRefusal}
+use Rattle.pat_replay_input.specs.OneReplay.{OneReplay}
 use Rattle.pat_command_order.specs.Allowed.{IsOrdered, HasTooMany, IsOrderRefusal}
 use Rattle.pat_command_order.specs.Answers.{OneAnswer}
 

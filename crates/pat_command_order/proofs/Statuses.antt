@@ -4,11 +4,11 @@ use Rattle.std.specs.Prelude.{◌≢◌}
 use Rattle.pat_input.specs.Inputs.{whole_limit}
 use Rattle.pat_front.specs.declared.verdict.Verdict.{Verdict}
 use Rattle.pat_front.specs.declared.verdict.Verdict.TheVariants as verdict
-use Rattle.pat_answers.specs.Answers.{IsStatusWithin}
-use Rattle.pat_answers.specs.declared.status.Status.{Status}
-use Rattle.pat_answers.specs.declared.status.Status.TheVariants.{Ok, Refused, Usage, ReadFault, WriteFault, NoMemory, Budget, Waiting, Full}
-use Rattle.pat_marked_histories.specs.Histories.{IsReplayRefusal}
-use Rattle.pat_marked_histories.proofs.Small.{refusal_small}
+use Rattle.pat_front.specs.exit_answers.Answers.{IsStatusWithin}
+use Rattle.pat_front.specs.declared.exit_answers.status.Status.{Status}
+use Rattle.pat_front.specs.declared.exit_answers.status.Status.TheVariants.{Ok, Refused, Usage, ReadFault, WriteFault, NoMemory, Budget, Waiting, Full}
+use Rattle.pat_replay_input.specs.Histories.{IsReplayRefusal}
+use Rattle.pat_replay_input.proofs.Small.{refusal_small}
 use Rattle.pat_command_order.specs.Allowed.{HasTooMany, IsOrderRefusal, AllowedOrder}
 
 small_if : (bytes : List ℕ) (v : Verdict) → IsOrderRefusal bytes v → v ≢ verdict.TooLong → length bytes ≤ whole_limit

@@ -1,16 +1,16 @@
 -- What `order` may answer.
 use Rattle.std.specs.Prelude.{◌≡◌, ◌≤◌, ◌<◌, ◌⊎◌, ℕ, List, Some, length}
-use Rattle.pat_model.specs.Programs.{Program}
-use Rattle.pat_model.specs.Configs.{Config}
-use Rattle.pat_model.specs.Runs.{Entry, replay, step_count}
-use Rattle.pat_causal_order.specs.Reordered.{most_entries, IsReordered}
-use Rattle.pat_marked_histories.specs.RunText.{order_text}
+use Rattle.pat_semantics_spec.specs.Programs.{Program}
+use Rattle.pat_semantics_spec.specs.Configs.{Config}
+use Rattle.pat_semantics_spec.specs.Runs.{Entry, replay, step_count}
+use Rattle.pat_causal_spec.specs.Reordered.{most_entries, IsReordered}
+use Rattle.pat_replay_input.specs.RunText.{order_text}
 use Rattle.pat_front.specs.Lines.{line_of_verdict}
 use Rattle.pat_front.specs.declared.verdict.Verdict.{Verdict}
 use Rattle.pat_front.specs.declared.verdict.Verdict.TheVariants as verdict
-use Rattle.pat_answers.specs.declared.status.Status.{Status}
-use Rattle.pat_answers.specs.declared.status.Status.TheVariants.{Ok, Refused}
-use Rattle.pat_marked_histories.specs.Histories.{standing, Replays, IsReplayRefusal}
+use Rattle.pat_front.specs.declared.exit_answers.status.Status.{Status}
+use Rattle.pat_front.specs.declared.exit_answers.status.Status.TheVariants.{Ok, Refused}
+use Rattle.pat_replay_input.specs.Histories.{standing, Replays, IsReplayRefusal}
 
 -- the bytes are the text of a program, and behind it that of a history that replays; exchanges of independent neighbours bring its
 -- entries into order, and they still lead to the same; and this is their text, what was printed, and how it stands

@@ -1,11 +1,11 @@
 -- Bytes have one answer, but for the order that is found.
 use Rattle.std.specs.Prelude.{◌≡◌, ◌≤◌, ℕ, List, length}
-use Rattle.pat_model.specs.Programs.{Program}
-use Rattle.pat_model.specs.Configs.{Config}
-use Rattle.pat_model.specs.Runs.{Entry}
-use Rattle.pat_causal_order.specs.Reordered.{most_entries}
+use Rattle.pat_semantics_spec.specs.Programs.{Program}
+use Rattle.pat_semantics_spec.specs.Configs.{Config}
+use Rattle.pat_semantics_spec.specs.Runs.{Entry}
+use Rattle.pat_causal_spec.specs.Reordered.{most_entries}
 use Rattle.pat_front.specs.declared.verdict.Verdict.{Verdict}
-use Rattle.pat_marked_histories.specs.Histories.{Replays}
+use Rattle.pat_replay_input.specs.Histories.{Replays}
 use Rattle.pat_command_order.specs.Allowed.{IsOrdered, IsOrderRefusal}
 
 -- what is brought into order is one history of one program, which leads to one configuration

@@ -1,17 +1,16 @@
 // A history behind the text of its program, with its entries in order.
 ghost use Rattle.std.specs.Prelude.{◌≤◌, ◌<◌, ℕ, List, IfOk, length, map};
-ghost use Rattle.pat_model.specs.Runs.{IsHistory};
+ghost use Rattle.pat_semantics_spec.specs.Runs.{IsHistory};
 ghost use Rattle.pat_core.specs.Views.{program_view};
 ghost use Rattle.pat_reduce.specs.Views.{config_view, entry_view};
-ghost use Rattle.pat_causal_order.specs.Reordered.{IsReordered, most_entries};
-ghost use Rattle.pat_marked_histories.specs.Histories.{Replays};
+ghost use Rattle.pat_causal_spec.specs.Reordered.{IsReordered, most_entries};
+ghost use Rattle.pat_replay_input.specs.Histories.{Replays};
 ghost use Rattle.pat_command_order.specs.Allowed.{AllowedOrder};
 
-use pat_answers::{Answer, Status, verdict_answer};
 use pat_causal::{MOST_ENTRIES, Reordered, order};
-use pat_front::{FrontError, Verdict};
-use pat_history_text_laws::read_is_text_law;
-use pat_marked_histories::{Remains, Replayed, order_text_of, replay_bytes, standing_of};
+use pat_front::{Answer, FrontError, Status, Verdict, verdict_answer};
+use pat_history_laws::read_is_text_law;
+use pat_replay_input::{Remains, Replayed, order_text_of, replay_bytes, standing_of};
 use pat_sequences::let_go;
 use std::alloc::{AllocError, Global};
 

@@ -1,9 +1,9 @@
 -- What `print` answers is a command's.
 use Rattle.std.proofs.Common.{ℕ, List}
-use Rattle.pat_answers.specs.Answers.{IsCommandStatus}
-use Rattle.pat_answers.specs.declared.status.Status.{Status}
-use Rattle.pat_answers.specs.declared.status.Status.TheVariants.{Ok, Refused, Usage, ReadFault, WriteFault, NoMemory, Budget, Waiting, Full}
-use Rattle.pat_answers.proofs.Refusals.{small}
+use Rattle.pat_front.specs.exit_answers.Answers.{IsCommandStatus}
+use Rattle.pat_front.specs.declared.exit_answers.status.Status.{Status}
+use Rattle.pat_front.specs.declared.exit_answers.status.Status.TheVariants.{Ok, Refused, Usage, ReadFault, WriteFault, NoMemory, Budget, Waiting, Full}
+use Rattle.pat_front.proofs.Refusals.{small}
 use Rattle.pat_command_print.specs.Allowed.{AllowedPrint}
 
 pub print_status : (bytes text : List ℕ) (s : Status) → AllowedPrint bytes text s → IsCommandStatus bytes s

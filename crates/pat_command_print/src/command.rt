@@ -1,12 +1,12 @@
 // The canonical text of an input that is the text of a program.
 ghost use Rattle.std.specs.Prelude.{◌≡◌, ◌<◌, ℕ, List, IfOk, length};
-ghost use Rattle.pat_grammar_laws.specs.Counts.{tree_size};
+ghost use Rattle.pat_parser_laws.specs.Counts.{tree_size};
 ghost use Rattle.pat_tree.specs.Views.{tree_view};
 ghost use Rattle.pat_input.specs.Inputs.{IsRead};
-ghost use Rattle.pat_answers.specs.Texts.{IsTreeText};
+ghost use Rattle.pat_front.specs.Texts.{IsTreeText};
 ghost use Rattle.pat_command_print.specs.Allowed.{AllowedPrint};
 
-use pat_answers::{Answer, Status, check_tree, refused, tree_of};
+use pat_front::{Answer, Status, check_tree, refused, tree_of};
 use pat_input::Input;
 use pat_tree::Tree;
 use std::alloc::{AllocError, Global};

@@ -1,14 +1,14 @@
 -- What parts of an answer allow.
 use Rattle.std.proofs.Common.{◌≡◌, ℕ, List, Option, Result, Ok as Done, Err as Failed, sym, ap, ◌∙◌, subst}
 use Rattle.std.specs.Prelude.{IfOk}
-use Rattle.pat_model.specs.Programs.{Program}
-use Rattle.pat_model.specs.Configs.{Config}
-use Rattle.pat_model.specs.Runs.{Entry, Outcome}
-use Rattle.pat_marked_histories.specs.RunText.{replay_text}
+use Rattle.pat_semantics_spec.specs.Programs.{Program}
+use Rattle.pat_semantics_spec.specs.Configs.{Config}
+use Rattle.pat_semantics_spec.specs.Runs.{Entry, Outcome}
+use Rattle.pat_replay_input.specs.RunText.{replay_text}
 use Rattle.pat_front.specs.declared.verdict.Verdict.{Verdict}
-use Rattle.pat_answers.specs.Answers.{SaysVerdict}
-use Rattle.pat_answers.specs.declared.answer.Answer.{Answer}
-use Rattle.pat_marked_histories.specs.Histories.{standing, Replays, IsReplayRefusal}
+use Rattle.pat_front.specs.exit_answers.Answers.{SaysVerdict}
+use Rattle.pat_front.specs.declared.exit_answers.answer.Answer.{Answer}
+use Rattle.pat_replay_input.specs.Histories.{standing, Replays, IsReplayRefusal}
 use Rattle.pat_command_replay.specs.Allowed.{IsReplayed, AllowedReplay}
 
 pub replayed_is : (bytes : List ℕ) (p : Program) (es : List Entry) (c : Config) (o : Option Outcome) (out : List ℕ) → Replays bytes p es c → o ≡ standing p c → out ≡ replay_text es c o → IsReplayed bytes out

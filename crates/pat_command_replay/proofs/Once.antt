@@ -1,8 +1,8 @@
 -- Bytes have one answer.
 use Rattle.std.proofs.Common.{◌≡◌, ℕ, List, sym, ap, ◌∙◌}
-use Rattle.pat_marked_histories.specs.RunText.{replay_text}
-use Rattle.pat_marked_histories.specs.Histories.{standing}
-use Rattle.pat_marked_histories.specs.OneReplay.{OneReplay}
+use Rattle.pat_replay_input.specs.RunText.{replay_text}
+use Rattle.pat_replay_input.specs.Histories.{standing}
+use Rattle.pat_replay_input.specs.OneReplay.{OneReplay}
 use Rattle.pat_command_replay.specs.Allowed.{IsReplayed}
 use Rattle.pat_command_replay.specs.Answers.{OneAnswer}
 

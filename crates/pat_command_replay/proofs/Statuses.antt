@@ -1,10 +1,10 @@
 -- What `replay` answers is a command's.
 use Rattle.std.proofs.Common.{ℕ, List}
 use Rattle.pat_input.specs.Inputs.{whole_limit}
-use Rattle.pat_answers.specs.Answers.{IsStatusWithin}
-use Rattle.pat_answers.specs.declared.status.Status.{Status}
-use Rattle.pat_answers.specs.declared.status.Status.TheVariants.{Ok, Refused, Usage, ReadFault, WriteFault, NoMemory, Budget, Waiting, Full}
-use Rattle.pat_marked_histories.proofs.Small.{refusal_small}
+use Rattle.pat_front.specs.exit_answers.Answers.{IsStatusWithin}
+use Rattle.pat_front.specs.declared.exit_answers.status.Status.{Status}
+use Rattle.pat_front.specs.declared.exit_answers.status.Status.TheVariants.{Ok, Refused, Usage, ReadFault, WriteFault, NoMemory, Budget, Waiting, Full}
+use Rattle.pat_replay_input.proofs.Small.{refusal_small}
 use Rattle.pat_command_replay.specs.Allowed.{AllowedReplay}
 
 pub replay_status : (bytes out : List ℕ) (s : Status) → AllowedReplay bytes out s → IsStatusWithin whole_limit bytes s

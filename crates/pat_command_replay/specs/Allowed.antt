@@ -1,13 +1,13 @@
 -- What `replay` may answer.
 use Rattle.std.specs.Prelude.{◌≡◌, ℕ, List}
-use Rattle.pat_model.specs.Programs.{Program}
-use Rattle.pat_model.specs.Configs.{Config}
-use Rattle.pat_model.specs.Runs.{Entry}
-use Rattle.pat_marked_histories.specs.RunText.{replay_text}
+use Rattle.pat_semantics_spec.specs.Programs.{Program}
+use Rattle.pat_semantics_spec.specs.Configs.{Config}
+use Rattle.pat_semantics_spec.specs.Runs.{Entry}
+use Rattle.pat_replay_input.specs.RunText.{replay_text}
 use Rattle.pat_front.specs.Lines.{line_of_verdict}
-use Rattle.pat_answers.specs.declared.status.Status.{Status}
-use Rattle.pat_answers.specs.declared.status.Status.TheVariants.{Ok, Refused}
-use Rattle.pat_marked_histories.specs.Histories.{standing, Replays, IsReplayRefusal}
+use Rattle.pat_front.specs.declared.exit_answers.status.Status.{Status}
+use Rattle.pat_front.specs.declared.exit_answers.status.Status.TheVariants.{Ok, Refused}
+use Rattle.pat_replay_input.specs.Histories.{standing, Replays, IsReplayRefusal}
 
 -- the bytes are the text of a program, and behind it that of a history that replays, and this is its output, and how it stands
 pub record IsReplayed (bytes out : List ℕ) : Type 0 where

@@ -1,7 +1,7 @@
 -- Bytes have one answer.
 use Rattle.std.specs.Prelude.{◌≡◌, ℕ, List}
 use Rattle.pat_front.specs.declared.verdict.Verdict.{Verdict}
-use Rattle.pat_marked_histories.specs.Histories.{IsReplayRefusal}
+use Rattle.pat_replay_input.specs.Histories.{IsReplayRefusal}
 use Rattle.pat_command_replay.specs.Allowed.{IsReplayed}
 
 -- they are replayed, with one output, or refused, in one way, and not both: so each answer comes exactly where it is said to come

@@ -2,12 +2,11 @@
 ghost use Rattle.std.specs.Prelude.{◌<◌, ℕ, List, IfOk, length, map};
 ghost use Rattle.pat_core.specs.Views.{program_view};
 ghost use Rattle.pat_reduce.specs.Views.{config_view, entry_view};
-ghost use Rattle.pat_marked_histories.specs.Histories.{Replays};
+ghost use Rattle.pat_replay_input.specs.Histories.{Replays};
 ghost use Rattle.pat_command_replay.specs.Allowed.{AllowedReplay};
 
-use pat_answers::{Answer, Status, verdict_answer};
-use pat_front::FrontError;
-use pat_marked_histories::{Remains, Replayed, replay_bytes, replay_text_of, standing_of};
+use pat_front::{Answer, FrontError, Status, verdict_answer};
+use pat_replay_input::{Remains, Replayed, replay_bytes, replay_text_of, standing_of};
 use pat_sequences::let_go;
 use std::alloc::{AllocError, Global};
 

@@ -1,4 +1,5 @@
 mod Runs
 mod Runnable
 -- for the crates above
-pub mod Statuses
+mod Statuses
+pub mod LoadStatuses

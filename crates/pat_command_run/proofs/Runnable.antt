@@ -1,19 +1,19 @@
 -- What the code comes to is allowed.
 use Rattle.std.proofs.Common.{◌≡◌, ℕ, List, Result, Ok as Done, Err as Failed, refl, sym, subst}
 use Rattle.std.specs.Prelude.{IfOk}
-use Rattle.pat_model.specs.WellFormed.{WellFormed}
-use Rattle.pat_model.specs.Runs.{EndDone, EndWaiting, EndFull, EndBudget}
-use Rattle.pat_typing.specs.Typings.{IsTypable}
+use Rattle.pat_semantics_spec.specs.WellFormed.{WellFormed}
+use Rattle.pat_semantics_spec.specs.Runs.{EndDone, EndWaiting, EndFull, EndBudget}
+use Rattle.pat_type_system_spec.specs.Typings.{IsTypable}
 use Rattle.pat_core.specs.declared.program.Program.{Program}
 use Rattle.pat_core.specs.Views.{program_view}
 use Rattle.pat_derivations.specs.declared.data.Derivation.{Derivation}
 use Rattle.pat_derivations.specs.Views.{derivation_view}
-use Rattle.pat_options.specs.declared.options.RunOptions.{RunOptions}
-use Rattle.pat_answers.specs.declared.answer.Answer.{Answer}
-use Rattle.pat_answers.specs.declared.status.Status.{Status}
-use Rattle.pat_checked.specs.declared.inputs.Checked.TheVariants.{Accepted, Refused}
-use Rattle.pat_checked.specs.Checks.{IsChecked}
-use Rattle.pat_checked.specs.Inputs.{IsAcceptedText}
+use Rattle.pat_run.specs.declared.options.options.RunOptions.{RunOptions}
+use Rattle.pat_front.specs.declared.exit_answers.answer.Answer.{Answer}
+use Rattle.pat_front.specs.declared.exit_answers.status.Status.{Status}
+use Rattle.pat_typecheck.specs.declared.inputs.Checked.TheVariants.{Accepted, Refused}
+use Rattle.pat_typecheck.specs.Checks.{IsChecked}
+use Rattle.pat_typecheck.specs.Inputs.{IsAcceptedText}
 use Rattle.pat_command_run.specs.declared.command.Detail.{Detail}
 use Rattle.pat_command_run.specs.Allowed.{RunShows, AllowedRun}
 

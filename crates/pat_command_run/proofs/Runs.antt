@@ -2,22 +2,22 @@
 use Rattle.std.proofs.Common.{◌≡◌, ℕ, ◌+◌, ◌<◌, ◌≤◌, List, [], ◌∷◌, length, map, Option, Some, None, refl, sym, ap, ◌∙◌, subst, arith}
 use Rattle.std.specs.Prelude.{option_and_then}
 use Rattle.std.proofs.lemmas.List.{length-map}
-use Rattle.pat_model.specs.Programs.{Program}
-use Rattle.pat_model.specs.Configs.{Config, start}
-use Rattle.pat_model.specs.Steps.{Step}
-use Rattle.pat_model.specs.Runs.{Entry, IsHistory, entry_steps, entry_from, replay_from, replay, step_count}
+use Rattle.pat_semantics_spec.specs.Programs.{Program}
+use Rattle.pat_semantics_spec.specs.Configs.{Config, start}
+use Rattle.pat_semantics_spec.specs.Steps.{Step}
+use Rattle.pat_semantics_spec.specs.Runs.{Entry, IsHistory, entry_steps, entry_from, replay_from, replay, step_count}
 use Rattle.pat_core.specs.declared.program.Program.{Program as CodeProgram}
 use Rattle.pat_core.specs.Views.{program_view}
 use Rattle.pat_reduce.specs.declared.history.Entry.{Entry as CodeEntry}
 use Rattle.pat_reduce.specs.Views.{entry_view}
-use Rattle.pat_commits.specs.Machines.{StaysWithin}
+use Rattle.pat_machine_spec.specs.Machines.{StaysWithin}
 use Rattle.pat_machine.specs.declared.job.Named.{Named}
-use Rattle.pat_run.specs.Shown.{Shown, IsMachine, program_of, entries_of}
-use Rattle.pat_run.specs.Gives.{outcome_view}
-use Rattle.pat_options.specs.declared.options.RunOptions.{RunOptions}
-use Rattle.pat_run.specs.declared.running.Finished.{Finished}
-use Rattle.pat_run.specs.Runners.{RunGives}
-use Rattle.pat_answers.specs.declared.status.Status.{Status}
+use Rattle.pat_run.specs.single.Shown.{Shown, IsMachine, program_of, entries_of}
+use Rattle.pat_run.specs.single.Gives.{outcome_view}
+use Rattle.pat_run.specs.declared.options.options.RunOptions.{RunOptions}
+use Rattle.pat_run.specs.declared.single.running.Finished.{Finished}
+use Rattle.pat_run.specs.single.Runners.{RunGives}
+use Rattle.pat_front.specs.declared.exit_answers.status.Status.{Status}
 use Rattle.pat_command_run.specs.declared.command.Detail.{Detail}
 use Rattle.pat_command_run.specs.Allowed.{EndsWith, RunsTo, RunShows, told}
 

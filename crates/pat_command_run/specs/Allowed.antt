@@ -1,15 +1,15 @@
 -- What `run` may answer, and whoever else runs a program.
 use Rattle.std.specs.Prelude.{◌≡◌, ◌≤◌, ℕ, List, Some}
-use Rattle.pat_model.specs.Programs.{Program}
-use Rattle.pat_model.specs.Configs.{Config}
-use Rattle.pat_model.specs.Runs.{Entry, IsHistory, Outcome, EndDone, EndWaiting, EndFull, EndBudget, step_count, replay}
-use Rattle.pat_commits.specs.Machines.{StaysWithin}
-use Rattle.pat_options.specs.declared.options.RunOptions.{RunOptions}
-use Rattle.pat_run.specs.Runners.{IsRunWith}
-use Rattle.pat_lines.specs.RunText.{run_text, replay_text}
-use Rattle.pat_checked.specs.Inputs.{IsAcceptedText, IsCheckRefusal}
-use Rattle.pat_answers.specs.declared.status.Status.{Status}
-use Rattle.pat_answers.specs.declared.status.Status.TheVariants.{Ok, Refused, Usage, ReadFault, WriteFault, NoMemory, Budget, Waiting, Full}
+use Rattle.pat_semantics_spec.specs.Programs.{Program}
+use Rattle.pat_semantics_spec.specs.Configs.{Config}
+use Rattle.pat_semantics_spec.specs.Runs.{Entry, IsHistory, Outcome, EndDone, EndWaiting, EndFull, EndBudget, step_count, replay}
+use Rattle.pat_machine_spec.specs.Machines.{StaysWithin}
+use Rattle.pat_run.specs.declared.options.options.RunOptions.{RunOptions}
+use Rattle.pat_run.specs.single.Runners.{IsRunWith}
+use Rattle.pat_history.specs.run_reports.RunText.{run_text, replay_text}
+use Rattle.pat_typecheck.specs.Inputs.{IsAcceptedText, IsCheckRefusal}
+use Rattle.pat_front.specs.declared.exit_answers.status.Status.{Status}
+use Rattle.pat_front.specs.declared.exit_answers.status.Status.TheVariants.{Ok, Refused, Usage, ReadFault, WriteFault, NoMemory, Budget, Waiting, Full}
 use Rattle.pat_command_run.specs.declared.command.Detail.{Detail}
 use Rattle.pat_command_run.specs.declared.command.Detail.TheVariants.{Whole, Summary}
 

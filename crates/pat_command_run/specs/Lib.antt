@@ -1,2 +1,3 @@
-pub use Rattle.pat_run.specs.Runners
+pub use Rattle.pat_run.specs.single.Runners
 pub mod Allowed
+pub mod load

@@ -1,31 +1,30 @@
 // The run of the program of an input, if it is accepted.
 ghost use Rattle.std.specs.Prelude.{◌≡◌, ◌<◌, ℕ, List, length, map, IfOk};
 ghost use Rattle.pat_core.specs.Views.{program_view};
-ghost use Rattle.pat_model.specs.WellFormed.{WellFormed};
-ghost use Rattle.pat_model.specs.Configs.{Config};
-ghost use Rattle.pat_model.specs.Runs.{IsHistory};
-ghost use Rattle.pat_typing.specs.Typings.{IsTypable};
+ghost use Rattle.pat_semantics_spec.specs.WellFormed.{WellFormed};
+ghost use Rattle.pat_semantics_spec.specs.Configs.{Config};
+ghost use Rattle.pat_semantics_spec.specs.Runs.{IsHistory};
+ghost use Rattle.pat_type_system_spec.specs.Typings.{IsTypable};
 ghost use Rattle.pat_reduce.specs.Views.{entry_view};
-ghost use Rattle.pat_run.specs.Gives.{outcome_view};
-ghost use Rattle.pat_options.specs.Options.{IsWithin};
+ghost use Rattle.pat_run.specs.single.Gives.{outcome_view};
+ghost use Rattle.pat_run.specs.options.Options.{IsWithin};
 ghost use Rattle.pat_input.specs.Inputs.{IsRead};
-ghost use Rattle.pat_run.specs.Runners.{IsRunner};
-ghost use Rattle.pat_lines.specs.Remains.{remains_of};
-ghost use Rattle.pat_checked.specs.Checks.{IsChecked};
+ghost use Rattle.pat_run.specs.single.Runners.{IsRunner};
+ghost use Rattle.pat_history.specs.run_reports.Remains.{remains_of};
+ghost use Rattle.pat_typecheck.specs.Checks.{IsChecked};
 ghost use Rattle.pat_command_run.specs.Allowed as allowed;
 ghost use Rattle.pat_command_run.specs.Allowed.{AllowedRun, RunShows, EndsWith};
 
-use pat_accepted::Accepted;
-use pat_answers::{Answer, Status};
-use pat_checked::{Checked, check_input};
 use pat_core::Program;
 use pat_derivations::Derivation;
+use pat_front::{Answer, Status};
+use pat_history::{Remains, replay_text_of, text_of};
 use pat_input::Input;
-use pat_lines::{Remains, replay_text_of, text_of};
-use pat_options::RunOptions;
 use pat_reduce::Entry;
-use pat_run::{Finished, Outcome};
+use pat_run::{Finished, Outcome, RunOptions};
 use pat_sequences::{Text, let_go};
+use pat_typecheck::{Checked, check_input};
+use pat_typed_program::Accepted;
 use std::alloc::{AllocError, Global};
 
 /// How much of a run is told.

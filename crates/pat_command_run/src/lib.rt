@@ -1,7 +1,9 @@
-//! The command `run`: the history and the output of a program's run.
+//! `run`: what it may answer on the bytes that were read, and the function that answers; and `load`, the run of a generated program.
 #![tactic(auto)]
 
 mod command;
+mod load;
 
 pub use command::{Detail, answer_run};
+pub use load::answer_load;
 pub use pat_run::Finished;

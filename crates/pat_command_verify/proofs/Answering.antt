@@ -2,19 +2,19 @@
 use Rattle.std.proofs.Common.{◌≡◌, ◌≤◌, ◌+◌, ℕ, List, [], ◌∷◌, length, take, Result, Ok as Done, Err as Failed, sym, ap, subst, inl, inr}
 use Rattle.std.specs.Prelude.{IfOk}
 use Rattle.std.proofs.lemmas.List.{length-take-le}
-use Rattle.pat_model.specs.Programs.{Program}
-use Rattle.pat_model.specs.Faults.{IsSafe}
-use Rattle.pat_validity.specs.Validity.{IsValid}
-use Rattle.pat_validity.specs.Derivations.{Derivation}
-use Rattle.pat_derivation_text.specs.DerivationText.{marker}
-use Rattle.pat_derivation_text.specs.Reading.{ReadsAs, Unread}
-use Rattle.pat_marked_programs.specs.MarkedPrograms.{HasProgram, IsMarkedRefusal}
+use Rattle.pat_semantics_spec.specs.Programs.{Program}
+use Rattle.pat_semantics_spec.specs.Faults.{IsSafe}
+use Rattle.pat_derivation_spec.specs.Validity.{IsValid}
+use Rattle.pat_derivation_spec.specs.Derivations.{Derivation}
+use Rattle.pat_derivation_text_spec.specs.DerivationText.{marker}
+use Rattle.pat_derivation_text_spec.specs.Reading.{ReadsAs, Unread}
+use Rattle.pat_input_split.specs.program_with_text.MarkedPrograms.{HasProgram, IsMarkedRefusal}
 use Rattle.pat_front.specs.declared.verdict.Verdict.{Verdict}
 use Rattle.pat_front.specs.declared.verdict.Verdict.TheVariants as verdict
-use Rattle.pat_answers.specs.Answers.{SaysAccepted, SaysVerdict}
-use Rattle.pat_answers.specs.declared.answer.Answer.{Answer}
-use Rattle.pat_answers.specs.declared.status.Status.{Status}
-use Rattle.pat_answers.specs.declared.status.Status.TheVariants.{Ok, Refused, Usage, ReadFault, WriteFault, NoMemory, Budget, Waiting, Full}
+use Rattle.pat_front.specs.exit_answers.Answers.{SaysAccepted, SaysVerdict}
+use Rattle.pat_front.specs.declared.exit_answers.answer.Answer.{Answer}
+use Rattle.pat_front.specs.declared.exit_answers.status.Status.{Status}
+use Rattle.pat_front.specs.declared.exit_answers.status.Status.TheVariants.{Ok, Refused, Usage, ReadFault, WriteFault, NoMemory, Budget, Waiting, Full}
 use Rattle.pat_command_verify.specs.Allowed.{AllowedVerify, AnswersText, AnswersJudged}
 
 -- ---- whole inputs

@@ -1,18 +1,18 @@
 -- Bytes have one answer.
 use Rattle.std.proofs.Common.{◌≡◌, ◌⊎◌, ◌+◌, ℕ, List, length, Option, Some, None, refl, sym, ap, ◌∙◌, subst, ⊎_elim}
-use Rattle.pat_model.specs.Programs.{Program}
-use Rattle.pat_validity.specs.Derivations.{Derivation}
-use Rattle.pat_validity.specs.Validity.{first_bad, IsValid}
-use Rattle.pat_validity.specs.Validity as validity
-use Rattle.pat_validity_laws.specs.Laws.{ValidIsNoneBad}
+use Rattle.pat_semantics_spec.specs.Programs.{Program}
+use Rattle.pat_derivation_spec.specs.Derivations.{Derivation}
+use Rattle.pat_derivation_spec.specs.Validity.{first_bad, IsValid}
+use Rattle.pat_derivation_spec.specs.Validity as validity
+use Rattle.pat_derivation_laws.specs.Laws.{ValidIsNoneBad}
 use Rattle.pat_derivation_text_laws.specs.Laws.{ReadingIsOne}
-use Rattle.pat_derivation_text.specs.DerivationText.{marker}
-use Rattle.pat_derivation_text.specs.Reading.{ReadsAs, Unread}
-use Rattle.pat_rules.specs.declared.Rule.{Rule}
-use Rattle.pat_rules.specs.declared.Rule.TheVariants as rule
+use Rattle.pat_derivation_text_spec.specs.DerivationText.{marker}
+use Rattle.pat_derivation_text_spec.specs.Reading.{ReadsAs, Unread}
+use Rattle.pat_derivation_rules.specs.declared.Rule.{Rule}
+use Rattle.pat_derivation_rules.specs.declared.Rule.TheVariants as rule
 use Rattle.pat_judge.specs.Views.{rule_view}
-use Rattle.pat_marked_programs.specs.MarkedPrograms.{HasProgram, IsMarkedRefusal}
-use Rattle.pat_marked_programs.specs.OneProgram.{OneProgram}
+use Rattle.pat_input_split.specs.program_with_text.MarkedPrograms.{HasProgram, IsMarkedRefusal}
+use Rattle.pat_input_split.specs.program_with_text.OneProgram.{OneProgram}
 use Rattle.pat_front.specs.declared.verdict.Verdict.{Verdict}
 use Rattle.pat_front.specs.declared.verdict.Verdict.TheVariants as verdict
 use Rattle.pat_command_verify.specs.Allowed.{HasValid, RefusesText, Unaccepted}

@@ -1,11 +1,11 @@
 -- A text is read in one way: as a derivation, or up to a line that isn't read.
 use Rattle.std.proofs.Common.{◌≡◌, ◌⊎◌, ℕ, List, [], ◌∷◌, length, Option, Some, None, refl, sym, ap, ◌∙◌, subst, inl, inr, ⊎_elim, arith}
-use Rattle.pat_model.specs.Programs.{Program}
-use Rattle.pat_validity.specs.Derivations.{Derivation}
-use Rattle.pat_derivation_text.specs.Joined.{cut}
-use Rattle.pat_derivation_text.specs.DerivationText.{marker}
-use Rattle.pat_derivation_text.specs.LineReading.{with_line}
-use Rattle.pat_derivation_text.specs.Reading.{ReadsTo, first, another, ReadsAs, no_lines, NoLine, NoMarker, Unread, no_marker, no_line}
+use Rattle.pat_semantics_spec.specs.Programs.{Program}
+use Rattle.pat_derivation_spec.specs.Derivations.{Derivation}
+use Rattle.pat_texts_spec.specs.Joined.{cut}
+use Rattle.pat_derivation_text_spec.specs.DerivationText.{marker}
+use Rattle.pat_derivation_text_spec.specs.LineReading.{with_line}
+use Rattle.pat_derivation_text_spec.specs.Reading.{ReadsTo, first, another, ReadsAs, no_lines, NoLine, NoMarker, Unread, no_marker, no_line}
 
 -- lines that are read lead from the one to the other
 data OnTo (p : Program) : Derivation → List ℕ → Derivation → List ℕ → Type 0 where

@@ -1,15 +1,15 @@
 -- What `verify` answers is a command's.
 use Rattle.std.proofs.Common.{◌≡◌, ◌≤◌, ◌⊎◌, ℕ, List, length, ⊎_elim}
 use Rattle.std.specs.Prelude.{◌≢◌}
-use Rattle.pat_derivation_text.specs.DerivationText.{marker}
+use Rattle.pat_derivation_text_spec.specs.DerivationText.{marker}
 use Rattle.pat_input.specs.Inputs.{whole_limit}
-use Rattle.pat_marked_programs.specs.MarkedPrograms.{IsMarkedRefusal}
-use Rattle.pat_marked_programs.proofs.Small.{refused_small}
+use Rattle.pat_input_split.specs.program_with_text.MarkedPrograms.{IsMarkedRefusal}
+use Rattle.pat_input_split.proofs.Small.{refused_small}
 use Rattle.pat_front.specs.declared.verdict.Verdict.{Verdict}
 use Rattle.pat_front.specs.declared.verdict.Verdict.TheVariants as verdict
-use Rattle.pat_answers.specs.Answers.{IsStatusWithin}
-use Rattle.pat_answers.specs.declared.status.Status.{Status}
-use Rattle.pat_answers.specs.declared.status.Status.TheVariants.{Ok, Refused, Usage, ReadFault, WriteFault, NoMemory, Budget, Waiting, Full}
+use Rattle.pat_front.specs.exit_answers.Answers.{IsStatusWithin}
+use Rattle.pat_front.specs.declared.exit_answers.status.Status.{Status}
+use Rattle.pat_front.specs.declared.exit_answers.status.Status.TheVariants.{Ok, Refused, Usage, ReadFault, WriteFault, NoMemory, Budget, Waiting, Full}
 use Rattle.pat_command_verify.specs.Allowed.{AllowedVerify, IsVerifyRefusal, RefusesText}
 
 small_if : (bytes : List ℕ) (v : Verdict) → IsVerifyRefusal bytes v → v ≢ verdict.TooLong → length bytes ≤ whole_limit

@@ -1,19 +1,19 @@
 -- What `verify` may answer.
 use Rattle.std.specs.Prelude.{◌≡◌, ◌⊎◌, ◌+◌, ℕ, List, length, Some}
-use Rattle.pat_model.specs.Programs.{Program}
-use Rattle.pat_model.specs.Faults.{IsSafe}
-use Rattle.pat_validity.specs.Derivations.{Derivation}
-use Rattle.pat_validity.specs.Validity.{first_bad, IsValid}
-use Rattle.pat_derivation_text.specs.DerivationText.{marker}
-use Rattle.pat_derivation_text.specs.Reading.{ReadsAs, Unread}
-use Rattle.pat_marked_programs.specs.MarkedPrograms.{HasProgram, IsMarkedRefusal}
+use Rattle.pat_semantics_spec.specs.Programs.{Program}
+use Rattle.pat_semantics_spec.specs.Faults.{IsSafe}
+use Rattle.pat_derivation_spec.specs.Derivations.{Derivation}
+use Rattle.pat_derivation_spec.specs.Validity.{first_bad, IsValid}
+use Rattle.pat_derivation_text_spec.specs.DerivationText.{marker}
+use Rattle.pat_derivation_text_spec.specs.Reading.{ReadsAs, Unread}
+use Rattle.pat_input_split.specs.program_with_text.MarkedPrograms.{HasProgram, IsMarkedRefusal}
 use Rattle.pat_judge.specs.Views.{rule_view}
 use Rattle.pat_front.specs.Lines.{line_of_verdict}
 use Rattle.pat_front.specs.declared.verdict.Verdict.{Verdict}
 use Rattle.pat_front.specs.declared.verdict.Verdict.TheVariants as verdict
-use Rattle.pat_answers.specs.Answers.{accepted_line}
-use Rattle.pat_answers.specs.declared.status.Status.{Status}
-use Rattle.pat_answers.specs.declared.status.Status.TheVariants.{Ok, Refused}
+use Rattle.pat_front.specs.exit_answers.Answers.{accepted_line}
+use Rattle.pat_front.specs.declared.exit_answers.status.Status.{Status}
+use Rattle.pat_front.specs.declared.exit_answers.status.Status.TheVariants.{Ok, Refused}
 
 -- ---- behind a program
 

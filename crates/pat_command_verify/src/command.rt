@@ -1,17 +1,17 @@
 // An input of a program and a derivation.
 ghost use Rattle.std.specs.Prelude.{◌<◌, ◌≤◌, ◌+◌, IfOk, length};
-ghost use Rattle.pat_model.specs.WellFormed.{WellFormed};
+ghost use Rattle.pat_semantics_spec.specs.WellFormed.{WellFormed};
 ghost use Rattle.pat_core.specs.Views.{program_view};
 ghost use Rattle.pat_derivations.specs.Views.{derivation_view};
 ghost use Rattle.pat_command_verify.specs.Allowed.{AllowedVerify, AnswersText, AnswersJudged};
 
-use pat_answers::{Answer, accepted_answer, verdict_answer};
 use pat_core::Program;
-use pat_deriv::{TextError, read};
+use pat_deriv::read;
 use pat_derivations::Derivation;
-use pat_front::{FrontError, Verdict};
+use pat_front::{Answer, FrontError, Verdict, accepted_answer, verdict_answer};
+use pat_input_split::program_before;
 use pat_judge::judge;
-use pat_marked_programs::program_before;
+use pat_texts::TextError;
 use std::alloc::{AllocError, Global};
 
 /// What `verify` answers on these bytes.

@@ -2,9 +2,9 @@
 ghost use Rattle.std.specs.Prelude.{ℕ, List};
 ghost use Rattle.pat_command_verify.specs.Answers.{OneAnswer};
 
+use pat_derivation_laws::first_bad_laws;
 use pat_derivation_text_laws::reading_is_one_law;
-use pat_marked_programs::program_law;
-use pat_validity_laws::first_bad_laws;
+use pat_input_split::program_law;
 
 /// Bytes are accepted or refused, not both, and refused in one way: so each answer comes exactly where it is said to come.
 pub fn verify_law()

@@ -1,13 +1,13 @@
 -- An interface that the program doesn't have has no name and no tags.
 use Rattle.std.proofs.Common.{◌≡◌, ℕ, zero, suc, ◌≤◌, List, [], ◌∷◌, ◌++◌, map, length, refl, sym, ap, ◌∙◌, arith}
 use Rattle.std.specs.Prelude.{slice_get, slice_index_or}
-use Rattle.pat_words.specs.Patterns.{Pat}
+use Rattle.pat_words_spec.specs.Patterns.{Pat}
 use Rattle.pat_core.specs.declared.program.Interface.{Interface}
 use Rattle.pat_core.specs.Views.{interface_view, tag_view}
-use Rattle.pat_inclusions.specs.Values.{VarValue}
-use Rattle.pat_pattern_text.specs.PatternText.{pat_text}
-use Rattle.pat_print_patterns.specs.PatternText as print
-use Rattle.pat_derivation_text.specs.DerivationText.{tags_named, value_text}
+use Rattle.pat_inclusion_spec.specs.Values.{VarValue}
+use Rattle.pat_derivation_text_spec.specs.patterns.PatternText.{pat_text}
+use Rattle.pat_print.specs.patterns.PatternText as print
+use Rattle.pat_derivation_text_spec.specs.DerivationText.{tags_named, value_text}
 
 name_beyond : (is : List Interface) (k : ℕ) → length is ≤ k → slice_index_or (map (λ j. j.name) (map interface_view is)) k [] ≡ []
 name_beyond [] k l = refl

@@ -1,11 +1,11 @@
 -- Where the first line that isn't read begins.
 use Rattle.std.proofs.Common.{◌≡◌, ℕ, ◌+◌, ◌-◌, ◌<◌, List, [], ◌∷◌, length, sym, subst, arith}
 use Rattle.std.specs.Prelude.{Option, Some, None}
-use Rattle.pat_model.specs.Programs.{Program}
-use Rattle.pat_validity.specs.Derivations.{Derivation}
-use Rattle.pat_derivation_text.specs.Joined.{cut}
-use Rattle.pat_derivation_text.specs.LineReading.{with_line}
-use Rattle.pat_derivation_text.specs.Reading.{ReadsTo, NoLine, Unread, no_line}
+use Rattle.pat_semantics_spec.specs.Programs.{Program}
+use Rattle.pat_derivation_spec.specs.Derivations.{Derivation}
+use Rattle.pat_texts_spec.specs.Joined.{cut}
+use Rattle.pat_derivation_text_spec.specs.LineReading.{with_line}
+use Rattle.pat_derivation_text_spec.specs.Reading.{ReadsTo, NoLine, Unread, no_line}
 
 unread_at : (p : Program) (text : List ℕ) (d : Derivation) (rest : List ℕ) → ReadsTo p text d rest → 0 < length rest → length rest < length text + 1 → NoLine p d rest (cut 10 rest) → Unread p text (length text - length rest)
 unread_at p text d [] r some l h = absurd (omega arith)

@@ -1,14 +1,14 @@
 -- What the reader answers, against what the text is read as.
 use Rattle.std.specs.Prelude.{◌≡◌, ℕ, ◌+◌, List, Option, Some, None, Result, Ok, Err}
 use Rattle.std.specs.Borrow.{Bor}
-use Rattle.pat_model.specs.Programs.{Program}
+use Rattle.pat_semantics_spec.specs.Programs.{Program}
 use Rattle.pat_derivations.specs.declared.data.Derivation.{Derivation}
 use Rattle.pat_derivations.specs.Views.{derivation_view}
-use Rattle.pat_derivation_text.specs.Joined.{cut}
-use Rattle.pat_derivation_text.specs.DerivationText.{marker}
-use Rattle.pat_derivation_text.specs.Reading.{ReadsAs, Unread, NoMarker}
-use Rattle.pat_deriv.specs.declared.reading.TextError.{TextError}
-use Rattle.pat_deriv.specs.declared.reading.TextError.TheVariants.{BadText, NoMemory}
+use Rattle.pat_texts_spec.specs.Joined.{cut}
+use Rattle.pat_derivation_text_spec.specs.DerivationText.{marker}
+use Rattle.pat_derivation_text_spec.specs.Reading.{ReadsAs, Unread, NoMarker}
+use Rattle.pat_texts.specs.declared.error.TextError.{TextError}
+use Rattle.pat_texts.specs.declared.error.TextError.TheVariants.{BadText, NoMemory}
 
 -- what stands behind the first line, or no first line stands here
 abbrev pub FirstGives : Option (Bor (List ℕ)) → List ℕ → Type 0

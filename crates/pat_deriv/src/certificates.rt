@@ -1,13 +1,13 @@
 // Certificates.
 ghost use Rattle.std.specs.Prelude.{◌≡◌, ◌++◌, ◌∷◌, OnOk, map};
 ghost use Rattle.std.specs.List.{flat_map};
-ghost use Rattle.pat_certs_covers.specs.Views.{entry_view, entries_view};
+ghost use Rattle.pat_cover_certificates.specs.Views.{entry_view, entries_view};
 ghost use Rattle.pat_derivations.specs.Views.{cert_view, certs_view};
-ghost use Rattle.pat_derivation_text.specs.DerivationText.{numbers_text, entry_text, cert_text, certs_text};
-ghost use Rattle.pat_derivation_text.specs.Joined.{joined};
+ghost use Rattle.pat_derivation_text_spec.specs.DerivationText.{numbers_text, entry_text, cert_text, certs_text};
+ghost use Rattle.pat_texts_spec.specs.Joined.{joined};
 
 use crate::pieces::{put, put_number, put_numbers};
-use pat_certs_covers::CoverEntry;
+use pat_cover_certificates::CoverEntry;
 use pat_derivations::Cert;
 use pat_sequences::Sequence;
 use std::alloc::AllocError;

@@ -1,11 +1,12 @@
-//! The text of a derivation.
+//! Derivations to text, and back.
 #![tactic(auto)]
 
 mod certificates;
 mod lines;
+mod nodes;
 mod pieces;
 mod reading;
 mod types;
 
 pub use lines::write;
-pub use reading::{TextError, read};
+pub use reading::read;

@@ -3,14 +3,14 @@ ghost use Rattle.std.specs.Prelude.{◌≡◌, ◌++◌, ◌∷◌, [], OnOk, If
 ghost use Rattle.std.specs.Fmt.{decimal};
 ghost use Rattle.pat_core.specs.Views.{program_view};
 ghost use Rattle.pat_derivations.specs.Views.{var_view, vars_view, line_view, lines_view, derivation_view};
-ghost use Rattle.pat_derivation_text.specs.DerivationText.{var_line, node_body, node_line, numbered, text_of_lines, derivation_text};
+ghost use Rattle.pat_derivation_text_spec.specs.DerivationText.{var_line, node_body, node_line, numbered, text_of_lines, derivation_text};
 
 use crate::certificates::put_certs;
 use crate::pieces::put;
 use crate::types::{put_needs, put_type, put_var};
 use pat_core::Program;
-use pat_decimal::push_number;
 use pat_derivations::{Derivation, DerivedNode, VarValue};
+use pat_texts::push_number;
 use std::alloc::{AllocError, Global};
 
 /// A word, and a number and a space behind it.

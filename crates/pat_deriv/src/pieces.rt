@@ -1,10 +1,10 @@
 // Bytes and numbers.
 ghost use Rattle.std.specs.Prelude.{◌≡◌, ◌++◌, ◌∷◌, OnOk, map};
 ghost use Rattle.std.specs.Fmt.{decimal};
-ghost use Rattle.pat_derivation_text.specs.DerivationText.{numbers_text};
+ghost use Rattle.pat_derivation_text_spec.specs.DerivationText.{numbers_text};
 ghost use Rattle.std.specs.List.{flat_map};
 
-use pat_decimal::push_number;
+use pat_texts::push_number;
 use std::alloc::AllocError;
 
 pub fn put(out: &mut Vec<u8>, bytes: &[u8]) -> Result<(), AllocError>

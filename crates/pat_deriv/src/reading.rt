@@ -2,24 +2,17 @@
 ghost use Rattle.std.specs.Prelude.{◌≡◌, ◌<◌, ◌+◌, ◌^◌, length};
 ghost use Rattle.pat_core.specs.Views.{program_view};
 ghost use Rattle.pat_derivations.specs.Views.{derivation_view};
-ghost use Rattle.pat_derivation_text.specs.DerivationText.{marker};
-ghost use Rattle.pat_derivation_text.specs.Reading.{ReadsTo, no_lines};
+ghost use Rattle.pat_derivation_text_spec.specs.DerivationText.{marker};
+ghost use Rattle.pat_derivation_text_spec.specs.Reading.{ReadsTo, no_lines};
 ghost use Rattle.pat_deriv.specs.Answers.{FirstGives, Gives};
 
+use crate::nodes::read_line;
 use pat_core::Program;
-use pat_deriv_nodes::{cut, read_line};
-use pat_deriv_patterns::Unread;
+use pat_derivation_lines::Unread;
 use pat_derivations::Derivation;
 use pat_sequences::Sequence;
-use std::alloc::{AllocError, Global};
-
-/// Why a text is not read.
-#[derive(Clone, Copy, Debug, PartialEq, Eq)]
-pub enum TextError {
-    /// The offset at which the first line that isn't spelled begins.
-    BadText(u32),
-    NoMemory,
-}
+use pat_texts::{TextError, cut};
+use std::alloc::Global;
 
 /// What stands behind the first line, if it is the one that derivations begin with.
 fn behind_marker(text: &[u8]) -> Option<&[u8]>

@@ -8,15 +8,15 @@ use Rattle.std.proofs.lemmas.Bool.{and_parts, and_from, leb-true, le-leb}
 use Rattle.std.proofs.lemmas.List.{length-append}
 use Rattle.std.proofs.lemmas.Str.Parse.{digit_from_value}
 use Rattle.std.proofs.lemmas.Fmt.{decimal_is_IsNumeral}
-use Rattle.pat_inclusions.specs.Covers.{CoverEntry}
-use Rattle.pat_inclusions.specs.Certificates.{Cert, CoverCert, GridCert}
-use Rattle.pat_validity.specs.Spelled.{is_number, are_numbers, spells_entry, spells_cert}
-use Rattle.pat_pattern_text.specs.Numbers.{read_number}
-use Rattle.pat_pattern_text_laws.proofs.Decimals.{number_read}
-use Rattle.pat_derivation_text.specs.Joined.{joined, pieces, read_each, read_joined}
-use Rattle.pat_derivation_text.specs.DerivationText.{numbers_text, entry_text, cert_text, certs_text}
-use Rattle.pat_derivation_text.specs.LineReading.{read_numbers, entry_with, entry_of, read_entry, cert_by, read_cert, read_certs}
-use Rattle.pat_derivation_text_laws.proofs.CutAgain.{lacks, within, cut_at, pieces_joined, before_at, behind_at, each_read, all_texts, joined_read, all_append, all_joined, wider, lacks_lower, lacks_higher}
+use Rattle.pat_inclusion_spec.specs.Covers.{CoverEntry}
+use Rattle.pat_inclusion_spec.specs.Certificates.{Cert, CoverCert, GridCert}
+use Rattle.pat_derivation_spec.specs.Spelled.{is_number, are_numbers, spells_entry, spells_cert}
+use Rattle.pat_texts_spec.specs.Numbers.{read_number}
+use Rattle.pat_texts_spec.proofs.Decimals.{number_read}
+use Rattle.pat_texts_spec.specs.Joined.{joined, pieces, read_each, read_joined}
+use Rattle.pat_derivation_text_spec.specs.DerivationText.{numbers_text, entry_text, cert_text, certs_text}
+use Rattle.pat_derivation_text_spec.specs.LineReading.{read_numbers, entry_with, entry_of, read_entry, cert_by, read_cert, read_certs}
+use Rattle.pat_texts_spec.proofs.CutAgain.{lacks, within, cut_at, pieces_joined, before_at, behind_at, each_read, all_texts, joined_read, all_append, all_joined, wider, lacks_lower, lacks_higher}
 use Rattle.pat_derivation_text_laws.proofs.TypesSpelled.{spaced}
 
 -- ---- numbers

@@ -4,20 +4,21 @@ use Rattle.std.specs.Prelude.{Option, Some, None, option_map, option_and_then, c
 use Rattle.std.specs.List.{flat_map}
 use Rattle.std.specs.Fmt.{decimal}
 use Rattle.std.proofs.lemmas.Bool.{eqb-true, and_parts}
-use Rattle.pat_words.specs.Patterns.{is_closed}
-use Rattle.pat_model.specs.Programs.{Program}
-use Rattle.pat_inclusions.specs.Points.{points_fit}
-use Rattle.pat_inclusions.specs.Values.{VarValue, PatternForm, GridForm, VarLine}
-use Rattle.pat_validity.specs.Derivations.{Line, Derivation}
-use Rattle.pat_pattern_text.specs.Numbers.{read_number}
-use Rattle.pat_pattern_text.specs.PatternReading.{read_pattern, behind}
-use Rattle.pat_pattern_text_laws.proofs.Choices.{taken, made, made_next}
-use Rattle.pat_pattern_text_laws.proofs.Decimals.{number_spelled}
-use Rattle.pat_pattern_text_laws.proofs.Spelled.{pattern_spelled, behind_is}
-use Rattle.pat_derivation_text.specs.Joined.{joined, cut, pieces, read_each, before}
-use Rattle.pat_derivation_text.specs.DerivationText.{interface_name, type_text, needs_text, numbers_text, point_text, value_text, var_line, node_line, numbered, marker, text_of_lines, derivation_text}
-use Rattle.pat_derivation_text.specs.LineReading.{found, read_type, read_needs, read_certs, read_numbers, point_of, read_point, grid_with, grid_of, closed_value, value_by, read_value, var_in, var_named, if_numbered, behind_number, read_var, node_with, node_of, read_node, var_by, with_node, line_by, with_line}
-use Rattle.pat_derivation_text.specs.Reading.{ReadsTo, ReadsAs, first, another}
+use Rattle.pat_words_spec.specs.Patterns.{is_closed}
+use Rattle.pat_semantics_spec.specs.Programs.{Program}
+use Rattle.pat_inclusion_spec.specs.Points.{points_fit}
+use Rattle.pat_inclusion_spec.specs.Values.{VarValue, PatternForm, GridForm, VarLine}
+use Rattle.pat_derivation_spec.specs.Derivations.{Line, Derivation}
+use Rattle.pat_texts_spec.specs.Numbers.{read_number}
+use Rattle.pat_derivation_text_spec.specs.patterns.PatternReading.{read_pattern}
+use Rattle.pat_texts_spec.specs.Fronts.{behind}
+use Rattle.pat_texts_spec.proofs.Choices.{taken, made, made_next}
+use Rattle.pat_texts_spec.proofs.Decimals.{number_spelled}
+use Rattle.pat_derivation_text_laws.proofs.Spelled.{pattern_spelled, behind_is}
+use Rattle.pat_texts_spec.specs.Joined.{joined, cut, pieces, read_each, before}
+use Rattle.pat_derivation_text_spec.specs.DerivationText.{interface_name, type_text, needs_text, numbers_text, point_text, value_text, var_line, node_line, numbered, marker, text_of_lines, derivation_text}
+use Rattle.pat_derivation_text_spec.specs.LineReading.{found, read_type, read_needs, read_certs, read_numbers, point_of, read_point, grid_with, grid_of, closed_value, value_by, read_value, var_in, var_named, if_numbered, behind_number, read_var, node_with, node_of, read_node, var_by, with_node, line_by, with_line}
+use Rattle.pat_derivation_text_spec.specs.Reading.{ReadsTo, ReadsAs, first, another}
 use Rattle.pat_derivation_text_laws.proofs.LinesSpelled.{cut_is, before_is, joined_pieces, each_is, numbers_is}
 use Rattle.pat_derivation_text_laws.proofs.TypesSpelled.{found_is, type_is, needs_is, certs_are}
 

@@ -1,12 +1,12 @@
 -- For a resolved program the text of each derivation that a reader takes is read as it.
 use Rattle.std.proofs.Common.{◌≡◌, ℕ, ◌≤◌, true, List, [], ◌++◌, length, sym, subst, append-nil}
-use Rattle.pat_model.specs.Programs.{Program}
-use Rattle.pat_names.specs.Places.{Places}
-use Rattle.pat_names.specs.Resolved.{IsResolved}
-use Rattle.pat_validity.specs.Derivations.{Derivation}
-use Rattle.pat_pattern_text_laws.specs.Laws.{PatternIsRead}
-use Rattle.pat_derivation_text.specs.DerivationText.{derivation_text}
-use Rattle.pat_derivation_text.specs.Reading.{ReadsTo, ReadsAs, Unread}
+use Rattle.pat_semantics_spec.specs.Programs.{Program}
+use Rattle.pat_resolver_spec.specs.Places.{Places}
+use Rattle.pat_resolver_spec.specs.Resolved.{IsResolved}
+use Rattle.pat_derivation_spec.specs.Derivations.{Derivation}
+use Rattle.pat_derivation_text_laws.specs.patterns.Laws.{PatternIsRead}
+use Rattle.pat_derivation_text_spec.specs.DerivationText.{derivation_text}
+use Rattle.pat_derivation_text_spec.specs.Reading.{ReadsTo, ReadsAs, Unread}
 use Rattle.pat_derivation_text_laws.specs.Readable.{can_be_read}
 use Rattle.pat_derivation_text_laws.proofs.LinesRead.{text_reads}
 use Rattle.pat_derivation_text_laws.proofs.Naming.{have_tags, names_fit}

@@ -1,6 +1,4 @@
 mod CertsRead
-mod CutAgain
-pub mod Cutting
 mod DerivationSpelled
 mod Exact
 mod LinesRead
@@ -10,3 +8,6 @@ mod Sound
 mod TypesRead
 mod TypesSpelled
 mod Ways
+mod ReadAgain
+pub mod Running
+pub mod Spelled

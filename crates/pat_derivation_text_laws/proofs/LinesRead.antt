@@ -5,25 +5,25 @@ use Rattle.std.specs.List.{list_all, flat_map}
 use Rattle.std.specs.Fmt.{decimal}
 use Rattle.std.proofs.lemmas.Bool.{and_parts, and_from, leb-true, le-leb, ltb-true, eqb-true, eq-eqb}
 use Rattle.std.proofs.lemmas.List.{length-append, length-take-le}
-use Rattle.pat_words.specs.Patterns.{Pat, Zero, One, Tag, Sum, Prod, Star, Var, is_closed}
-use Rattle.pat_words.specs.Tags.{tags_below}
-use Rattle.pat_model.specs.Programs.{Program}
-use Rattle.pat_inclusions.specs.Points.{grid_fits, point_fits, points_ascend, points_fit}
-use Rattle.pat_inclusions.specs.Values.{VarValue, PatternForm, GridForm, VarLine, value_fits}
-use Rattle.pat_validity.specs.Derivations.{Line, Derivation, ascends_from, scope_of}
-use Rattle.pat_validity.specs.Spelled.{is_number, are_numbers, is_plain_value, spells_var, spells_type, spells_named, spells_cert, spells_line, can_be_spelled}
-use Rattle.pat_pattern_text.specs.Numbers.{read_number}
-use Rattle.pat_pattern_text.specs.PatternText.{pat_text, has_numbers, is_shallow}
-use Rattle.pat_pattern_text.specs.PatternReading.{behind}
-use Rattle.pat_pattern_text_laws.specs.Laws.{PatternIsRead}
-use Rattle.pat_pattern_text_laws.proofs.Choices.{passed, negated}
-use Rattle.pat_pattern_text_laws.proofs.Decimals.{number_read}
-use Rattle.pat_derivation_text.specs.Joined.{cut, pieces, read_each}
-use Rattle.pat_derivation_text.specs.DerivationText.{interface_name, tag_names, type_text, needs_text, certs_text, point_text, value_text, var_body, var_line, node_body, node_line, numbered, marker, text_of_lines, derivation_text}
-use Rattle.pat_derivation_text.specs.LineReading.{read_type, read_certs, point_of, read_point, grid_with, grid_of, closed_value, value_by, read_value, var_in, var_named, if_numbered, behind_number, read_var, node_with, node_of, read_node, with_node, line_by, with_line}
-use Rattle.pat_derivation_text.specs.Reading.{ReadsTo, first, another, no_lines}
+use Rattle.pat_words_spec.specs.Patterns.{Pat, Zero, One, Tag, Sum, Prod, Star, Var, is_closed}
+use Rattle.pat_words_spec.specs.Tags.{tags_below}
+use Rattle.pat_semantics_spec.specs.Programs.{Program}
+use Rattle.pat_inclusion_spec.specs.Points.{grid_fits, point_fits, points_ascend, points_fit}
+use Rattle.pat_inclusion_spec.specs.Values.{VarValue, PatternForm, GridForm, VarLine, value_fits}
+use Rattle.pat_derivation_spec.specs.Derivations.{Line, Derivation, ascends_from, scope_of}
+use Rattle.pat_derivation_spec.specs.Spelled.{is_number, are_numbers, is_plain_value, spells_var, spells_type, spells_named, spells_cert, spells_line, can_be_spelled}
+use Rattle.pat_texts_spec.specs.Numbers.{read_number}
+use Rattle.pat_derivation_text_spec.specs.patterns.PatternText.{pat_text, has_numbers, is_shallow}
+use Rattle.pat_texts_spec.specs.Fronts.{behind}
+use Rattle.pat_derivation_text_laws.specs.patterns.Laws.{PatternIsRead}
+use Rattle.pat_texts_spec.proofs.Choices.{passed, negated}
+use Rattle.pat_texts_spec.proofs.Decimals.{number_read}
+use Rattle.pat_texts_spec.specs.Joined.{cut, pieces, read_each}
+use Rattle.pat_derivation_text_spec.specs.DerivationText.{interface_name, tag_names, type_text, needs_text, certs_text, point_text, value_text, var_body, var_line, node_body, node_line, numbered, marker, text_of_lines, derivation_text}
+use Rattle.pat_derivation_text_spec.specs.LineReading.{read_type, read_certs, point_of, read_point, grid_with, grid_of, closed_value, value_by, read_value, var_in, var_named, if_numbered, behind_number, read_var, node_with, node_of, read_node, with_node, line_by, with_line}
+use Rattle.pat_derivation_text_spec.specs.Reading.{ReadsTo, first, another, no_lines}
 use Rattle.pat_derivation_text_laws.specs.Readable.{has_whole_points, lines_have_numbers, can_be_read}
-use Rattle.pat_derivation_text_laws.proofs.CutAgain.{lacks, within, cut_at, pieces_joined, before_at, behind_at, each_read, all_texts, all_append, wider, lacks_lower}
+use Rattle.pat_texts_spec.proofs.CutAgain.{lacks, within, cut_at, pieces_joined, before_at, behind_at, each_read, all_texts, all_append, wider, lacks_lower}
 use Rattle.pat_derivation_text_laws.proofs.CertsRead.{number_within, numbers_read, numbers_within, certs_read, certs_within}
 use Rattle.pat_derivation_text_laws.proofs.TypesRead.{NamesFit, inner_newline, inner_at, inner_opens, inner_closes, apart_space, apart_inner, pattern_inner, count_is, type_read, type_inner, needs_read, needs_lack}
 use Rattle.pat_derivation_text_laws.proofs.DerivationSpelled.{behind_spaces, parts}

@@ -5,17 +5,17 @@ use Rattle.std.specs.Fmt.{decimal}
 use Rattle.std.proofs.lemmas.Bool.{eqb-true}
 use Rattle.std.proofs.lemmas.List.{take-append-drop}
 use Rattle.std.proofs.lemmas.Slice.Eq.{bytes_eq-Decides}
-use Rattle.pat_inclusions.specs.Covers.{CoverEntry}
-use Rattle.pat_inclusions.specs.Certificates.{Cert, CoverCert, GridCert}
-use Rattle.pat_pattern_text.specs.Numbers.{read_number}
-use Rattle.pat_pattern_text.specs.PatternReading.{behind}
-use Rattle.pat_pattern_text_laws.proofs.Choices.{taken, made, made_next}
-use Rattle.pat_pattern_text_laws.proofs.Decimals.{number_spelled}
-use Rattle.pat_pattern_text_laws.proofs.Spelled.{behind_is}
-use Rattle.pat_derivation_text.specs.Joined.{joined, cut, pieces, with_first, read_each, read_joined, before}
-use Rattle.pat_derivation_text.specs.DerivationText.{numbers_text, entry_text, cert_text}
-use Rattle.pat_derivation_text.specs.LineReading.{read_numbers, entry_with, entry_of, read_entry, cert_by, read_cert}
-use Rattle.pat_derivation_text_laws.proofs.Cutting.{CutInPieces, cut_pieces}
+use Rattle.pat_inclusion_spec.specs.Covers.{CoverEntry}
+use Rattle.pat_inclusion_spec.specs.Certificates.{Cert, CoverCert, GridCert}
+use Rattle.pat_texts_spec.specs.Numbers.{read_number}
+use Rattle.pat_texts_spec.specs.Fronts.{behind}
+use Rattle.pat_texts_spec.proofs.Choices.{taken, made, made_next}
+use Rattle.pat_texts_spec.proofs.Decimals.{number_spelled}
+use Rattle.pat_derivation_text_laws.proofs.Spelled.{behind_is}
+use Rattle.pat_texts_spec.specs.Joined.{joined, cut, pieces, with_first, read_each, read_joined, before}
+use Rattle.pat_derivation_text_spec.specs.DerivationText.{numbers_text, entry_text, cert_text}
+use Rattle.pat_derivation_text_spec.specs.LineReading.{read_numbers, entry_with, entry_of, read_entry, cert_by, read_cert}
+use Rattle.pat_texts_spec.proofs.Cutting.{CutInPieces, cut_pieces}
 
 -- ---- cuts
 

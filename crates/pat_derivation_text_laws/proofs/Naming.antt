@@ -9,18 +9,18 @@ use Rattle.std.proofs.lemmas.Slice.Eq.{bytes_eq-Decides}
 use Rattle.std.proofs.lemmas.Map.Keys.{IsDistinct-head, IsDistinct-tail}
 use Rattle.unicode_ident.specs.Ident.{is_xid_start}
 use Rattle.unicode_ident.proofs.IdentLemmas.{is_xid_start-ascii, is_xid_continue-ascii, is_xid_start-is_xid_continue}
-use Rattle.pat_lexical.specs.Characters.{starts_name, continues_name, Each, IsNameText}
-use Rattle.pat_lexical.specs.Spelled.{IsName}
-use Rattle.pat_model.specs.Programs.{Interface, Program}
-use Rattle.pat_model.specs.WellFormed.{InterfaceFits, WellFormed}
-use Rattle.pat_names.specs.Resolved.{InterfaceIsNamed, IsNamed}
-use Rattle.pat_pattern_text.specs.PatternText.{is_mark, is_plain_name}
-use Rattle.pat_pattern_text.specs.PatternReading.{place_of}
-use Rattle.pat_pattern_text_laws.specs.Laws.{AreNames}
-use Rattle.pat_pattern_text_laws.proofs.Choices.{passed, skipped}
-use Rattle.pat_derivation_text.specs.DerivationText.{interface_name, tags_named, tag_names}
-use Rattle.pat_derivation_text.specs.LineReading.{found as found_in}
-use Rattle.pat_derivation_text_laws.proofs.CutAgain.{all_weaker, all_append}
+use Rattle.pat_lexer_spec.specs.Characters.{starts_name, continues_name, Each, IsNameText}
+use Rattle.pat_lexer_spec.specs.Spelled.{IsName}
+use Rattle.pat_semantics_spec.specs.Programs.{Interface, Program}
+use Rattle.pat_semantics_spec.specs.WellFormed.{InterfaceFits, WellFormed}
+use Rattle.pat_resolver_spec.specs.Resolved.{InterfaceIsNamed, IsNamed}
+use Rattle.pat_derivation_text_spec.specs.patterns.PatternText.{is_mark, is_plain_name}
+use Rattle.pat_derivation_text_spec.specs.patterns.PatternReading.{place_of}
+use Rattle.pat_derivation_text_laws.specs.patterns.Laws.{AreNames}
+use Rattle.pat_texts_spec.proofs.Choices.{passed, skipped}
+use Rattle.pat_derivation_text_spec.specs.DerivationText.{interface_name, tags_named, tag_names}
+use Rattle.pat_derivation_text_spec.specs.LineReading.{found as found_in}
+use Rattle.pat_texts_spec.proofs.CutAgain.{all_weaker, all_append}
 use Rattle.pat_derivation_text_laws.proofs.TypesRead.{is_inner, is_apart, apart_inner, NamesFit}
 
 -- ---- bytes

@@ -4,30 +4,31 @@ use Rattle.std.specs.Prelude.{Option, Some, None, option_map, option_and_then, b
 use Rattle.std.specs.List.{list_all}
 use Rattle.std.proofs.lemmas.Bool.{and_parts, and_from, leb-true, le-leb, lt-ltb, eqb-true, eq-eqb}
 use Rattle.std.proofs.lemmas.List.{length-append, length-drop}
-use Rattle.pat_words.specs.Patterns.{Pat, is_closed}
-use Rattle.pat_words.specs.Tags.{tags_below}
-use Rattle.pat_model.specs.Values.{Base}
-use Rattle.pat_model.specs.Programs.{Polarity, Interface, Program}
-use Rattle.pat_typing.specs.Types.{MailboxType, mailbox_type, TypeOf, BaseTerm, MailboxTerm}
-use Rattle.pat_inclusions.specs.Covers.{CoverEntry}
-use Rattle.pat_inclusions.specs.Points.{points_fit}
-use Rattle.pat_inclusions.specs.Values.{VarValue, PatternForm, GridForm, VarLine, value_fits}
-use Rattle.pat_inclusions.specs.Certificates.{Cert, CoverCert, GridCert}
-use Rattle.pat_open_types.specs.NodeTypes.{Needs}
-use Rattle.pat_validity.specs.Derivations.{Line, Derivation, ascends_from, scope_of}
-use Rattle.pat_validity.specs.Spelled.{is_number, are_numbers, is_plain_value, spells_pattern, spells_var, spells_type, spells_named, spells_entry, spells_cert, spells_line, can_be_spelled, has_numbers as numbers_fit, is_shallow as levels_fit}
-use Rattle.pat_pattern_text.specs.Numbers.{read_number}
-use Rattle.pat_pattern_text.specs.PatternText.{has_numbers, is_shallow, is_readable}
-use Rattle.pat_pattern_text.specs.PatternReading.{read_pattern, behind}
-use Rattle.pat_pattern_text_laws.proofs.Choices.{taken, made, made_next}
-use Rattle.pat_pattern_text_laws.proofs.Decimals.{number_spelled}
-use Rattle.pat_pattern_text_laws.proofs.Spelled.{pattern_spelled}
-use Rattle.pat_derivation_text.specs.Joined.{cut, pieces, read_each, read_joined, before}
-use Rattle.pat_derivation_text.specs.DerivationText.{tag_names}
-use Rattle.pat_derivation_text.specs.LineReading.{cut_polarity, found, mailbox_in, mailbox_of, read_mailbox, read_base, type_by, read_type, cut_usage, used_mailbox, read_used, named_in, named_of, read_named, read_next, read_all, if_ascending, read_needs, read_numbers, entry_with, entry_of, read_entry, cert_by, read_cert, read_certs, point_of, read_point, grid_with, grid_of, closed_value, value_by, read_value, var_in, var_named, if_numbered, behind_number, read_var, node_with, node_of, read_node, var_by, with_node, line_by, with_line}
-use Rattle.pat_derivation_text.specs.Reading.{ReadsTo, first, another}
+use Rattle.pat_words_spec.specs.Patterns.{Pat, is_closed}
+use Rattle.pat_words_spec.specs.Tags.{tags_below}
+use Rattle.pat_semantics_spec.specs.Values.{Base}
+use Rattle.pat_semantics_spec.specs.Programs.{Polarity, Interface, Program}
+use Rattle.pat_type_system_spec.specs.Types.{MailboxType, mailbox_type, TypeOf, BaseTerm, MailboxTerm}
+use Rattle.pat_inclusion_spec.specs.Covers.{CoverEntry}
+use Rattle.pat_inclusion_spec.specs.Points.{points_fit}
+use Rattle.pat_inclusion_spec.specs.Values.{VarValue, PatternForm, GridForm, VarLine, value_fits}
+use Rattle.pat_inclusion_spec.specs.Certificates.{Cert, CoverCert, GridCert}
+use Rattle.pat_type_schemes_spec.specs.NodeTypes.{Needs}
+use Rattle.pat_derivation_spec.specs.Derivations.{Line, Derivation, ascends_from, scope_of}
+use Rattle.pat_derivation_spec.specs.Spelled.{is_number, are_numbers, is_plain_value, spells_pattern, spells_var, spells_type, spells_named, spells_entry, spells_cert, spells_line, can_be_spelled, has_numbers as numbers_fit, is_shallow as levels_fit}
+use Rattle.pat_texts_spec.specs.Numbers.{read_number}
+use Rattle.pat_derivation_text_spec.specs.patterns.PatternText.{has_numbers, is_shallow, is_readable}
+use Rattle.pat_derivation_text_spec.specs.patterns.PatternReading.{read_pattern}
+use Rattle.pat_texts_spec.specs.Fronts.{behind}
+use Rattle.pat_texts_spec.proofs.Choices.{taken, made, made_next}
+use Rattle.pat_texts_spec.proofs.Decimals.{number_spelled}
+use Rattle.pat_derivation_text_laws.proofs.Spelled.{pattern_spelled}
+use Rattle.pat_texts_spec.specs.Joined.{cut, pieces, read_each, read_joined, before}
+use Rattle.pat_derivation_text_spec.specs.DerivationText.{tag_names}
+use Rattle.pat_derivation_text_spec.specs.LineReading.{cut_polarity, found, mailbox_in, mailbox_of, read_mailbox, read_base, type_by, read_type, cut_usage, used_mailbox, read_used, named_in, named_of, read_named, read_next, read_all, if_ascending, read_needs, read_numbers, entry_with, entry_of, read_entry, cert_by, read_cert, read_certs, point_of, read_point, grid_with, grid_of, closed_value, value_by, read_value, var_in, var_named, if_numbered, behind_number, read_var, node_with, node_of, read_node, var_by, with_node, line_by, with_line}
+use Rattle.pat_derivation_text_spec.specs.Reading.{ReadsTo, first, another}
 use Rattle.pat_derivation_text_laws.specs.Readable.{has_whole_points, lines_have_numbers, can_be_read}
-use Rattle.pat_derivation_text_laws.proofs.CutAgain.{all_append}
+use Rattle.pat_texts_spec.proofs.CutAgain.{all_append}
 use Rattle.pat_derivation_text_laws.proofs.TypesRead.{Fits, numbers_same, count_is}
 use Rattle.pat_derivation_text_laws.proofs.TypesSpelled.{found_is}
 

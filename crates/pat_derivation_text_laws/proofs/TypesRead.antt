@@ -7,22 +7,22 @@ use Rattle.std.proofs.Math.Seq.{drop-append_seam}
 use Rattle.std.proofs.lemmas.Bool.{and_parts, and_from, leb-true, ltb-true, ne_eqb}
 use Rattle.std.proofs.lemmas.List.{length-append, length-map}
 use Rattle.std.proofs.lemmas.Slice.Eq.{bytes_eq-Decides}
-use Rattle.pat_words.specs.Patterns.{Pat, Zero, One, Tag, Sum, Prod, Star, Var}
-use Rattle.pat_words.specs.Tags.{tags_below}
-use Rattle.pat_model.specs.Values.{BaseUnit, BaseBool, BaseInt, BaseText}
-use Rattle.pat_model.specs.Programs.{Polarity, Sending, Receiving, Interface, Program}
-use Rattle.pat_typing.specs.Types.{Usage, Second, Returnable, MailboxType, mailbox_type, TypeOf, BaseTerm, MailboxTerm}
-use Rattle.pat_open_types.specs.NodeTypes.{Needs}
-use Rattle.pat_validity.specs.Derivations.{Derivation, ascends_from, tag_count, scope_of}
-use Rattle.pat_validity.specs.Spelled.{spells_pattern, spells_type, spells_named, is_number, has_numbers as numbers_fit, is_shallow as levels_fit}
-use Rattle.pat_pattern_text.specs.PatternText.{pat_text, enclosed, is_sum, is_sum_or_product, has_numbers, is_shallow, is_readable}
-use Rattle.pat_pattern_text_laws.specs.Laws.{AreNames, PatternIsRead}
-use Rattle.pat_pattern_text_laws.proofs.Choices.{passed, skipped, negated}
-use Rattle.pat_pattern_text_laws.proofs.Decimals.{number_read}
-use Rattle.pat_derivation_text.specs.Joined.{cut, read_each, before}
-use Rattle.pat_derivation_text.specs.DerivationText.{interface_name, tags_named, tag_names, polarity_mark, mailbox_text, type_text, usage_word, named_text, needs_text}
-use Rattle.pat_derivation_text.specs.LineReading.{cut_polarity, found, mailbox_in, mailbox_of, read_mailbox, read_base, type_by, read_type, usage_by, cut_usage, used_mailbox, read_used, named_in, named_of, read_named, read_next, read_all, if_ascending, read_needs}
-use Rattle.pat_derivation_text_laws.proofs.CutAgain.{lacks, within, cut_at, pieces_joined, before_at, behind_at, each_read, all_texts, all_weaker, all_append, all_broken, lacks_higher}
+use Rattle.pat_words_spec.specs.Patterns.{Pat, Zero, One, Tag, Sum, Prod, Star, Var}
+use Rattle.pat_words_spec.specs.Tags.{tags_below}
+use Rattle.pat_semantics_spec.specs.Values.{BaseUnit, BaseBool, BaseInt, BaseText}
+use Rattle.pat_semantics_spec.specs.Programs.{Polarity, Sending, Receiving, Interface, Program}
+use Rattle.pat_type_system_spec.specs.Types.{Usage, Second, Returnable, MailboxType, mailbox_type, TypeOf, BaseTerm, MailboxTerm}
+use Rattle.pat_type_schemes_spec.specs.NodeTypes.{Needs}
+use Rattle.pat_derivation_spec.specs.Derivations.{Derivation, ascends_from, tag_count, scope_of}
+use Rattle.pat_derivation_spec.specs.Spelled.{spells_pattern, spells_type, spells_named, is_number, has_numbers as numbers_fit, is_shallow as levels_fit}
+use Rattle.pat_derivation_text_spec.specs.patterns.PatternText.{pat_text, enclosed, is_sum, is_sum_or_product, has_numbers, is_shallow, is_readable}
+use Rattle.pat_derivation_text_laws.specs.patterns.Laws.{AreNames, PatternIsRead}
+use Rattle.pat_texts_spec.proofs.Choices.{passed, skipped, negated}
+use Rattle.pat_texts_spec.proofs.Decimals.{number_read}
+use Rattle.pat_texts_spec.specs.Joined.{cut, read_each, before}
+use Rattle.pat_derivation_text_spec.specs.DerivationText.{interface_name, tags_named, tag_names, polarity_mark, mailbox_text, type_text, usage_word, named_text, needs_text}
+use Rattle.pat_derivation_text_spec.specs.LineReading.{cut_polarity, found, mailbox_in, mailbox_of, read_mailbox, read_base, type_by, read_type, usage_by, cut_usage, used_mailbox, read_used, named_in, named_of, read_named, read_next, read_all, if_ascending, read_needs}
+use Rattle.pat_texts_spec.proofs.CutAgain.{lacks, within, cut_at, pieces_joined, before_at, behind_at, each_read, all_texts, all_weaker, all_append, all_broken, lacks_higher}
 use Rattle.pat_derivation_text_laws.proofs.CertsRead.{number_within}
 
 -- ---- bytes

@@ -5,22 +5,23 @@ use Rattle.std.specs.List.{flat_map}
 use Rattle.std.specs.Fmt.{decimal}
 use Rattle.std.proofs.lemmas.Bool.{eqb-true}
 use Rattle.std.proofs.lemmas.Slice.Eq.{bytes_eq-Decides}
-use Rattle.pat_words.specs.Patterns.{Pat}
-use Rattle.pat_model.specs.Values.{Base, BaseUnit, BaseBool, BaseInt, BaseText}
-use Rattle.pat_model.specs.Programs.{Polarity, Sending, Receiving, Interface, Program}
-use Rattle.pat_typing.specs.Types.{Usage, Second, Returnable, MailboxType, mailbox_type, TypeOf, BaseTerm, MailboxTerm}
-use Rattle.pat_inclusions.specs.Certificates.{Cert}
-use Rattle.pat_open_types.specs.NodeTypes.{Needs}
-use Rattle.pat_validity.specs.Derivations.{ascends_from}
-use Rattle.pat_pattern_text.specs.Numbers.{read_number}
-use Rattle.pat_pattern_text.specs.PatternText.{pat_text}
-use Rattle.pat_pattern_text.specs.PatternReading.{read_pattern, behind}
-use Rattle.pat_pattern_text_laws.proofs.Choices.{taken, made, made_next}
-use Rattle.pat_pattern_text_laws.proofs.Decimals.{number_spelled}
-use Rattle.pat_pattern_text_laws.proofs.Spelled.{pattern_spelled, behind_is}
-use Rattle.pat_derivation_text.specs.Joined.{joined, cut, pieces, read_each, before}
-use Rattle.pat_derivation_text.specs.DerivationText.{tags_named, base_word, polarity_mark, mailbox_text, type_text, usage_word, named_text, needs_text, cert_text, certs_text}
-use Rattle.pat_derivation_text.specs.LineReading.{cut_polarity, found, mailbox_in, mailbox_of, read_mailbox, read_base, type_by, read_type, usage_by, cut_usage, used_mailbox, read_used, named_in, named_of, read_named, read_next, read_all, if_ascending, read_needs, read_cert, read_certs}
+use Rattle.pat_words_spec.specs.Patterns.{Pat}
+use Rattle.pat_semantics_spec.specs.Values.{Base, BaseUnit, BaseBool, BaseInt, BaseText}
+use Rattle.pat_semantics_spec.specs.Programs.{Polarity, Sending, Receiving, Interface, Program}
+use Rattle.pat_type_system_spec.specs.Types.{Usage, Second, Returnable, MailboxType, mailbox_type, TypeOf, BaseTerm, MailboxTerm}
+use Rattle.pat_inclusion_spec.specs.Certificates.{Cert}
+use Rattle.pat_type_schemes_spec.specs.NodeTypes.{Needs}
+use Rattle.pat_derivation_spec.specs.Derivations.{ascends_from}
+use Rattle.pat_texts_spec.specs.Numbers.{read_number}
+use Rattle.pat_derivation_text_spec.specs.patterns.PatternText.{pat_text}
+use Rattle.pat_derivation_text_spec.specs.patterns.PatternReading.{read_pattern}
+use Rattle.pat_texts_spec.specs.Fronts.{behind}
+use Rattle.pat_texts_spec.proofs.Choices.{taken, made, made_next}
+use Rattle.pat_texts_spec.proofs.Decimals.{number_spelled}
+use Rattle.pat_derivation_text_laws.proofs.Spelled.{pattern_spelled, behind_is}
+use Rattle.pat_texts_spec.specs.Joined.{joined, cut, pieces, read_each, before}
+use Rattle.pat_derivation_text_spec.specs.DerivationText.{tags_named, base_word, polarity_mark, mailbox_text, type_text, usage_word, named_text, needs_text, cert_text, certs_text}
+use Rattle.pat_derivation_text_spec.specs.LineReading.{cut_polarity, found, mailbox_in, mailbox_of, read_mailbox, read_base, type_by, read_type, usage_by, cut_usage, used_mailbox, read_used, named_in, named_of, read_named, read_next, read_all, if_ascending, read_needs, read_cert, read_certs}
 use Rattle.pat_derivation_text_laws.proofs.LinesSpelled.{cut_is, before_is, joined_pieces, some_piece, each_is, cert_is}
 
 pub found_is : (x : List ℕ) (is : List Interface) (f : ℕ × List (List ℕ)) → found x is ≡ Some f → (slice_index_or (map (λ i. i.name) is) f.0 [] ≡ x) × (f.1 ≡ tags_named (slice_get is f.0))

@@ -3,14 +3,14 @@ use Rattle.std.proofs.Common.{◌≡◌, ℕ, zero, suc, ◌+◌, ◌-◌, ◌<�
 use Rattle.std.specs.Prelude.{Option, Some, None, option_map, option_and_then, nat_lt}
 use Rattle.std.proofs.lemmas.Bool.{ltb-true, ltb-false}
 use Rattle.std.proofs.lemmas.List.{length-append}
-use Rattle.pat_model.specs.Programs.{Program}
-use Rattle.pat_validity.specs.Derivations.{Derivation}
-use Rattle.pat_pattern_text_laws.proofs.Choices.{made, made_next}
-use Rattle.pat_derivation_text.specs.Joined.{cut}
-use Rattle.pat_derivation_text.specs.DerivationText.{derivation_text}
-use Rattle.pat_derivation_text.specs.LineReading.{with_line}
-use Rattle.pat_derivation_text.specs.Reading.{ReadsTo, ReadsAs, first, another, no_lines, NoLine, NoMarker, Unread, no_marker, no_line}
-use Rattle.pat_derivation_text_laws.proofs.Cutting.{CutInPieces, cut_pieces}
+use Rattle.pat_semantics_spec.specs.Programs.{Program}
+use Rattle.pat_derivation_spec.specs.Derivations.{Derivation}
+use Rattle.pat_texts_spec.proofs.Choices.{made, made_next}
+use Rattle.pat_texts_spec.specs.Joined.{cut}
+use Rattle.pat_derivation_text_spec.specs.DerivationText.{derivation_text}
+use Rattle.pat_derivation_text_spec.specs.LineReading.{with_line}
+use Rattle.pat_derivation_text_spec.specs.Reading.{ReadsTo, ReadsAs, first, another, no_lines, NoLine, NoMarker, Unread, no_marker, no_line}
+use Rattle.pat_texts_spec.proofs.Cutting.{CutInPieces, cut_pieces}
 use Rattle.pat_derivation_text_laws.proofs.DerivationSpelled.{reads_text}
 
 -- what is read, and what is left

@@ -1,11 +1,11 @@
 -- The laws of the texts of derivations.
 use Rattle.std.specs.Prelude.{◌≡◌, ◌≤◌, ℕ, true, List, ◌++◌, length}
-use Rattle.pat_model.specs.Programs.{Program}
-use Rattle.pat_names.specs.Places.{Places}
-use Rattle.pat_names.specs.Resolved.{IsResolved}
-use Rattle.pat_validity.specs.Derivations.{Derivation}
-use Rattle.pat_derivation_text.specs.DerivationText.{derivation_text}
-use Rattle.pat_derivation_text.specs.Reading.{ReadsTo, ReadsAs, Unread}
+use Rattle.pat_semantics_spec.specs.Programs.{Program}
+use Rattle.pat_resolver_spec.specs.Places.{Places}
+use Rattle.pat_resolver_spec.specs.Resolved.{IsResolved}
+use Rattle.pat_derivation_spec.specs.Derivations.{Derivation}
+use Rattle.pat_derivation_text_spec.specs.DerivationText.{derivation_text}
+use Rattle.pat_derivation_text_spec.specs.Reading.{ReadsTo, ReadsAs, Unread}
 use Rattle.pat_derivation_text_laws.specs.Readable.{can_be_read}
 
 -- what a text is read as has this text

@@ -1,10 +1,10 @@
 -- Derivations that a reader takes: a text can spell them, each point of a grid is written out for all tags, and lines have numbers.
 use Rattle.std.specs.Prelude.{Bool, true, ◌&&◌, nat_eq, nat_le, length}
 use Rattle.std.specs.List.{list_all}
-use Rattle.pat_model.specs.Programs.{Program}
-use Rattle.pat_inclusions.specs.Values.{VarValue, PatternForm, GridForm}
-use Rattle.pat_validity.specs.Derivations.{Derivation}
-use Rattle.pat_validity.specs.Spelled.{is_number, can_be_spelled}
+use Rattle.pat_semantics_spec.specs.Programs.{Program}
+use Rattle.pat_inclusion_spec.specs.Values.{VarValue, PatternForm, GridForm}
+use Rattle.pat_derivation_spec.specs.Derivations.{Derivation}
+use Rattle.pat_derivation_spec.specs.Spelled.{is_number, can_be_spelled}
 
 -- each point has a count for every tag that an interface may have: those of the interface's tags are written, the others are zero
 abbrev pub has_whole_points : VarValue → Bool

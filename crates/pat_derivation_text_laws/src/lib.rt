@@ -1,9 +1,12 @@
-// That the text of a derivation is read as this derivation, and that what a text is read as has this text. No code of the product.
+//! Laws of the texts of derivations and patterns: each is read as what it was written from. No code of the product.
 #![tactic(auto)]
 
 ghost use Rattle.pat_derivation_text_laws.specs.Laws.{ReadIsText, ReadingIsOne, ReadIsReadable, TextIsRead, TextIsOne, UnreadIsFirst};
 
-use pat_pattern_text_laws::pattern_text_laws;
+mod patterns;
+
+use crate::patterns::pattern_text_laws;
+pub use patterns::number_text_laws;
 
 /// What a text is read as has this text.
 pub fn read_is_text_law()

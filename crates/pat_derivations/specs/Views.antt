@@ -2,11 +2,11 @@
 use Rattle.std.specs.Prelude.{ℕ, List, map}
 use Rattle.pat_bags.specs.declared.Bag.{Bag}
 use Rattle.pat_patterns.specs.Views.{pattern_view}
-use Rattle.pat_certs_covers.specs.Values as values
-use Rattle.pat_certs_covers.specs.Certificates as certificates
-use Rattle.pat_certs_covers.specs.Views.{entries_view}
+use Rattle.pat_cover_certificates.specs.Values as values
+use Rattle.pat_cover_certificates.specs.Certificates as certificates
+use Rattle.pat_cover_certificates.specs.Views.{entries_view}
 use Rattle.pat_types.specs.Views.{node_type_view}
-use Rattle.pat_validity.specs.Derivations as derivations
+use Rattle.pat_derivation_spec.specs.Derivations as derivations
 use Rattle.pat_derivations.specs.declared.data.Cert.{Cert}
 use Rattle.pat_derivations.specs.declared.data.Cert.TheVariants as cert
 use Rattle.pat_derivations.specs.declared.data.VarValue.{VarValue}

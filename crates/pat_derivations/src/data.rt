@@ -2,7 +2,7 @@
 ghost use Rattle.std.specs.Prelude.{◌≡◌};
 
 use pat_bags::Bag;
-use pat_certs_covers::CoverEntry;
+use pat_cover_certificates::CoverEntry;
 use pat_patterns::Pattern;
 use pat_sequences::Sequence;
 use pat_types::NodeType;

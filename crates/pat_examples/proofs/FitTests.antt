@@ -3,12 +3,12 @@ use Rattle.std.proofs.Common.{◌≡◌, ℕ, zero, suc, ◌<◌, ◌≤◌, Boo
 use Rattle.std.specs.Prelude.{nat_lt, take, bytes_eq, option_map}
 use Rattle.std.specs.List.{AllByRecursion, list_any}
 use Rattle.std.proofs.lemmas.Bool.{and_parts, or_cases, eqb-true, lt-ltb, cond-true, cond-false, false_from_ne_true}
-use Rattle.pat_words.specs.Patterns.{is_inhabited}
+use Rattle.pat_words_spec.specs.Patterns.{is_inhabited}
 use Rattle.pat_words_laws.proofs.PatternLaws.{inhabited_to}
-use Rattle.pat_model.specs.Values.{BaseUnit, BaseBool, BaseInt, BaseText, Kind, Expr, VarExpr, Literal, OpExpr, occurs}
-use Rattle.pat_model.specs.Programs.{Program, Sending, Receiving, Sort, BaseSort, MailboxSort, Interface, TagDecl, Function, Core, Val, Let, Call, If, Print, New, Send, Spawn, Guard, Node, node_at, function_at, kind_of, parts, option_list, clause_binders, is_among, clause_uses, core_uses, option_uses, is_free_within, is_free}
-use Rattle.pat_model.specs.WellFormed.{WellFormed, InterfaceFits, FunctionFits, NodeFits, IsPartOf, IsPayload, IsSignature, uses_of, bindings_of}
-use Rattle.pat_model_laws.proofs.Lists.{any_some}
+use Rattle.pat_semantics_spec.specs.Values.{BaseUnit, BaseBool, BaseInt, BaseText, Kind, Expr, VarExpr, Literal, OpExpr, occurs}
+use Rattle.pat_semantics_spec.specs.Programs.{Program, Sending, Receiving, Sort, BaseSort, MailboxSort, Interface, TagDecl, Function, Core, Val, Let, Call, If, Print, New, Send, Spawn, Guard, Node, node_at, function_at, kind_of, parts, option_list, clause_binders, is_among, clause_uses, core_uses, option_uses, is_free_within, is_free}
+use Rattle.pat_semantics_spec.specs.WellFormed.{WellFormed, InterfaceFits, FunctionFits, NodeFits, IsPartOf, IsPayload, IsSignature, uses_of, bindings_of}
+use Rattle.pat_semantics_laws.proofs.Lists.{any_some}
 use Rattle.pat_examples.proofs.Tests.{all_upto, upto, all_of, all_true, all_from, at_each, all_differ, differ, below_true, asked}
 use Rattle.pat_examples.proofs.KindTests.{kind_eq, kind_same, kinds_eq, kinds_same, is_pattern_of, pattern_of, core_fits, core_kinds}
 

@@ -1,10 +1,10 @@
 -- The programs of further forms are well formed and typable by the tests, and so safe by the law.
 use Rattle.std.proofs.Common.{◌≡◌, ℕ, List, [], ◌∷◌, refl, true}
-use Rattle.pat_words.specs.Patterns.{Pat, Zero, One, Tag}
-use Rattle.pat_model.specs.Programs.{Receiving, is_free}
-use Rattle.pat_typing.specs.Types.{MailboxType, TypeOf, MailboxTerm}
-use Rattle.pat_examples.specs.Witnesses.{IsWitness}
-use Rattle.pat_examples.specs.Forms.{branches, given, renamed, impossible}
+use Rattle.pat_words_spec.specs.Patterns.{Pat, Zero, One, Tag}
+use Rattle.pat_semantics_spec.specs.Programs.{Receiving, is_free}
+use Rattle.pat_type_system_spec.specs.Types.{MailboxType, TypeOf, MailboxTerm}
+use Rattle.pat_examples.specs.safety.Witnesses.{IsWitness}
+use Rattle.pat_examples.specs.safety.Forms.{branches, given, renamed, impossible}
 use Rattle.pat_examples.proofs.FitTests.{program_fits, well_formed}
 use Rattle.pat_examples.proofs.TypeTests.{lines_type, typable}
 use Rattle.pat_examples.proofs.SafePrograms.{witness, line, fresh, may_return, may_send, no_params, no_results}

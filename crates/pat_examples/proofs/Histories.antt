@@ -2,10 +2,10 @@
 use Rattle.std.proofs.Common.{List, [], ◌∷◌, refl, Some, None}
 use Rattle.std.specs.Prelude.{unwrap_or, pos}
 use Rattle.std.specs.Fmt.{signed_decimal}
-use Rattle.pat_model.specs.Programs.{Program, is_free}
-use Rattle.pat_model.specs.Configs.{Config, start}
-use Rattle.pat_model.specs.Runs.{Entry, replay, EndDone, EndWaiting, EndFull}
-use Rattle.pat_examples.specs.Safe.{future, future_history, swap, swap_history, crossed, crossed_history, turned, turned_history, turned_start, EndsAs}
+use Rattle.pat_semantics_spec.specs.Programs.{Program, is_free}
+use Rattle.pat_semantics_spec.specs.Configs.{Config, start}
+use Rattle.pat_semantics_spec.specs.Runs.{Entry, replay, EndDone, EndWaiting, EndFull}
+use Rattle.pat_examples.specs.safety.Safe.{future, future_history, swap, swap_history, crossed, crossed_history, turned, turned_history, turned_start, EndsAs}
 
 -- where the history leads to, if it is one of the program
 abbrev led_to : Program → List Entry → Config

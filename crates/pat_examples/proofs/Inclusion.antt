@@ -2,8 +2,8 @@
 use Rattle.std.proofs.Common.{◌≡◌, ℕ, zero, suc, ◌+◌, Bool, true, false, not, ◌||◌, ◌&&◌, ⊎_elim, sym, ap, ◌∙◌, subst, arith}
 use Rattle.std.specs.Prelude.{nat_lt}
 use Rattle.std.proofs.lemmas.Bool.{and_parts, or_cases}
-use Rattle.pat_words.specs.Words.{Word, plus}
-use Rattle.pat_words.specs.Patterns.{Pat, Prod, Star, Language, Times, In, Included, pat_eq, is_zero, residual, is_nullable, covers}
+use Rattle.pat_words_spec.specs.Words.{Word, plus}
+use Rattle.pat_words_spec.specs.Patterns.{Pat, Prod, Star, Language, Times, In, Included, pat_eq, is_zero, residual, is_nullable, covers}
 use Rattle.pat_words_laws.proofs.WordLaws.{take_one, plus_assoc, none_plus}
 use Rattle.pat_words_laws.proofs.PatternLaws.{pat_eq_same, is_zero_same, residual_to, residual_from, nullable_to, nullable_from}
 use Rattle.pat_words_laws.proofs.CoverLaws.{covers_to}

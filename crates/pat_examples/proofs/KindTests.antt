@@ -2,11 +2,11 @@
 use Rattle.std.proofs.Common.{◌≡◌, ℕ, Bool, true, false, ◌&&◌, nat_eq, List, [], ◌∷◌, length, map, Option, Some, None, refl, ap, ap₂, subst}
 use Rattle.std.specs.Prelude.{slice_get, nat_lt}
 use Rattle.std.proofs.lemmas.Bool.{and_parts, eqb-true}
-use Rattle.pat_words.specs.Patterns.{Pat, is_closed}
-use Rattle.pat_model.specs.Values.{Base, BaseUnit, BaseBool, BaseInt, BaseText, Kind, Plain, MailboxOf, Expr}
-use Rattle.pat_model.specs.Programs.{Program, Interface, Function, TagDecl, Clause, Core, Val, Let, Call, If, Print, New, Send, Spawn, Guard, Node, node_at, function_at, tag_at, kind_of}
-use Rattle.pat_model.specs.WellFormed.{HasKind, HaveKinds, VarsHaveKinds, IsPrintable, IsPatternOf, ClauseKinds, CoreKinds, expr_kind}
-use Rattle.pat_words.specs.Tags.{tags_below}
+use Rattle.pat_words_spec.specs.Patterns.{Pat, is_closed}
+use Rattle.pat_semantics_spec.specs.Values.{Base, BaseUnit, BaseBool, BaseInt, BaseText, Kind, Plain, MailboxOf, Expr}
+use Rattle.pat_semantics_spec.specs.Programs.{Program, Interface, Function, TagDecl, Clause, Core, Val, Let, Call, If, Print, New, Send, Spawn, Guard, Node, node_at, function_at, tag_at, kind_of}
+use Rattle.pat_semantics_spec.specs.WellFormed.{HasKind, HaveKinds, VarsHaveKinds, IsPrintable, IsPatternOf, ClauseKinds, CoreKinds, expr_kind}
+use Rattle.pat_words_spec.specs.Tags.{tags_below}
 use Rattle.pat_examples.proofs.Tests.{all_of, all_true, all_differ, differ, below_true}
 
 -- ---- equal kinds

@@ -1,10 +1,13 @@
-pub mod Tests
-pub mod Inclusion
+mod Tests
+mod Inclusion
 mod KindTests
-pub mod FitTests
+mod FitTests
 mod TypeTests
 mod SafePrograms
 mod Histories
 mod UnsafePrograms
 mod FormPrograms
 mod Starved
+mod Rows
+mod Solved
+mod Unsolved

@@ -1,14 +1,14 @@
 -- The programs are well formed and typable by the tests, and so safe by the law.
 use Rattle.std.proofs.Common.{◌≡◌, ℕ, nat_eq, if◌then◌else◌, List, [], ◌∷◌, refl, true}
-use Rattle.pat_words.specs.Patterns.{Pat, One, Tag, Prod, Star}
-use Rattle.pat_model.specs.Values.{BaseUnit}
-use Rattle.pat_model.specs.Programs.{Program, Sending, Receiving, is_free}
-use Rattle.pat_model.specs.WellFormed.{WellFormed}
-use Rattle.pat_typing.specs.Typings.{IsTypable}
-use Rattle.pat_typing.specs.Types.{Second, Returnable, MailboxType, TypeOf, BaseTerm, MailboxTerm, mailbox_type}
+use Rattle.pat_words_spec.specs.Patterns.{Pat, One, Tag, Prod, Star}
+use Rattle.pat_semantics_spec.specs.Values.{BaseUnit}
+use Rattle.pat_semantics_spec.specs.Programs.{Program, Sending, Receiving, is_free}
+use Rattle.pat_semantics_spec.specs.WellFormed.{WellFormed}
+use Rattle.pat_type_system_spec.specs.Typings.{IsTypable}
+use Rattle.pat_type_system_spec.specs.Types.{Second, Returnable, MailboxType, TypeOf, BaseTerm, MailboxTerm, mailbox_type}
 use Rattle.pat_safety_laws.proofs.Safe.{typable_safe}
-use Rattle.pat_examples.specs.Witnesses.{IsWitness}
-use Rattle.pat_examples.specs.Safe.{one_message, future, pump, delegation, swap, crossed, turned}
+use Rattle.pat_examples.specs.safety.Witnesses.{IsWitness}
+use Rattle.pat_examples.specs.safety.Safe.{one_message, future, pump, delegation, swap, crossed, turned}
 use Rattle.pat_examples.proofs.FitTests.{program_fits, well_formed}
 use Rattle.pat_examples.proofs.TypeTests.{lines_type, typable}
 

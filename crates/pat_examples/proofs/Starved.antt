@@ -1,15 +1,15 @@
 -- The program that waits for a message that nobody can send reaches a failing guard.
 use Rattle.std.proofs.Common.{◌≡◌, ℕ, true, List, [], ◌∷◌, Some, None, refl}
-use Rattle.pat_words.specs.Patterns.{Tag}
-use Rattle.pat_model.specs.Values.{Mailbox}
-use Rattle.pat_model.specs.Programs.{is_free}
-use Rattle.pat_model.specs.WellFormed.{WellFormed}
-use Rattle.pat_model.specs.Configs.{is_reached_by_none_but}
-use Rattle.pat_model.specs.Steps.{ActLocal, ActNew, ActFree, ActReceive, Step}
-use Rattle.pat_model.specs.Runs.{run}
-use Rattle.pat_model.specs.Faults.{GuardOn, IsDisabled, starved}
-use Rattle.pat_examples.specs.Build.{main_step, led_by, clause}
-use Rattle.pat_examples.specs.Unsafe.{waiting, ReachesFailingGuard}
+use Rattle.pat_words_spec.specs.Patterns.{Tag}
+use Rattle.pat_semantics_spec.specs.Values.{Mailbox}
+use Rattle.pat_semantics_spec.specs.Programs.{is_free}
+use Rattle.pat_semantics_spec.specs.WellFormed.{WellFormed}
+use Rattle.pat_semantics_spec.specs.Configs.{is_reached_by_none_but}
+use Rattle.pat_semantics_spec.specs.Steps.{ActLocal, ActNew, ActFree, ActReceive, Step}
+use Rattle.pat_semantics_spec.specs.Runs.{run}
+use Rattle.pat_semantics_spec.specs.Faults.{GuardOn, IsDisabled, starved}
+use Rattle.pat_examples.specs.safety.Build.{main_step, led_by, clause}
+use Rattle.pat_examples.specs.safety.Unsafe.{waiting, ReachesFailingGuard}
 use Rattle.pat_examples.proofs.FitTests.{program_fits, well_formed}
 
 waiting_steps : List Step

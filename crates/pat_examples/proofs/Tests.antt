@@ -3,7 +3,7 @@ use Rattle.std.proofs.Common.{◌≡◌, ℕ, zero, suc, ◌+◌, ◌<◌, Bool,
 use Rattle.std.specs.Prelude.{slice_get, nat_lt}
 use Rattle.std.specs.List.{AllByRecursion, IsDistinct}
 use Rattle.std.proofs.lemmas.Bool.{and_parts, or_cases, eqb-true, eqb-false, ltb-true}
-use Rattle.pat_model_laws.proofs.Lists.{not_true}
+use Rattle.pat_semantics_laws.proofs.Lists.{not_true}
 
 -- the test passes at each number below n
 abbrev pub all_upto : ℕ → (ℕ → Bool) → Bool

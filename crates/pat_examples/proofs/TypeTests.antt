@@ -4,15 +4,15 @@ use Rattle.std.specs.Prelude.{slice_get, nat_lt, is_some, option_and_then}
 use Rattle.std.specs.List.{list_any}
 use Rattle.std.proofs.lemmas.Bool.{and_parts, or_cases, or_parts, eqb-true, ne_eqb, cond-false, cases_Bool}
 use Rattle.std.proofs.lemmas.Option.{slice_get_past}
-use Rattle.pat_words.specs.Patterns.{Pat, Tag, Prod, In, pat_eq, covers, residual, is_nullable, is_inhabited}
+use Rattle.pat_words_spec.specs.Patterns.{Pat, Tag, Prod, In, pat_eq, covers, residual, is_nullable, is_inhabited}
 use Rattle.pat_words_laws.proofs.PatternLaws.{pat_eq_same, nullable_to, inhabited_to}
 use Rattle.pat_words_laws.proofs.CoverLaws.{covers_to}
-use Rattle.pat_model.specs.Values.{BaseUnit, Kind, MailboxOf, Expr, VarExpr, Literal, OpExpr}
-use Rattle.pat_model.specs.Programs.{Program, Polarity, Sending, Receiving, Sort, TagDecl, Function, Clause, Core, Val, Let, Call, If, Print, New, Send, Spawn, Guard, Node, node_at, function_at, tag_at, is_among, clause_binders}
-use Rattle.pat_typing.specs.Types.{Usage, Second, Returnable, MailboxType, TypeOf, BaseTerm, MailboxTerm, kind_of_type, mailbox_type, UsageFits, PatternFits, Fits, TypeFits, MayDrop, TypeEnv, PassesTo, EnvPasses, PatternJoins, Joins, SplitsTo, EnvSplits, no_types, with_type, without, returnable}
-use Rattle.pat_typing.specs.Typings.{Typing, param_type, result_type, payload_sort, payload_type, with_option, args_need, mailbox_args, with_payloads, clause_env, HasMailboxPayload, ClauseTyped, is_received, NamePasses, ValueTyped, without_name, name_type, NewTyped, CoreTyped, HasWord, TypeHasWord, NodeTyped, FunctionTyped, IsTyping, IsTypable, sort_type}
-use Rattle.pat_model_laws.proofs.Lists.{clash}
-use Rattle.pat_examples.specs.Unsafe.{TypedBut}
+use Rattle.pat_semantics_spec.specs.Values.{BaseUnit, Kind, MailboxOf, Expr, VarExpr, Literal, OpExpr}
+use Rattle.pat_semantics_spec.specs.Programs.{Program, Polarity, Sending, Receiving, Sort, TagDecl, Function, Clause, Core, Val, Let, Call, If, Print, New, Send, Spawn, Guard, Node, node_at, function_at, tag_at, is_among, clause_binders}
+use Rattle.pat_type_system_spec.specs.Types.{Usage, Second, Returnable, MailboxType, TypeOf, BaseTerm, MailboxTerm, kind_of_type, mailbox_type, UsageFits, PatternFits, Fits, TypeFits, MayDrop, TypeEnv, PassesTo, EnvPasses, PatternJoins, Joins, SplitsTo, EnvSplits, no_types, with_type, without, returnable}
+use Rattle.pat_type_system_spec.specs.Typings.{Typing, param_type, result_type, payload_sort, payload_type, with_option, args_need, mailbox_args, with_payloads, clause_env, HasMailboxPayload, ClauseTyped, is_received, NamePasses, ValueTyped, without_name, name_type, NewTyped, CoreTyped, HasWord, TypeHasWord, NodeTyped, FunctionTyped, IsTyping, IsTypable, sort_type}
+use Rattle.pat_semantics_laws.proofs.Lists.{clash}
+use Rattle.pat_examples.specs.safety.Unsafe.{TypedBut}
 use Rattle.pat_examples.proofs.Tests.{all_upto, upto, all_of, all_true, all_from, at_each, all_differ, differ, below_true, asked}
 use Rattle.pat_examples.proofs.Inclusion.{includes, includes_to}
 use Rattle.pat_examples.proofs.KindTests.{base_eq, base_same, kind_eq, kind_same, is_kind, kind_is}

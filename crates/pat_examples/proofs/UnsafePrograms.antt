@@ -1,21 +1,21 @@
 -- The programs are well formed and reach a fault; two of them are typed but for one rule.
 use Rattle.std.proofs.Common.{◌≡◌, ℕ, true, false, List, [], ◌∷◌, Some, None, refl, arith}
 use Rattle.std.specs.Prelude.{codes}
-use Rattle.pat_words.specs.Words.{Word, no_word, LiesIn}
-use Rattle.pat_words.specs.Patterns.{One, Tag, Sum, In}
+use Rattle.pat_words_spec.specs.Words.{Word, no_word, LiesIn}
+use Rattle.pat_words_spec.specs.Patterns.{One, Tag, Sum, In}
 use Rattle.pat_words_laws.proofs.WordLaws.{count_eq}
 use Rattle.pat_words_laws.proofs.CoverLaws.{covers_to}
-use Rattle.pat_model.specs.Values.{BaseUnit, VarExpr, Mailbox}
-use Rattle.pat_model.specs.Programs.{Sending, Receiving, Send, Guard, is_free}
-use Rattle.pat_model.specs.WellFormed.{WellFormed}
-use Rattle.pat_model.specs.Configs.{pending}
-use Rattle.pat_model.specs.Steps.{ActLocal, ActNew, ActSend, ActFree, ActReceive, Step}
-use Rattle.pat_model.specs.Runs.{run}
-use Rattle.pat_model.specs.Faults.{AccountsFor, LeftBehind, unreached, dead, too_many, GuardOn, left, unexpected}
-use Rattle.pat_typing.specs.Types.{Second, Returnable, MailboxType, TypeOf, BaseTerm, TypeEnv, mailbox_type, with_type, without}
-use Rattle.pat_typing.specs.Typings.{Typing, payload_type, args_need, with_payloads, clause_env, is_received}
-use Rattle.pat_examples.specs.Build.{main_step, led_by, tag, clause, unit_node, sending_as}
-use Rattle.pat_examples.specs.Unsafe.{leak, alias, beside, SendsButAlias, ClauseButOwn, GuardsButOwn, ReachesFault, OnlyAlias, OnlyBeside}
+use Rattle.pat_semantics_spec.specs.Values.{BaseUnit, VarExpr, Mailbox}
+use Rattle.pat_semantics_spec.specs.Programs.{Sending, Receiving, Send, Guard, is_free}
+use Rattle.pat_semantics_spec.specs.WellFormed.{WellFormed}
+use Rattle.pat_semantics_spec.specs.Configs.{pending}
+use Rattle.pat_semantics_spec.specs.Steps.{ActLocal, ActNew, ActSend, ActFree, ActReceive, Step}
+use Rattle.pat_semantics_spec.specs.Runs.{run}
+use Rattle.pat_semantics_spec.specs.Faults.{AccountsFor, LeftBehind, unreached, dead, too_many, GuardOn, left, unexpected}
+use Rattle.pat_type_system_spec.specs.Types.{Second, Returnable, MailboxType, TypeOf, BaseTerm, TypeEnv, mailbox_type, with_type, without}
+use Rattle.pat_type_system_spec.specs.Typings.{Typing, payload_type, args_need, with_payloads, clause_env, is_received}
+use Rattle.pat_examples.specs.safety.Build.{main_step, led_by, tag, clause, unit_node, sending_as}
+use Rattle.pat_examples.specs.safety.Unsafe.{leak, alias, beside, SendsButAlias, ClauseButOwn, GuardsButOwn, ReachesFault, OnlyAlias, OnlyBeside}
 use Rattle.pat_examples.proofs.FitTests.{program_fits, well_formed}
 use Rattle.pat_examples.proofs.TypeTests.{typing_of, env_in, Bounded, lines_bounded, with_bounded, without_bounded, args_bounded, payloads_bounded, passes_env, fits, typed_but}
 use Rattle.pat_examples.proofs.SafePrograms.{line, fresh, may_return, may_send, no_params, no_results}

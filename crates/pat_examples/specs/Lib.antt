@@ -1,5 +1,4 @@
-pub mod Build
-pub mod Witnesses
-pub mod Safe
-pub mod Forms
-pub mod Unsafe
+pub mod safety
+pub mod derivations
+pub mod inference
+pub mod solving

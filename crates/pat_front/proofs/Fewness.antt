@@ -1,10 +1,10 @@
 -- A text has at most as many tokens as bytes.
 use Rattle.std.proofs.Common.{◌≡◌, ◌+◌, ◌*◌, ◌≤◌, ◌<◌, ℕ, map, List, [], ◌∷◌, length, length-append, ap, arith}
 use Rattle.std.proofs.lemmas.List.{length-map}
-use Rattle.pat_lexical.specs.Tokens.{Spanned}
-use Rattle.pat_lexical.specs.Lexemes.{Lexeme, Whole, Begins}
-use Rattle.pat_lexical.specs.Divisions.{Reaches, here, over, token, Divides}
-use Rattle.pat_lexical_laws.proofs.Classes.{lexeme_front}
+use Rattle.pat_lexer_spec.specs.Tokens.{Spanned}
+use Rattle.pat_lexer_spec.specs.Lexemes.{Lexeme, Whole, Begins}
+use Rattle.pat_lexer_spec.specs.Divisions.{Reaches, here, over, token, Divides}
+use Rattle.pat_lexer_laws.proofs.Classes.{lexeme_front}
 
 -- a lexeme has a byte
 some_byte : (lexeme : Lexeme) (own rest : List ℕ) → Begins lexeme own rest → 1 ≤ length own

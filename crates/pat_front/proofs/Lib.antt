@@ -1,3 +1,5 @@
 mod Fewness
 mod Resolved
 mod OneVerdict
+-- for the crates above
+pub mod Refusals

@@ -1,19 +1,19 @@
 -- A text has one answer.
 use Rattle.std.proofs.Common.{◌≡◌, ◌<◌, ◌≤◌, ℕ, List, [], ◌∷◌, length, map, Option, Some, None, Result, Ok, Err, refl, ap, sym, ◌∙◌, arith, ⊎_elim}
-use Rattle.pat_lexical.specs.Tokens.{Spanned}
-use Rattle.pat_lexical.specs.Divisions.{Divides, IsRefused, Refusal, BadToken, NumberTooWide}
-use Rattle.pat_lexical_laws.proofs.Reaching.{one_division, one_refusal, not_both}
-use Rattle.pat_model.specs.Programs.{Program}
-use Rattle.pat_grammar.specs.Trees.{Tree, Span as Place}
-use Rattle.pat_grammar.specs.Items.{bound_item}
-use Rattle.pat_grammar.specs.Machine.{Fault, Unexpected, TooDeep, parsed}
-use Rattle.pat_grammar_laws.proofs.Exact.{exact_answer}
-use Rattle.pat_parser_tokens.specs.Answers.{limits}
-use Rattle.pat_names.specs.Findings.{Rule, Finding, findings}
-use Rattle.pat_names.specs.Findings as rule
-use Rattle.pat_resolver_answers.specs.Views.{rule_view, finding_view}
-use Rattle.pat_resolver_answers.specs.declared.error.ResolveKind.{ResolveKind}
-use Rattle.pat_resolver_answers.specs.declared.error.ResolveKind.TheVariants as kind
+use Rattle.pat_lexer_spec.specs.Tokens.{Spanned}
+use Rattle.pat_lexer_spec.specs.Divisions.{Divides, IsRefused, Refusal, BadToken, NumberTooWide}
+use Rattle.pat_lexer_laws.proofs.Reaching.{one_division, one_refusal, not_both}
+use Rattle.pat_semantics_spec.specs.Programs.{Program}
+use Rattle.pat_parser_spec.specs.Trees.{Tree, Span as Place}
+use Rattle.pat_parser_spec.specs.Items.{bound_item}
+use Rattle.pat_parser_spec.specs.Machine.{Fault, Unexpected, TooDeep, parsed}
+use Rattle.pat_parser_laws.proofs.Exact.{exact_answer}
+use Rattle.pat_parser_phrases.specs.tokens.Answers.{limits}
+use Rattle.pat_resolver_spec.specs.Findings.{Rule, Finding, findings}
+use Rattle.pat_resolver_spec.specs.Findings as rule
+use Rattle.pat_resolver_heads.specs.results.Views.{rule_view, finding_view}
+use Rattle.pat_resolver_heads.specs.declared.results.error.ResolveKind.{ResolveKind}
+use Rattle.pat_resolver_heads.specs.declared.results.error.ResolveKind.TheVariants as kind
 use Rattle.pat_syntax.specs.declared.span.Span.{Span}
 use Rattle.pat_input.specs.Inputs.{limit}
 use Rattle.pat_front.specs.declared.verdict.Verdict.{Verdict}
@@ -173,7 +173,7 @@ one_answer bytes = record {
   one_tree = λ t u x y. one_tree_of bytes t u (parses_tree bytes t x) (parses_tree bytes u y);
   one_program = λ t u p q x y.
       let same = one_tree_of bytes t u (parses_tree bytes t x.tree) (parses_tree bytes u y.tree) in
-      sym x.resolved.program ∙ ap Rattle.pat_names.specs.Numbering.numbered same ∙ y.resolved.program;
+      sym x.resolved.program ∙ ap Rattle.pat_resolver_spec.specs.Numbering.numbered same ∙ y.resolved.program;
   one_refusal = λ v w x y.
       let a = comes bytes v x in
       let b = comes bytes w y in

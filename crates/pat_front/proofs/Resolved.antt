@@ -1,15 +1,15 @@
 -- What a resolver's answer says of a text.
 use Rattle.std.proofs.Common.{◌≡◌, ℕ, List, [], length, None, sym, subst}
-use Rattle.pat_model.specs.Programs.{Program}
-use Rattle.pat_grammar.specs.Trees.{Tree}
-use Rattle.pat_names.specs.Findings.{findings}
-use Rattle.pat_names.specs.Numbering.{numbered}
-use Rattle.pat_names.specs.Places.{Places, places}
-use Rattle.pat_names.specs.Resolved.{IsResolved}
+use Rattle.pat_semantics_spec.specs.Programs.{Program}
+use Rattle.pat_parser_spec.specs.Trees.{Tree}
+use Rattle.pat_resolver_spec.specs.Findings.{findings}
+use Rattle.pat_resolver_spec.specs.Numbering.{numbered}
+use Rattle.pat_resolver_spec.specs.Places.{Places, places}
+use Rattle.pat_resolver_spec.specs.Resolved.{IsResolved}
 use Rattle.pat_resolver.proofs.Resolved.{resolved, text_written}
-use Rattle.pat_parser_tokens.specs.Answers.{limits}
-use Rattle.pat_resolver_answers.specs.Results.{first_of}
-use Rattle.pat_resolver_answers.proofs.Firsts.{first_none}
+use Rattle.pat_parser_phrases.specs.tokens.Answers.{limits}
+use Rattle.pat_resolver_heads.specs.results.Results.{first_of}
+use Rattle.pat_resolver_heads.proofs.Firsts.{first_none}
 use Rattle.pat_front.specs.Texts.{IsTreeText, IsProgramText}
 
 pub program_text : (bytes : List ℕ) (t : Tree) (p : Program) (end : ℕ) → IsTreeText bytes t → end ≡ length bytes → first_of (findings end t) ≡ None → p ≡ numbered t → IsProgramText bytes t p

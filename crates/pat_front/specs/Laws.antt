@@ -1,7 +1,7 @@
 -- A text has one answer: it is that of one program, or it is refused, and in one way.
 use Rattle.std.specs.Prelude.{◌≡◌, ℕ, List}
-use Rattle.pat_model.specs.Programs.{Program}
-use Rattle.pat_grammar.specs.Trees.{Tree}
+use Rattle.pat_semantics_spec.specs.Programs.{Program}
+use Rattle.pat_parser_spec.specs.Trees.{Tree}
 use Rattle.pat_front.specs.declared.verdict.Verdict.{Verdict}
 use Rattle.pat_front.specs.Texts.{IsTreeText, IsProgramText, IsRefusal}
 

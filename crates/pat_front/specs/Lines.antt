@@ -2,10 +2,10 @@
 use Rattle.std.specs.Prelude.{ℕ, List, [], ◌∷◌, ◌++◌, codes}
 use Rattle.std.specs.Fmt.{decimal}
 use Rattle.pat_syntax.specs.declared.span.Span.{Span}
-use Rattle.pat_rules.specs.declared.Rule.{Rule}
-use Rattle.pat_rules.specs.Names.{rule_name}
-use Rattle.pat_resolver_answers.specs.declared.error.ResolveKind.{ResolveKind}
-use Rattle.pat_resolver_answers.specs.declared.error.ResolveKind.TheVariants as kind
+use Rattle.pat_derivation_rules.specs.declared.Rule.{Rule}
+use Rattle.pat_derivation_rules.specs.Names.{rule_name}
+use Rattle.pat_resolver_heads.specs.declared.results.error.ResolveKind.{ResolveKind}
+use Rattle.pat_resolver_heads.specs.declared.results.error.ResolveKind.TheVariants as kind
 use Rattle.pat_infer_problems.specs.declared.error.Rule as typing
 use Rattle.pat_infer_problems.specs.declared.error.Rule.TheVariants as typing_rule
 use Rattle.pat_front.specs.declared.reason.Reason.{Reason}

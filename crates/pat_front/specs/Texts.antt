@@ -1,13 +1,13 @@
 -- What a text is: that of a tree and its program, or one that is refused.
 use Rattle.std.specs.Prelude.{◌≡◌, ◌<◌, ◌≤◌, ◌⊎◌, ℕ, List, length}
-use Rattle.pat_lexical.specs.Tokens.{Spanned}
-use Rattle.pat_lexical.specs.Divisions.{Divides, IsRefused, BadToken as BadTokenAt, NumberTooWide as TooWideAt}
-use Rattle.pat_model.specs.Programs.{Program}
-use Rattle.pat_grammar.specs.Trees.{Tree}
-use Rattle.pat_grammar.specs.Claims.{SpellsTree, IsUnexpected, IsTooDeep}
-use Rattle.pat_parser_tokens.specs.Answers.{limits}
-use Rattle.pat_names.specs.Claims as names
-use Rattle.pat_resolver_answers.specs.Views.{finding_view}
+use Rattle.pat_lexer_spec.specs.Tokens.{Spanned}
+use Rattle.pat_lexer_spec.specs.Divisions.{Divides, IsRefused, BadToken as BadTokenAt, NumberTooWide as TooWideAt}
+use Rattle.pat_semantics_spec.specs.Programs.{Program}
+use Rattle.pat_parser_spec.specs.Trees.{Tree}
+use Rattle.pat_parser_spec.specs.Claims.{SpellsTree, IsUnexpected, IsTooDeep}
+use Rattle.pat_parser_phrases.specs.tokens.Answers.{limits}
+use Rattle.pat_resolver_spec.specs.Claims as names
+use Rattle.pat_resolver_heads.specs.results.Views.{finding_view}
 use Rattle.pat_input.specs.Inputs.{limit}
 use Rattle.pat_front.specs.declared.front.FrontError.{FrontError}
 use Rattle.pat_front.specs.declared.front.FrontError.TheVariants as error

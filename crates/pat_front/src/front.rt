@@ -1,15 +1,15 @@
 // The steps from tokens to a program, in the order in which they are answered.
 ghost use Rattle.std.specs.Prelude.{◌≡◌, ◌<◌, ◌≤◌, ℕ, List, OnOk, IfOk, IfErr, length};
-ghost use Rattle.pat_model.specs.Programs.{Program as AnyProgram};
-ghost use Rattle.pat_grammar.specs.Trees.{Tree as AnyTree};
-ghost use Rattle.pat_grammar_laws.specs.Counts.{tree_size};
+ghost use Rattle.pat_semantics_spec.specs.Programs.{Program as AnyProgram};
+ghost use Rattle.pat_parser_spec.specs.Trees.{Tree as AnyTree};
+ghost use Rattle.pat_parser_laws.specs.Counts.{tree_size};
 ghost use Rattle.pat_tree.specs.Views.{tree_view};
 ghost use Rattle.pat_core.specs.Views.{program_view};
-ghost use Rattle.pat_names.specs.Places.{places};
-ghost use Rattle.pat_names.specs.Resolved.{IsResolved};
-ghost use Rattle.pat_resolver_answers.specs.Views.{places_view};
-ghost use Rattle.pat_lexical.specs.Tokens.{Spanned};
-ghost use Rattle.pat_lexical.specs.Divisions.{Divides};
+ghost use Rattle.pat_resolver_spec.specs.Places.{places};
+ghost use Rattle.pat_resolver_spec.specs.Resolved.{IsResolved};
+ghost use Rattle.pat_resolver_heads.specs.results.Views.{places_view};
+ghost use Rattle.pat_lexer_spec.specs.Tokens.{Spanned};
+ghost use Rattle.pat_lexer_spec.specs.Divisions.{Divides};
 ghost use Rattle.pat_parser.specs.Answers.{Explains as ExplainsTokens};
 ghost use Rattle.pat_resolver.specs.Answers.{Explains as ExplainsTree};
 ghost use Rattle.pat_lexer.specs.Explains.{Explains as ExplainsText};
@@ -21,7 +21,7 @@ use pat_core::Program;
 use pat_input::Input;
 use pat_lexer::LexError;
 use pat_parser::ParseError;
-use pat_resolver_answers::ResolveError;
+use pat_resolver_heads::ResolveError;
 use pat_tree::Tree;
 use std::alloc::Global;
 

@@ -1,13 +1,17 @@
-//! From the tokens of a text to its tree and its program, or to the verdict on it.
+//! Tokens to a tree and a program, or a verdict; and what a call answers.
 #![tactic(auto)]
 
+mod exit_answers;
 mod front;
 mod laws;
 mod pieces;
 mod reason;
 mod verdict;
 
+pub use exit_answers::{
+    Answer, Status, accepted_answer, refused, verdict_answer, verdict_answer_with,
+};
 pub use front::{FrontError, check_tree, program_of, tree_of};
 pub use laws::verdict_law;
 pub use reason::Reason;
-pub use verdict::{Verdict, verdict_line, verdict_line_with};
+pub use verdict::Verdict;

@@ -3,8 +3,8 @@ ghost use Rattle.std.specs.Prelude.{◌≡◌, ◌++◌, OnOk};
 ghost use Rattle.std.specs.Fmt.{decimal};
 ghost use Rattle.pat_front.specs.Lines.{place_words};
 
-use pat_decimal::push_number;
 use pat_syntax::Span;
+use pat_texts::push_number;
 use std::alloc::AllocError;
 
 pub fn push_words(text: &mut Vec<u8>, words: &[u8]) -> Result<(), AllocError>

@@ -4,8 +4,8 @@ ghost use Rattle.pat_front.specs.Lines.{rule_words, place_words, rejected_words,
 
 use crate::pieces::{push_at, push_span, push_words};
 use crate::reason::{Reason, push_reason};
-use pat_resolver_answers::ResolveKind;
-use pat_rules::Rule;
+use pat_derivation_rules::Rule;
+use pat_resolver_heads::ResolveKind;
 use pat_syntax::Span;
 use std::alloc::{AllocError, Global};
 

@@ -1,2 +1,9 @@
 mod Listing
 pub mod Meaning
+mod Reached
+mod Relaxing
+mod Closing
+mod Turns
+mod Done
+mod Waiting
+mod Walking

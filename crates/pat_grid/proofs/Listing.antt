@@ -3,11 +3,11 @@ use Rattle.std.proofs.Common.{◌≡◌, ℕ, zero, suc, ◌+◌, ◌<◌, ◌�
 use Rattle.std.specs.Prelude.{slice_get}
 use Rattle.std.proofs.lemmas.Bool.{cases_lt, cases_eq}
 use Rattle.std.proofs.lemmas.List.{get_or-set_same, get_or-set_other, get_or-replicate, get_or_past, length-replicate, take_more}
-use Rattle.pat_bounds.specs.Tables.{IsKnown}
+use Rattle.pat_inclusion_spec.specs.bounds.Tables.{IsKnown}
 use Rattle.pat_grid_points.specs.declared.grid.Grid.{Grid}
-use Rattle.pat_grid_tables.specs.declared.board.Board.{Board}
-use Rattle.pat_grid_tables.specs.Views.{setting_of}
-use Rattle.pat_grid_tables.specs.Moves.{entry_at}
+use Rattle.pat_grid.specs.declared.tables.board.Board.{Board}
+use Rattle.pat_grid.specs.tables.Views.{setting_of}
+use Rattle.pat_grid.specs.tables.Moves.{entry_at}
 use Rattle.pat_grid.specs.Rows.{TestsBefore, IsRow, AreRows}
 
 -- a test for each number: those before m are right, and from m on nothing is there

@@ -5,27 +5,27 @@ use Rattle.std.specs.List.{AllByRecursion}
 use Rattle.std.proofs.lemmas.List.{length-map}
 use Rattle.pat_patterns.specs.declared.pattern.Pattern.{Pattern}
 use Rattle.pat_patterns.specs.Views.{pattern_view, patterns_view}
-use Rattle.pat_words.specs.Words.{Word}
-use Rattle.pat_words.specs.Patterns.{Pat, InUnder}
-use Rattle.pat_words.specs.Tags.{tags_below}
-use Rattle.pat_words.specs.Cuts.{CutOf}
-use Rattle.pat_words.specs.Languages.{MemberOf}
-use Rattle.pat_inclusions.specs.Points.{grid_fits}
-use Rattle.pat_bounds.specs.Trees.{derivable, bounds_of}
-use Rattle.pat_bounds.specs.CutSets.{IsPoint}
-use Rattle.pat_bounds.specs.Symbols.{Symbol, LowerSymbol, GivenSymbol, RootStands, Stands, IsFlatOf, TagsAreBelow}
-use Rattle.pat_bounds.specs.Layouts.{laid, laid_all, roots_all, last_of}
-use Rattle.pat_bounds.specs.Tables.{IsKnown, IsDone}
-use Rattle.pat_bounds.specs.Numbers.{points_in, number_of, table_of}
-use Rattle.pat_bounds_laws.proofs.NumberLaws.{number_small}
-use Rattle.pat_bounds_laws.proofs.LayoutLaws.{laid_stands, all_stand, goes_none, given_tags, symbols_fit, all_fit}
-use Rattle.pat_bounds_laws.proofs.SearchLaws.{known_given, given_known, known_derivable, derivable_known}
-use Rattle.pat_bounds_laws.proofs.TreeLaws.{lower_derivable, derivable_lower}
+use Rattle.pat_words_spec.specs.Words.{Word}
+use Rattle.pat_words_spec.specs.Patterns.{Pat, InUnder}
+use Rattle.pat_words_spec.specs.Tags.{tags_below}
+use Rattle.pat_words_spec.specs.Cuts.{CutOf}
+use Rattle.pat_words_spec.specs.Languages.{MemberOf}
+use Rattle.pat_inclusion_spec.specs.Points.{grid_fits}
+use Rattle.pat_inclusion_spec.specs.bounds.Trees.{derivable, bounds_of}
+use Rattle.pat_inclusion_spec.specs.bounds.CutSets.{IsPoint}
+use Rattle.pat_inclusion_spec.specs.bounds.Symbols.{Symbol, LowerSymbol, GivenSymbol, RootStands, Stands, IsFlatOf, TagsAreBelow}
+use Rattle.pat_inclusion_spec.specs.bounds.Layouts.{laid, laid_all, roots_all, last_of}
+use Rattle.pat_inclusion_spec.specs.bounds.Tables.{IsKnown, IsDone}
+use Rattle.pat_inclusion_spec.specs.bounds.Numbers.{points_in, number_of, table_of}
+use Rattle.pat_inclusion_laws.proofs.NumberLaws.{number_small}
+use Rattle.pat_inclusion_laws.proofs.LayoutLaws.{laid_stands, all_stand, goes_none, given_tags, symbols_fit, all_fit}
+use Rattle.pat_inclusion_laws.proofs.SearchLaws.{known_given, given_known, known_derivable, derivable_known}
+use Rattle.pat_inclusion_laws.proofs.TreeLaws.{lower_derivable, derivable_lower}
 use Rattle.pat_grid_points.specs.declared.grid.Grid.{Grid}
 use Rattle.pat_grid_points.specs.Views.{HasPoint}
-use Rattle.pat_grid_symbols.specs.Views.{symbols_view}
-use Rattle.pat_grid_tables.specs.declared.board.Board.{Board}
-use Rattle.pat_grid_tables.specs.Views.{setting_of, IsBoard, AreGrids}
+use Rattle.pat_grid_points.specs.symbols.Views.{symbols_view}
+use Rattle.pat_grid.specs.declared.tables.board.Board.{Board}
+use Rattle.pat_grid.specs.tables.Views.{setting_of, IsBoard, AreGrids}
 use Rattle.pat_grid.specs.Rows.{IsRow, AreRows}
 use Rattle.pat_grid.proofs.Listing.{row_at, rows_count}
 

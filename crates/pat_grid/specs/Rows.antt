@@ -1,10 +1,10 @@
 -- Rows of a table as grids.
 use Rattle.std.specs.Prelude.{◌≡◌, ℕ, ◌<◌, ◌↔◌, Bool, true, false, List, [], ◌∷◌, get_or}
-use Rattle.pat_bounds.specs.Tables.{IsKnown}
+use Rattle.pat_inclusion_spec.specs.bounds.Tables.{IsKnown}
 use Rattle.pat_grid_points.specs.declared.grid.Grid.{Grid}
-use Rattle.pat_grid_tables.specs.declared.board.Board.{Board}
-use Rattle.pat_grid_tables.specs.Views.{setting_of}
-use Rattle.pat_grid_tables.specs.Moves.{entry_at}
+use Rattle.pat_grid.specs.declared.tables.board.Board.{Board}
+use Rattle.pat_grid.specs.tables.Views.{setting_of}
+use Rattle.pat_grid.specs.tables.Moves.{entry_at}
 
 -- at each number before m the test says just whether there is a tree
 abbrev pub TestsBefore : Board → List ℕ → ℕ → List Bool → ℕ → Type 0

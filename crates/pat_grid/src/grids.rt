@@ -1,23 +1,22 @@
 // Words of a pattern and derivable words of a system, cut.
 ghost use Rattle.std.specs.Prelude.{◌≡◌, ◌↔◌, ℕ, Some, slice_get, length, IsTrue, IfOk};
 ghost use Rattle.std.specs.List.{AllByRecursion};
-ghost use Rattle.pat_words.specs.Words.{Word};
-ghost use Rattle.pat_words.specs.Patterns.{InUnder};
-ghost use Rattle.pat_words.specs.Tags.{tags_below};
-ghost use Rattle.pat_words.specs.Cuts.{CutOf};
-ghost use Rattle.pat_words.specs.Languages.{MemberOf};
+ghost use Rattle.pat_words_spec.specs.Words.{Word};
+ghost use Rattle.pat_words_spec.specs.Patterns.{InUnder};
+ghost use Rattle.pat_words_spec.specs.Tags.{tags_below};
+ghost use Rattle.pat_words_spec.specs.Cuts.{CutOf};
+ghost use Rattle.pat_words_spec.specs.Languages.{MemberOf};
 ghost use Rattle.pat_patterns.specs.Views.{pattern_view, patterns_view};
-ghost use Rattle.pat_inclusions.specs.Points.{grid_fits};
-ghost use Rattle.pat_bounds.specs.Trees.{bounds_of, derivable};
-ghost use Rattle.pat_bounds.specs.CutSets.{IsPoint};
+ghost use Rattle.pat_inclusion_spec.specs.Points.{grid_fits};
+ghost use Rattle.pat_inclusion_spec.specs.bounds.Trees.{bounds_of, derivable};
+ghost use Rattle.pat_inclusion_spec.specs.bounds.CutSets.{IsPoint};
 ghost use Rattle.pat_grid_points.specs.declared.grid.Grid.{Grid as GridValue};
 ghost use Rattle.pat_grid_points.specs.Views.{HasPoint};
-ghost use Rattle.pat_grid_tables.specs.Views.{given_words, AreGrids};
+ghost use Rattle.pat_grid.specs.tables.Views.{given_words, AreGrids};
 
 use crate::rows::{row, row_grids};
-use pat_grid_points::{Grid, count_points};
-use pat_grid_symbols::{Role, lay_out, lay_out_all};
-use pat_grid_tables::{Board, least_sizes};
+use crate::tables::{Board, least_sizes};
+use pat_grid_points::{Grid, Role, count_points, lay_out, lay_out_all};
 use pat_patterns::Pattern;
 use pat_sequences::Sequence;
 use std::alloc::{AllocError, Global};

@@ -1,11 +1,11 @@
 // Rows of a table as grids.
 ghost use Rattle.std.specs.Prelude.{◌≡◌, ◌<◌, ◌++◌, ◌∷◌, [], length, IfOk, nat_le};
-ghost use Rattle.pat_bounds.specs.Numbers.{HasAllEntries};
-ghost use Rattle.pat_grid_tables.specs.Views.{setting_of, IsBoard};
+ghost use Rattle.pat_inclusion_spec.specs.bounds.Numbers.{HasAllEntries};
+ghost use Rattle.pat_grid.specs.tables.Views.{setting_of, IsBoard};
 ghost use Rattle.pat_grid.specs.Rows.{IsRow, AreRows};
 
+use crate::tables::{Board, next_known};
 use pat_grid_points::{Grid, SparseList};
-use pat_grid_tables::{Board, next_known};
 use pat_sequences::Sequence;
 use std::alloc::{AllocError, Global};
 

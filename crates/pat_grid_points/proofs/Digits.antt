@@ -4,11 +4,11 @@ use Rattle.std.specs.Prelude.{nat_eq, nat_le}
 use Rattle.std.proofs.lemmas.Bool.{and_parts, leb-true, cases_eq, cases_lt, cond-true, cond-false, eq-eqb, ne_eqb}
 use Rattle.std.proofs.lemmas.List.{get_or-set_same, get_or-set_other, get_or-replicate, length-replicate, get_or_past}
 use Rattle.std.proofs.Math.Nat.{pow-le-pow_right, pow-le-pow_left, pow-suc, mul_comm, mul_assoc, add-mul, mul-le-mul_left, one-le-pow, zero-div, zero-mod}
-use Rattle.pat_words.specs.Words.{Word, plus}
-use Rattle.pat_words.specs.Cuts.{cut_at}
-use Rattle.pat_inclusions.specs.Points.{grid_fits}
-use Rattle.pat_bounds.specs.Numbers.{points_in, number_of, point_of}
-use Rattle.pat_bounds_laws.proofs.NumberLaws.{number_below, point_counts, point_fits, point_number}
+use Rattle.pat_words_spec.specs.Words.{Word, plus}
+use Rattle.pat_words_spec.specs.Cuts.{cut_at}
+use Rattle.pat_inclusion_spec.specs.Points.{grid_fits}
+use Rattle.pat_inclusion_spec.specs.bounds.Numbers.{points_in, number_of, point_of}
+use Rattle.pat_inclusion_laws.proofs.NumberLaws.{number_below, point_counts, point_fits, point_number}
 use Rattle.pat_grid_points.specs.Views.{summed}
 
 -- ---- grids that are worked with

@@ -4,3 +4,4 @@ pub mod Members
 mod Listed
 mod InBlocks
 mod Linked
+mod Along

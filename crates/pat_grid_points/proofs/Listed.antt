@@ -3,14 +3,14 @@ use Rattle.std.proofs.Common.{◌≡◌, ℕ, zero, suc, ◌+◌, ◌<◌, ◌�
 use Rattle.std.specs.Prelude.{◌&&◌, nat_eq, nat_le}
 use Rattle.std.specs.List.{AllByRecursion, list_all}
 use Rattle.std.proofs.lemmas.Bool.{and_from, le-leb, eq-eqb}
-use Rattle.pat_words.specs.Tags.{HasTagsBelow}
+use Rattle.pat_words_spec.specs.Tags.{HasTagsBelow}
 use Rattle.pat_bags.specs.declared.Bag.{Bag}
 use Rattle.pat_bags.specs.Views.{word_of, counted}
-use Rattle.pat_inclusions.specs.Points.{grid_fits, point_fits, comes_before, points_ascend, points_fit}
-use Rattle.pat_bounds.specs.CutSets.{IsPoint}
-use Rattle.pat_bounds.specs.Numbers.{points_in, number_of, point_of}
-use Rattle.pat_bounds_laws.proofs.NumberLaws.{point_counts, point_fits as point_there, point_number}
-use Rattle.pat_bounds_laws.specs.Laws.{OrderLaw}
+use Rattle.pat_inclusion_spec.specs.Points.{grid_fits, point_fits, comes_before, points_ascend, points_fit}
+use Rattle.pat_inclusion_spec.specs.bounds.CutSets.{IsPoint}
+use Rattle.pat_inclusion_spec.specs.bounds.Numbers.{points_in, number_of, point_of}
+use Rattle.pat_inclusion_laws.proofs.NumberLaws.{point_counts, point_fits as point_there, point_number}
+use Rattle.pat_inclusion_laws.specs.bounds.Laws.{OrderLaw}
 use Rattle.pat_grid_points.specs.Views.{held_from}
 
 counts_fit : (k n : ℕ) (cs : List ℕ) → HasTagsBelow n (counted cs) → ((t : ℕ) → counted cs t ≤ k) → point_fits k n cs ≡ true

@@ -1,9 +1,9 @@
 -- The points of a list of tests, listed.
 use Rattle.std.proofs.Common.{◌≡◌, ℕ, zero, suc, ◌+◌, ◌<◌, Bool, true, false, List, [], ◌∷◌, length, get_or, inl, inr, ⊎_elim, refl, sym, ap, ◌∙◌, subst, arith}
-use Rattle.pat_words.specs.Words.{Word}
-use Rattle.pat_words.specs.Languages.{MemberOf}
-use Rattle.pat_bounds.specs.Numbers.{number_of, point_of}
-use Rattle.pat_bounds_laws.proofs.NumberLaws.{number_point, number_small}
+use Rattle.pat_words_spec.specs.Words.{Word}
+use Rattle.pat_words_spec.specs.Languages.{MemberOf}
+use Rattle.pat_inclusion_spec.specs.bounds.Numbers.{number_of, point_of}
+use Rattle.pat_inclusion_laws.proofs.NumberLaws.{number_point, number_small}
 use Rattle.pat_grid_points.specs.declared.grid.Grid.{Grid}
 use Rattle.pat_grid_points.specs.Views.{HasPoint, held_from, points_of}
 use Rattle.pat_grid_points.proofs.Sets.{number_in}

@@ -1,14 +1,14 @@
 -- Sets of points as lists of tests.
 use Rattle.std.proofs.Common.{◌≡◌, ℕ, zero, suc, ◌+◌, ◌-◌, ◌<◌, ◌≤◌, Bool, true, false, List, [], ◌∷◌, ◌++◌, ◌↔◌, map, length, get_or, set, drop, replicate, inl, inr, ⊎_elim, ◌⊎◌, sym, ap, ◌∙◌, subst, arith, append_assoc, append-nil}
-use Rattle.pat_words.specs.Words.{Word}
-use Rattle.pat_words.specs.Cuts.{cut_at}
+use Rattle.pat_words_spec.specs.Words.{Word}
+use Rattle.pat_words_spec.specs.Cuts.{cut_at}
 use Rattle.std.proofs.lemmas.Bool.{cases_eq, cases_lt}
 use Rattle.std.proofs.lemmas.List.{get_or-set_same, get_or-set_other, get_or-replicate, length-replicate, get_or_past, drop_more, drop_all, map-append}
 use Rattle.pat_bags.specs.declared.Bag.{Bag}
 use Rattle.pat_bags.specs.Views.{word_of}
-use Rattle.pat_bounds.specs.CutSets.{IsPoint}
-use Rattle.pat_bounds.specs.Numbers.{points_in, number_of, point_of}
-use Rattle.pat_bounds_laws.proofs.NumberLaws.{number_below, number_point, number_small, point_fits, point_number}
+use Rattle.pat_inclusion_spec.specs.bounds.CutSets.{IsPoint}
+use Rattle.pat_inclusion_spec.specs.bounds.Numbers.{points_in, number_of, point_of}
+use Rattle.pat_inclusion_laws.proofs.NumberLaws.{number_below, number_point, number_small, point_fits, point_number}
 use Rattle.pat_grid_points.specs.Views.{held_from}
 
 -- a point of the set

@@ -1,9 +1,9 @@
 -- Grids as the definitions see them.
 use Rattle.std.specs.Prelude.{◌≡◌, ℕ, suc, Bool, true, false, List, [], ◌∷◌, IsTrue, slice_index_or}
-use Rattle.pat_words.specs.Words.{Word, plus}
-use Rattle.pat_words.specs.Cuts.{cut_at}
-use Rattle.pat_bounds.specs.CutSets.{IsPoint}
-use Rattle.pat_bounds.specs.Numbers.{number_of, point_of}
+use Rattle.pat_words_spec.specs.Words.{Word, plus}
+use Rattle.pat_words_spec.specs.Cuts.{cut_at}
+use Rattle.pat_inclusion_spec.specs.bounds.CutSets.{IsPoint}
+use Rattle.pat_inclusion_spec.specs.bounds.Numbers.{number_of, point_of}
 use Rattle.pat_grid_points.specs.declared.grid.Grid.{Grid}
 
 -- the grid has this point

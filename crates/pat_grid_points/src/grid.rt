@@ -1,7 +1,7 @@
 // A set of points.
 ghost use Rattle.std.specs.Prelude.{◌≡◌, length, IsTrue};
-ghost use Rattle.pat_inclusions.specs.Points.{grid_fits};
-ghost use Rattle.pat_bounds.specs.Numbers.{points_in};
+ghost use Rattle.pat_inclusion_spec.specs.Points.{grid_fits};
+ghost use Rattle.pat_inclusion_spec.specs.bounds.Numbers.{points_in};
 
 use crate::sparse::SparseList;
 

@@ -1,8 +1,8 @@
 // Grids made.
 ghost use Rattle.std.specs.Prelude.{◌≡◌, length, IsTrue, IfOk};
-ghost use Rattle.pat_words.specs.Words.{Word};
-ghost use Rattle.pat_inclusions.specs.Points.{grid_fits};
-ghost use Rattle.pat_bounds.specs.Numbers.{points_in};
+ghost use Rattle.pat_words_spec.specs.Words.{Word};
+ghost use Rattle.pat_inclusion_spec.specs.Points.{grid_fits};
+ghost use Rattle.pat_inclusion_spec.specs.bounds.Numbers.{points_in};
 ghost use Rattle.pat_grid_points.specs.Views.{HasPoint};
 
 use crate::grid::Grid;

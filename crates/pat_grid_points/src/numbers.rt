@@ -1,9 +1,9 @@
 // Points as numbers: the counts of the tags are digits, that of the first tag the highest.
 ghost use Rattle.std.specs.Prelude.{◌≡◌, ◌<◌, IsTrue};
-ghost use Rattle.pat_words.specs.Cuts.{cut_at};
+ghost use Rattle.pat_words_spec.specs.Cuts.{cut_at};
 ghost use Rattle.pat_bags.specs.Views.{word_of};
-ghost use Rattle.pat_inclusions.specs.Points.{grid_fits};
-ghost use Rattle.pat_bounds.specs.Numbers.{points_in, number_of as number_in, point_of};
+ghost use Rattle.pat_inclusion_spec.specs.Points.{grid_fits};
+ghost use Rattle.pat_inclusion_spec.specs.bounds.Numbers.{points_in, number_of as number_in, point_of};
 ghost use Rattle.pat_grid_points.specs.Views.{summed};
 
 use pat_bags::{Bag, TAGS};

@@ -1,16 +1,16 @@
 // What a grid has.
 ghost use Rattle.std.specs.Prelude.{◌≡◌, ◌↔◌, ◌<◌, ◌≤◌, ℕ, true, false, length, get_or, IsTrue, IfSome, IfNone, IfOk, map};
-ghost use Rattle.pat_words.specs.Words.{Word};
-ghost use Rattle.pat_words.specs.Cuts.{cut_at};
+ghost use Rattle.pat_words_spec.specs.Words.{Word};
+ghost use Rattle.pat_words_spec.specs.Cuts.{cut_at};
 ghost use Rattle.pat_bags.specs.Views.{word_of};
-ghost use Rattle.pat_inclusions.specs.Points.{points_fit};
+ghost use Rattle.pat_inclusion_spec.specs.Points.{points_fit};
 ghost use Rattle.pat_grid_points.specs.Views.{HasPoint, points_of, IsLike};
 
 use crate::grid::Grid;
 use crate::numbers::{bag_of, number_of};
 use crate::sparse::SparseList;
 use pat_bags::Bag;
-use pat_bounds_laws::number_laws;
+use pat_inclusion_laws::number_laws;
 use pat_sequences::Sequence;
 use std::alloc::{AllocError, Global};
 

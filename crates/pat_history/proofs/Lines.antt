@@ -2,13 +2,13 @@
 use Rattle.std.proofs.Common.{◌≡◌, ℕ, ◌+◌, ◌-◌, ◌<◌, List, [], ◌∷◌, ◌++◌, length, map, refl, sym, ap, ◌∙◌, subst, inr, arith}
 use Rattle.std.specs.Prelude.{Option, Some, None, option_map}
 use Rattle.std.proofs.lemmas.List.{map_push}
-use Rattle.pat_model.specs.Runs.{Entry}
+use Rattle.pat_semantics_spec.specs.Runs.{Entry}
 use Rattle.pat_reduce.specs.declared.history.Entry.{Entry as CodeEntry}
 use Rattle.pat_reduce.specs.Views.{entry_view}
-use Rattle.pat_derivation_text.specs.Joined.{cut}
-use Rattle.pat_history_text.specs.HistoryText.{marker}
-use Rattle.pat_history_text.specs.EntryReading.{read_entry}
-use Rattle.pat_history_text.specs.Reading.{ReadsLines, NoEntry, Unread}
+use Rattle.pat_texts_spec.specs.Joined.{cut}
+use Rattle.pat_history_spec.specs.HistoryText.{marker}
+use Rattle.pat_history_spec.specs.EntryReading.{read_entry}
+use Rattle.pat_history_spec.specs.Reading.{ReadsLines, NoEntry, Unread}
 
 another : (bytes : List ℕ) (es : List Entry) (rest : List ℕ) (r : List ℕ × List ℕ) (e : Entry) → ReadsLines bytes es rest → cut 10 rest ≡ Some r → read_entry r.0 ≡ Some e → ReadsLines bytes (es ++ e ∷ []) r.1
 another bytes [] rest r e h there read = (r, ap (cut 10) h ∙ there, read, refl)

@@ -2,15 +2,15 @@
 use Rattle.std.specs.Prelude.{◌≡◌, ℕ, ◌+◌, List, Option, Some, None, option_map, map, Result, Ok, Err, Vec}
 use Rattle.std.specs.declared.alloc.Global.{Global}
 use Rattle.std.specs.Borrow.{Bor}
-use Rattle.pat_model.specs.Steps.{Act}
+use Rattle.pat_semantics_spec.specs.Steps.{Act}
 use Rattle.pat_reduce.specs.declared.history.Act.{Act as CodeAct}
 use Rattle.pat_reduce.specs.declared.history.Entry.{Entry as CodeEntry}
 use Rattle.pat_reduce.specs.Views.{act_view, entry_view}
-use Rattle.pat_derivation_text.specs.Joined.{cut}
-use Rattle.pat_history_text.specs.HistoryText.{marker}
-use Rattle.pat_history_text.specs.Reading.{ReadsAs, Unread, NoMarker}
-use Rattle.pat_deriv.specs.declared.reading.TextError.{TextError}
-use Rattle.pat_deriv.specs.declared.reading.TextError.TheVariants.{BadText, NoMemory}
+use Rattle.pat_texts_spec.specs.Joined.{cut}
+use Rattle.pat_history_spec.specs.HistoryText.{marker}
+use Rattle.pat_history_spec.specs.Reading.{ReadsAs, Unread, NoMarker}
+use Rattle.pat_texts.specs.declared.error.TextError.{TextError}
+use Rattle.pat_texts.specs.declared.error.TextError.TheVariants.{BadText, NoMemory}
 
 -- what stands behind the first line, or no first line stands here
 abbrev pub FirstGives : Option (Bor (List ℕ)) → List ℕ → Type 0

@@ -1,12 +1,11 @@
 // An entry from its line.
 ghost use Rattle.std.specs.Prelude.{◌≡◌, option_map};
 ghost use Rattle.pat_reduce.specs.Views.{entry_view};
-ghost use Rattle.pat_history_text.specs.EntryReading as reading;
+ghost use Rattle.pat_history_spec.specs.EntryReading as reading;
 ghost use Rattle.pat_history.specs.Answers.{shared_view};
 
-use pat_deriv_lines::{behind, cut};
-use pat_deriv_patterns::read_number;
 use pat_reduce::{Act, Entry};
+use pat_texts::{behind, cut, read_number};
 
 /// The entry that a line spells, without its newline.
 pub fn read_entry(line: &[u8]) -> Option<Entry>

@@ -1,13 +1,12 @@
 // A history from its text, line by line: the text is not copied.
 ghost use Rattle.std.specs.Prelude.{◌≡◌, ◌<◌, ◌+◌, ◌^◌, length, Some};
-ghost use Rattle.pat_derivation_text.specs.Joined.{cut as cut_of};
-ghost use Rattle.pat_history_text.specs.HistoryText.{marker};
+ghost use Rattle.pat_texts_spec.specs.Joined.{cut as cut_of};
+ghost use Rattle.pat_history_spec.specs.HistoryText.{marker};
 ghost use Rattle.pat_history.specs.Answers.{FirstGives, Gives};
 
 use crate::entries::read_entry;
-use pat_deriv::TextError;
-use pat_deriv_lines::cut;
 use pat_reduce::Entry;
+use pat_texts::{TextError, cut};
 use std::alloc::{AllocError, Global};
 
 /// What stands behind the first line, if it is the one that histories begin with.

@@ -1,12 +1,12 @@
 // Entries as lines.
 ghost use Rattle.std.specs.Prelude.{◌≡◌, ◌++◌, ◌∷◌, [], Some, map, option_map, IfOk, OnOk};
 ghost use Rattle.std.specs.Fmt.{decimal};
-ghost use Rattle.pat_model.specs.Runs.{IsShared, IsSharedOrNone, IsHistory};
+ghost use Rattle.pat_semantics_spec.specs.Runs.{IsShared, IsSharedOrNone, IsHistory};
 ghost use Rattle.pat_reduce.specs.Views.{act_view, entry_view};
-ghost use Rattle.pat_history_text.specs.HistoryText.{act_word, entry_line, history_text, NamesNoMessage};
+ghost use Rattle.pat_history_spec.specs.HistoryText.{act_word, entry_line, history_text, NamesNoMessage};
 
-use pat_decimal::push_number;
 use pat_reduce::{Act, Entry};
+use pat_texts::push_number;
 use std::alloc::{AllocError, Global};
 
 /// The text of a history. No entry has a local step as its shared act: no text of a history has one.

@@ -3,16 +3,16 @@ use Rattle.std.proofs.Common.{◌≡◌, ℕ, zero, suc, true, ◌&&◌, ◌*◌
 use Rattle.std.specs.Prelude.{slice_get}
 use Rattle.std.specs.List.{AllByRecursion}
 use Rattle.std.proofs.lemmas.Bool.{and_parts, cases_Bool, cond-true, cond-false}
-use Rattle.pat_words.specs.Words.{Word, plus}
-use Rattle.pat_words.specs.Patterns.{Pat, Included}
+use Rattle.pat_words_spec.specs.Words.{Word, plus}
+use Rattle.pat_words_spec.specs.Patterns.{Pat, Included}
 use Rattle.pat_words_laws.proofs.WordLaws.{plus_assoc}
-use Rattle.pat_words.specs.Tags.{tags_below, HasTagsBelow}
-use Rattle.pat_words.specs.Languages.{MemberOf}
-use Rattle.pat_inclusions.specs.Counts.{same_below, scaled}
-use Rattle.pat_inclusions.specs.LinearSets.{LinearSet, combined, InSet, InSets, SetBelow, SetsBelow}
-use Rattle.pat_inclusions.specs.ClosedForms.{sets_of, closed_form, is_small, lists_are_short}
-use Rattle.pat_inclusions.specs.Covers.{CoverEntry, makes, makes_from, make_each, entry_covers, is_cover, IsMadeOf, LiesDirectly, IsDirectlyCovered}
-use Rattle.pat_inclusions.specs.Certificates.{covers_forms, cover_shows}
+use Rattle.pat_words_spec.specs.Tags.{tags_below, HasTagsBelow}
+use Rattle.pat_words_spec.specs.Languages.{MemberOf}
+use Rattle.pat_inclusion_spec.specs.Counts.{same_below, scaled}
+use Rattle.pat_inclusion_spec.specs.LinearSets.{LinearSet, combined, InSet, InSets, SetBelow, SetsBelow}
+use Rattle.pat_inclusion_spec.specs.ClosedForms.{sets_of, closed_form, is_small, lists_are_short}
+use Rattle.pat_inclusion_spec.specs.Covers.{CoverEntry, makes, makes_from, make_each, entry_covers, is_cover, IsMadeOf, LiesDirectly, IsDirectlyCovered}
+use Rattle.pat_inclusion_spec.specs.Certificates.{covers_forms, cover_shows}
 use Rattle.pat_inclusion_laws.proofs.Languages.{Into, star_flat, star_sum}
 use Rattle.pat_inclusion_laws.proofs.Spans.{AllBelow, Spanned, none_below, plus_below, same_words, made_to}
 use Rattle.pat_inclusion_laws.proofs.Forms.{form_below, set_to, set_from, form_to, form_from}

@@ -2,14 +2,14 @@
 use Rattle.std.proofs.Common.{◌≡◌, ℕ, zero, suc, ◌+◌, ◌*◌, ◌≤◌, ◌<◌, min, true, List, [], ◌∷◌, inl, inr, ⊎_elim, refl, sym, ap, ◌∙◌, subst, arith, mul-zero, le-mul_of_pos_right, mul-le-mul_right, le_of_lt, le_refl}
 use Rattle.std.specs.List.{list_all}
 use Rattle.std.proofs.lemmas.Bool.{and_parts, cases_lt, cases_eq, cond_both, ltb-true}
-use Rattle.pat_words.specs.Words.{Word, no_word, one, plus}
-use Rattle.pat_words.specs.Patterns.{Pat, Zero, One, Tag, Sum, Prod, Star, Var, Language, In}
-use Rattle.pat_words.specs.Cuts.{cut_at, CutOf}
+use Rattle.pat_words_spec.specs.Words.{Word, no_word, one, plus}
+use Rattle.pat_words_spec.specs.Patterns.{Pat, Zero, One, Tag, Sum, Prod, Star, Var, Language, In}
+use Rattle.pat_words_spec.specs.Cuts.{cut_at, CutOf}
 use Rattle.pat_words_laws.proofs.WordLaws.{word_ext, plus_assoc, plus_none, none_plus}
-use Rattle.pat_words.specs.Tags.{tags_below, HasTagsBelow}
-use Rattle.pat_words.specs.Languages.{SumOf, StarOf, EitherOf, MemberOf}
-use Rattle.pat_inclusions.specs.Counts.{has_word, scaled}
-use Rattle.pat_inclusions.specs.CutWords.{add_point, add_points, shifted, point_sums, multiples, with_multiples, cuts_of, cuts_lie}
+use Rattle.pat_words_spec.specs.Tags.{tags_below, HasTagsBelow}
+use Rattle.pat_words_spec.specs.Languages.{SumOf, StarOf, EitherOf, MemberOf}
+use Rattle.pat_inclusion_spec.specs.Counts.{has_word, scaled}
+use Rattle.pat_inclusion_spec.specs.CutWords.{add_point, add_points, shifted, point_sums, multiples, with_multiples, cuts_of, cuts_lie}
 use Rattle.pat_inclusion_laws.proofs.Languages.{Into, sum_assoc_to, scaled_zero, scaled_suc, star_none, star_one, star_sum, star_mono, star_least, star_scaled, star_either_to}
 use Rattle.pat_inclusion_laws.proofs.Spans.{AllBelow, none_below, plus_below, found_member, scaled_sum, scaled_one}
 use Rattle.pat_inclusion_laws.proofs.Forms.{one_below}

@@ -3,18 +3,18 @@ use Rattle.std.proofs.Common.{◌≡◌, ℕ, zero, suc, ◌+◌, ◌-◌, ◌�
 use Rattle.std.specs.Prelude.{slice_get, nat_le, if◌then◌else◌}
 use Rattle.std.specs.List.{AllByRecursion, list_all, list_any}
 use Rattle.std.proofs.lemmas.Bool.{and_parts, and_from, or_cases, or_left, or_right, eq-eqb, leb-true, cases_lt}
-use Rattle.pat_words.specs.Words.{Word, no_word, plus}
-use Rattle.pat_words.specs.Patterns.{Pat, Zero, One, Tag, Sum, Prod, Star, Var, In}
-use Rattle.pat_words.specs.Cuts.{cut_at, CutOf}
+use Rattle.pat_words_spec.specs.Words.{Word, no_word, plus}
+use Rattle.pat_words_spec.specs.Patterns.{Pat, Zero, One, Tag, Sum, Prod, Star, Var, In}
+use Rattle.pat_words_spec.specs.Cuts.{cut_at, CutOf}
 use Rattle.pat_words_laws.proofs.WordLaws.{plus_none}
-use Rattle.pat_words.specs.Tags.{tags_below, HasTagsBelow}
-use Rattle.pat_words.specs.Languages.{MemberOf}
-use Rattle.pat_inclusions.specs.Counts.{most_tags, same_below, has_word, scaled, counted}
-use Rattle.pat_inclusions.specs.LinearSets.{LinearSet, linear_set, combined, SetBelow, SetsBelow}
-use Rattle.pat_inclusions.specs.ClosedForms.{add_period, add_periods, set_product, products, only_empty, star_by, set_star, times_stars, sets_of}
-use Rattle.pat_inclusions.specs.Covers.{CoverEntry, makes, makes_from, make_each, entry_covers, is_cover, IsMadeOf, IsDirectlyCovered}
-use Rattle.pat_inclusions.specs.Points.{point_fits}
-use Rattle.pat_inclusions.specs.CutWords.{cuts_of, cuts_lie}
+use Rattle.pat_words_spec.specs.Tags.{tags_below, HasTagsBelow}
+use Rattle.pat_words_spec.specs.Languages.{MemberOf}
+use Rattle.pat_inclusion_spec.specs.Counts.{most_tags, same_below, has_word, scaled, counted}
+use Rattle.pat_inclusion_spec.specs.LinearSets.{LinearSet, linear_set, combined, SetBelow, SetsBelow}
+use Rattle.pat_inclusion_spec.specs.ClosedForms.{add_period, add_periods, set_product, products, only_empty, star_by, set_star, times_stars, sets_of}
+use Rattle.pat_inclusion_spec.specs.Covers.{CoverEntry, makes, makes_from, make_each, entry_covers, is_cover, IsMadeOf, IsDirectlyCovered}
+use Rattle.pat_inclusion_spec.specs.Points.{point_fits}
+use Rattle.pat_inclusion_spec.specs.CutWords.{cuts_of, cuts_lie}
 use Rattle.pat_inclusion_laws.proofs.Languages.{scaled_zero, Into}
 use Rattle.pat_inclusion_laws.proofs.Spans.{AllBelow, none_below, same_counts, found_member, add_below}
 use Rattle.pat_inclusion_laws.proofs.Forms.{form_below, products_below, star_below}

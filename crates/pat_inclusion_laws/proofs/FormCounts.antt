@@ -3,12 +3,12 @@ use Rattle.std.proofs.Common.{◌≡◌, ℕ, zero, suc, ◌+◌, ◌-◌, ◌*�
 use Rattle.std.specs.Prelude.{nat_le, ◌^◌}
 use Rattle.std.specs.List.{AllByRecursion}
 use Rattle.std.proofs.lemmas.Bool.{and_parts, or_parts, cond_both, cases_lt, leb-true, or_cases}
-use Rattle.pat_words.specs.Words.{Word, no_word}
-use Rattle.pat_words.specs.Patterns.{Pat, Zero, One, Tag, Sum, Prod, Star, Var}
-use Rattle.pat_words.specs.Sizes.{size_of, levels_of}
-use Rattle.pat_inclusions.specs.Counts.{is_empty_below, has_word}
-use Rattle.pat_inclusions.specs.LinearSets.{LinearSet, linear_set, WordWithin, SetWithin, SetsWithin}
-use Rattle.pat_inclusions.specs.ClosedForms.{add_period, add_periods, set_product, products, only_empty, star_by, set_star, times_stars, sets_of, is_short, stars_are_short, lists_are_short, is_small, SetsClean}
+use Rattle.pat_words_spec.specs.Words.{Word, no_word}
+use Rattle.pat_words_spec.specs.Patterns.{Pat, Zero, One, Tag, Sum, Prod, Star, Var}
+use Rattle.pat_words_spec.specs.Sizes.{size_of, levels_of}
+use Rattle.pat_inclusion_spec.specs.Counts.{is_empty_below, has_word}
+use Rattle.pat_inclusion_spec.specs.LinearSets.{LinearSet, linear_set, WordWithin, SetWithin, SetsWithin}
+use Rattle.pat_inclusion_spec.specs.ClosedForms.{add_period, add_periods, set_product, products, only_empty, star_by, set_star, times_stars, sets_of, is_short, stars_are_short, lists_are_short, is_small, SetsClean}
 
 -- ---- bounds
 

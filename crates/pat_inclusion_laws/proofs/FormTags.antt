@@ -3,12 +3,12 @@ use Rattle.std.proofs.Common.{◌≡◌, ℕ, zero, suc, ◌+◌, ◌≤◌, ◌
 use Rattle.std.specs.Prelude.{if◌then◌else◌, nat_le, nat_lt}
 use Rattle.std.proofs.lemmas.Bool.{and_parts, and_from, lt-ltb, ltb-true, lt-leb, cond-false}
 use Rattle.std.proofs.lemmas.List.{length-map}
-use Rattle.pat_words.specs.Words.{Word}
-use Rattle.pat_words.specs.Patterns.{Pat, Zero, One, Tag, Sum, Prod, Star, Var, subst_of}
-use Rattle.pat_words.specs.Sizes.{size_of, levels_of}
-use Rattle.pat_words.specs.Tags.{tags_below}
-use Rattle.pat_inclusions.specs.LinearSets.{LinearSet}
-use Rattle.pat_inclusions.specs.ClosedForms.{set_product, products, star_by, set_star, sets_of, only_empty, is_short, stars_are_short, lists_are_short, is_small, closed_form}
+use Rattle.pat_words_spec.specs.Words.{Word}
+use Rattle.pat_words_spec.specs.Patterns.{Pat, Zero, One, Tag, Sum, Prod, Star, Var, subst_of}
+use Rattle.pat_words_spec.specs.Sizes.{size_of, levels_of}
+use Rattle.pat_words_spec.specs.Tags.{tags_below}
+use Rattle.pat_inclusion_spec.specs.LinearSets.{LinearSet}
+use Rattle.pat_inclusion_spec.specs.ClosedForms.{set_product, products, star_by, set_star, sets_of, only_empty, is_short, stars_are_short, lists_are_short, is_small, closed_form}
 use Rattle.pat_inclusion_laws.proofs.Exact.{form_same}
 
 -- how many sets there are in a product and in a star doesn't depend on the tags

@@ -1,13 +1,13 @@
 -- The closed form has the words of the pattern.
 use Rattle.std.proofs.Common.{◌≡◌, ℕ, ◌<◌, true, nat_eq, List, [], ◌∷◌, ◌++◌, map, ◌⊎◌, inl, inr, ⊎_elim, refl, sym, ap, ◌∙◌, subst, arith}
 use Rattle.std.proofs.lemmas.Bool.{and_parts, ltb-true, ne_eqb, cond-false}
-use Rattle.pat_words.specs.Words.{Word, no_word, one, plus}
-use Rattle.pat_words.specs.Patterns.{Pat, Zero, One, Tag, Sum, Prod, Star, Var, Language, In}
+use Rattle.pat_words_spec.specs.Words.{Word, no_word, one, plus}
+use Rattle.pat_words_spec.specs.Patterns.{Pat, Zero, One, Tag, Sum, Prod, Star, Var, Language, In}
 use Rattle.pat_words_laws.proofs.WordLaws.{plus_assoc, plus_none, none_plus}
-use Rattle.pat_words.specs.Tags.{tags_below, HasTagsBelow}
-use Rattle.pat_words.specs.Languages.{SumOf, StarOf, EitherOf, MemberOf}
-use Rattle.pat_inclusions.specs.LinearSets.{LinearSet, linear_set, combined, InSet, InSets, SetBelow, SetsBelow}
-use Rattle.pat_inclusions.specs.ClosedForms.{add_period, set_product, products, only_empty, star_by, set_star, times_stars, sets_of}
+use Rattle.pat_words_spec.specs.Tags.{tags_below, HasTagsBelow}
+use Rattle.pat_words_spec.specs.Languages.{SumOf, StarOf, EitherOf, MemberOf}
+use Rattle.pat_inclusion_spec.specs.LinearSets.{LinearSet, linear_set, combined, InSet, InSets, SetBelow, SetsBelow}
+use Rattle.pat_inclusion_spec.specs.ClosedForms.{add_period, set_product, products, only_empty, star_by, set_star, times_stars, sets_of}
 use Rattle.pat_inclusion_laws.proofs.Languages.{Into, plus_four, sum_mono, sum_assoc_to, sum_assoc_from, star_none, star_one, star_sum, star_mono, star_least, star_either_to, star_either_from}
 use Rattle.pat_inclusion_laws.proofs.Spans.{AllBelow, Spanned, none_below, plus_below, combined_none, add_below, adds_below, span_add_to, span_add_from, span_adds_to, span_adds_from, made_to, made_from}
 

@@ -1,11 +1,11 @@
 -- Sets of words: sums of a word of each, and finite sums of words of one.
 use Rattle.std.proofs.Common.{◌≡◌, ℕ, zero, suc, inl, inr, ⊎_elim, refl, sym, ap, ◌∙◌, subst, arith, suc-mul, zero-mul}
-use Rattle.pat_words.specs.Words.{Word, no_word, plus}
-use Rattle.pat_words.specs.Patterns.{Language, Times}
+use Rattle.pat_words_spec.specs.Words.{Word, no_word, plus}
+use Rattle.pat_words_spec.specs.Patterns.{Language, Times}
 use Rattle.pat_words_laws.proofs.WordLaws.{word_ext, plus_comm, plus_assoc, plus_none, none_plus}
 use Rattle.pat_words_laws.proofs.FormLaws.{times_mono}
-use Rattle.pat_words.specs.Languages.{SumOf, StarOf, EitherOf}
-use Rattle.pat_inclusions.specs.Counts.{scaled}
+use Rattle.pat_words_spec.specs.Languages.{SumOf, StarOf, EitherOf}
+use Rattle.pat_inclusion_spec.specs.Counts.{scaled}
 
 -- each word of L is one of M
 abbrev pub Into : Language → Language → Type 0

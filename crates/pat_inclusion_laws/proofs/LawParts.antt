@@ -3,15 +3,15 @@ use Rattle.std.proofs.Common.{◌≡◌, ℕ, ◌≤◌, true, List, ◌↔◌, 
 use Rattle.std.specs.Prelude.{◌&&◌}
 use Rattle.std.specs.List.{list_all, list_any}
 use Rattle.std.proofs.lemmas.Bool.{and_parts}
-use Rattle.pat_words.specs.Words.{Word}
-use Rattle.pat_words.specs.Patterns.{Pat, In, Included, subst_of}
-use Rattle.pat_words.specs.Cuts.{cut_at}
-use Rattle.pat_words.specs.Tags.{HasTagsBelow}
-use Rattle.pat_inclusions.specs.Counts.{same_below, counted}
-use Rattle.pat_inclusions.specs.Points.{grid_fits, point_fits, points_ascend, points_fit, points_pattern}
-use Rattle.pat_inclusions.specs.CutWords.{cuts_lie}
-use Rattle.pat_inclusions.specs.Values.{Scope, pattern_of, is_formed}
-use Rattle.pat_inclusions.specs.Certificates.{is_large_enough}
+use Rattle.pat_words_spec.specs.Words.{Word}
+use Rattle.pat_words_spec.specs.Patterns.{Pat, In, Included, subst_of}
+use Rattle.pat_words_spec.specs.Cuts.{cut_at}
+use Rattle.pat_words_spec.specs.Tags.{HasTagsBelow}
+use Rattle.pat_inclusion_spec.specs.Counts.{same_below, counted}
+use Rattle.pat_inclusion_spec.specs.Points.{grid_fits, point_fits, points_ascend, points_fit, points_pattern}
+use Rattle.pat_inclusion_spec.specs.CutWords.{cuts_lie}
+use Rattle.pat_inclusion_spec.specs.Values.{Scope, pattern_of, is_formed}
+use Rattle.pat_inclusion_spec.specs.Certificates.{is_large_enough}
 use Rattle.pat_inclusion_laws.proofs.CutLaws.{cuts_include}
 use Rattle.pat_inclusion_laws.proofs.PointLaws.{points_to, points_from}
 use Rattle.pat_inclusion_laws.proofs.Shown.{ValuesFit, replaced_tags, large_enough}

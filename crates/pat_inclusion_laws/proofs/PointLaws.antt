@@ -2,14 +2,14 @@
 use Rattle.std.proofs.Common.{◌≡◌, ℕ, zero, suc, ◌+◌, ◌-◌, ◌*◌, ◌≤◌, ◌<◌, min, true, ◌||◌, List, [], ◌∷◌, ◌⊎◌, inl, inr, ⊎_elim, refl, sym, ap, ◌∙◌, subst, arith, mul-zero, mul-one}
 use Rattle.std.specs.Prelude.{nat_lt, if◌then◌else◌}
 use Rattle.std.proofs.lemmas.Bool.{and_from, cases_lt, cases_eq, cond_both, ltb-true, ltb-false, lt-ltb, cond-true, cond-false, le-ltb}
-use Rattle.pat_words.specs.Words.{Word, no_word, one, plus}
-use Rattle.pat_words.specs.Patterns.{Pat, Zero, One, Tag, Sum, Prod, Star, In, no_values, is_zero, is_one, pat_eq, sum_of, prod_of, star_of}
-use Rattle.pat_words.specs.Cuts.{cut_at}
+use Rattle.pat_words_spec.specs.Words.{Word, no_word, one, plus}
+use Rattle.pat_words_spec.specs.Patterns.{Pat, Zero, One, Tag, Sum, Prod, Star, In, no_values, is_zero, is_one, pat_eq, sum_of, prod_of, star_of}
+use Rattle.pat_words_spec.specs.Cuts.{cut_at}
 use Rattle.pat_words_laws.proofs.WordLaws.{word_ext, count_eq, plus_comm}
 use Rattle.pat_words_laws.proofs.PatternLaws.{sum_of_to, sum_of_from, prod_of_to, prod_of_from}
-use Rattle.pat_words.specs.Tags.{tags_below, HasTagsBelow}
-use Rattle.pat_inclusions.specs.Counts.{counted, scaled}
-use Rattle.pat_inclusions.specs.Points.{tag_power, count_pattern, point_pattern, with_points, points_pattern}
+use Rattle.pat_words_spec.specs.Tags.{tags_below, HasTagsBelow}
+use Rattle.pat_inclusion_spec.specs.Counts.{counted, scaled}
+use Rattle.pat_inclusion_spec.specs.Points.{tag_power, count_pattern, point_pattern, with_points, points_pattern}
 use Rattle.pat_inclusion_laws.proofs.Languages.{star_least, star_one, star_scaled, scaled_zero, scaled_suc}
 use Rattle.pat_inclusion_laws.proofs.Spans.{scaled_sum}
 use Rattle.pat_inclusion_laws.proofs.Pumping.{one_other, one_here, alone, cut_cases}

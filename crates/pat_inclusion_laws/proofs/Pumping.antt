@@ -1,13 +1,13 @@
 -- Flat patterns: counts above the degree may be changed to any other that is not below the degree.
 use Rattle.std.proofs.Common.{◌≡◌, ℕ, ◌+◌, ◌-◌, ◌*◌, ◌≤◌, ◌<◌, min, max, true, nat_eq, ◌⊎◌, inl, inr, ⊎_elim, refl, sym, ap, ◌∙◌, subst, arith, mul-zero, mul-one}
 use Rattle.std.proofs.lemmas.Bool.{and_parts, cases_lt, cases_eq, ne_eqb, eq-eqb, cond_both, cond-true, cond-false}
-use Rattle.pat_words.specs.Words.{Word, no_word, one, plus}
-use Rattle.pat_words.specs.Patterns.{Pat, Zero, One, Tag, Sum, Prod, Star, Var, Language, In}
-use Rattle.pat_words.specs.Flats.{is_choice, is_flat, degree_of}
-use Rattle.pat_words.specs.Cuts.{cut_at}
+use Rattle.pat_words_spec.specs.Words.{Word, no_word, one, plus}
+use Rattle.pat_words_spec.specs.Patterns.{Pat, Zero, One, Tag, Sum, Prod, Star, Var, Language, In}
+use Rattle.pat_words_spec.specs.Flats.{is_choice, is_flat, degree_of}
+use Rattle.pat_words_spec.specs.Cuts.{cut_at}
 use Rattle.pat_words_laws.proofs.WordLaws.{word_ext, count_eq, plus_none}
-use Rattle.pat_words.specs.Languages.{StarOf}
-use Rattle.pat_inclusions.specs.Counts.{scaled}
+use Rattle.pat_words_spec.specs.Languages.{StarOf}
+use Rattle.pat_inclusion_spec.specs.Counts.{scaled}
 use Rattle.pat_inclusion_laws.proofs.Languages.{star_one, star_least, star_scaled, star_either_to, star_either_from}
 
 -- each count of w is that of v, or both are large

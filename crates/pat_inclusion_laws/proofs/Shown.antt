@@ -3,17 +3,17 @@ use Rattle.std.proofs.Common.{◌≡◌, ℕ, zero, suc, ◌≤◌, true, not, �
 use Rattle.std.specs.Prelude.{slice_get, nat_lt, nat_le, ◌^◌, ◌+◌}
 use Rattle.std.specs.List.{list_all}
 use Rattle.std.proofs.lemmas.Bool.{and_parts, and_from, or_cases, eqb-true, ltb-true, leb-true}
-use Rattle.pat_words.specs.Words.{Word}
-use Rattle.pat_words.specs.Patterns.{Pat, Zero, One, Tag, Sum, Prod, Star, Var, Language, InUnder, In, Included, no_values, pat_eq, is_closed, subst_of}
-use Rattle.pat_words.specs.Flats.{is_flat, degree_of, is_choice}
-use Rattle.pat_words.specs.Cuts.{cut_at}
+use Rattle.pat_words_spec.specs.Words.{Word}
+use Rattle.pat_words_spec.specs.Patterns.{Pat, Zero, One, Tag, Sum, Prod, Star, Var, Language, InUnder, In, Included, no_values, pat_eq, is_closed, subst_of}
+use Rattle.pat_words_spec.specs.Flats.{is_flat, degree_of, is_choice}
+use Rattle.pat_words_spec.specs.Cuts.{cut_at}
 use Rattle.pat_words_laws.proofs.PatternLaws.{pat_eq_same}
 use Rattle.pat_words_laws.proofs.FormLaws.{times_mono, subst_to, subst_from}
-use Rattle.pat_words.specs.Tags.{tags_below}
-use Rattle.pat_inclusions.specs.Points.{grid_fits, points_pattern}
-use Rattle.pat_inclusions.specs.CutWords.{cuts_lie}
-use Rattle.pat_inclusions.specs.Values.{VarValue, PatternForm, GridForm, VarLine, Scope, var_at, value_pattern, line_pattern, pattern_of, plain_or_var, plainly_replaced, has_interface, is_formed, value_fits, values_fit}
-use Rattle.pat_inclusions.specs.Certificates.{Cert, CoverCert, GridCert, is_arm, is_trivial, has_bound, is_large_enough, grid_shows, cert_shows, shows, is_shown_in}
+use Rattle.pat_words_spec.specs.Tags.{tags_below}
+use Rattle.pat_inclusion_spec.specs.Points.{grid_fits, points_pattern}
+use Rattle.pat_inclusion_spec.specs.CutWords.{cuts_lie}
+use Rattle.pat_inclusion_spec.specs.Values.{VarValue, PatternForm, GridForm, VarLine, Scope, var_at, value_pattern, line_pattern, pattern_of, plain_or_var, plainly_replaced, has_interface, is_formed, value_fits, values_fit}
+use Rattle.pat_inclusion_spec.specs.Certificates.{Cert, CoverCert, GridCert, is_arm, is_trivial, has_bound, is_large_enough, grid_shows, cert_shows, shows, is_shown_in}
 use Rattle.pat_inclusion_laws.proofs.CoverLaws.{cover_includes}
 use Rattle.pat_inclusion_laws.proofs.Pumping.{flat_by_cut}
 use Rattle.pat_inclusion_laws.proofs.CutLaws.{cuts_include}

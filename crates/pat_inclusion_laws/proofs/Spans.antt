@@ -2,15 +2,15 @@
 use Rattle.std.proofs.Common.{◌≡◌, ℕ, zero, suc, ◌+◌, ◌<◌, true, ◌||◌, nat_eq, List, [], ◌∷◌, ◌++◌, inl, inr, ⊎_elim, refl, sym, ap, ◌∙◌, subst, arith, add-mul, one-mul}
 use Rattle.std.specs.List.{AllByRecursion}
 use Rattle.std.proofs.lemmas.Bool.{and_parts, or_cases, eqb-true, cond_both, cases_lt}
-use Rattle.pat_words.specs.Words.{Word, no_word, plus}
-use Rattle.pat_words.specs.Patterns.{Language}
+use Rattle.pat_words_spec.specs.Words.{Word, no_word, plus}
+use Rattle.pat_words_spec.specs.Patterns.{Language}
 use Rattle.pat_words_laws.proofs.WordLaws.{word_ext, plus_none, none_plus}
-use Rattle.pat_words.specs.Tags.{HasTagsBelow}
-use Rattle.pat_words.specs.Languages.{StarOf, EitherOf, MemberOf}
-use Rattle.pat_inclusions.specs.Counts.{same_below, is_empty_below, has_word, scaled}
-use Rattle.pat_inclusions.specs.LinearSets.{combined}
-use Rattle.pat_inclusions.specs.ClosedForms.{add_period, add_periods}
-use Rattle.pat_inclusions.specs.Covers.{IsMadeOf}
+use Rattle.pat_words_spec.specs.Tags.{HasTagsBelow}
+use Rattle.pat_words_spec.specs.Languages.{StarOf, EitherOf, MemberOf}
+use Rattle.pat_inclusion_spec.specs.Counts.{same_below, is_empty_below, has_word, scaled}
+use Rattle.pat_inclusion_spec.specs.LinearSets.{combined}
+use Rattle.pat_inclusion_spec.specs.ClosedForms.{add_period, add_periods}
+use Rattle.pat_inclusion_spec.specs.Covers.{IsMadeOf}
 use Rattle.pat_inclusion_laws.proofs.Languages.{Into, plus_four, scaled_zero, star_none, star_one, star_sum, star_mono, star_least, star_flat, star_scaled}
 
 -- ---- words of so many tags

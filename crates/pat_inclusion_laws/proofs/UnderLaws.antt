@@ -3,15 +3,15 @@ use Rattle.std.proofs.Common.{◌≡◌, ℕ, zero, suc, Bool, true, false, ◌&
 use Rattle.std.specs.Prelude.{if◌then◌else◌, nat_le}
 use Rattle.std.specs.List.{list_all, list_any}
 use Rattle.std.proofs.lemmas.Bool.{and_parts, or_cases, or_left, cond_both, cases_lt, eqb-true}
-use Rattle.pat_words.specs.Words.{Word, no_word}
-use Rattle.pat_words.specs.Patterns.{Pat, Zero, One, Tag, Sum, Prod, Star, Var, pat_eq, is_zero, is_one, sum_of, prod_of, star_of, subst_of, is_nullable, is_inhabited}
-use Rattle.pat_words.specs.Cuts.{cut_at}
+use Rattle.pat_words_spec.specs.Words.{Word, no_word}
+use Rattle.pat_words_spec.specs.Patterns.{Pat, Zero, One, Tag, Sum, Prod, Star, Var, pat_eq, is_zero, is_one, sum_of, prod_of, star_of, subst_of, is_nullable, is_inhabited}
+use Rattle.pat_words_spec.specs.Cuts.{cut_at}
 use Rattle.pat_words_laws.proofs.PatternLaws.{pat_eq_same, is_zero_same, is_one_same, nullable_to, nullable_from, inhabited_to, inhabited_from}
 use Rattle.pat_words_laws.proofs.WordLaws.{word_ext}
-use Rattle.pat_words.specs.Tags.{HasTagsBelow}
-use Rattle.pat_inclusions.specs.Counts.{same_below, counted}
-use Rattle.pat_inclusions.specs.Points.{grid_fits, point_fits, points_ascend, points_fit, points_pattern}
-use Rattle.pat_inclusions.specs.Under.{nullable_under, inhabited_under}
+use Rattle.pat_words_spec.specs.Tags.{HasTagsBelow}
+use Rattle.pat_inclusion_spec.specs.Counts.{same_below, counted}
+use Rattle.pat_inclusion_spec.specs.Points.{grid_fits, point_fits, points_ascend, points_fit, points_pattern}
+use Rattle.pat_inclusion_spec.specs.Under.{nullable_under, inhabited_under}
 use Rattle.pat_inclusion_laws.proofs.CutLaws.{cut_none}
 use Rattle.pat_inclusion_laws.proofs.LawParts.{points_words}
 use Rattle.pat_inclusion_laws.proofs.Exact.{same_from, point_count}

@@ -1,20 +1,20 @@
 -- What closed forms, covers and grids show of patterns.
 use Rattle.std.specs.Prelude.{◌*◌, ◌^◌, ◌≡◌, ℕ, ◌<◌, ◌≤◌, false, ◌&&◌, List, [], ◌∷◌, Option, Some, None, ◌↔◌, IsTrue, IsFalse}
 use Rattle.std.specs.List.{list_any}
-use Rattle.pat_words.specs.Words.{Word, no_word}
-use Rattle.pat_words.specs.Patterns.{Pat, In, Included, is_nullable, is_inhabited, subst_of}
-use Rattle.pat_words.specs.Flats.{is_flat, degree_of}
-use Rattle.pat_words.specs.Cuts.{cut_at}
-use Rattle.pat_words.specs.Tags.{tags_below, HasTagsBelow}
-use Rattle.pat_inclusions.specs.Counts.{most_tags, same_below, has_word, counted}
-use Rattle.pat_inclusions.specs.LinearSets.{LinearSet, InSets, SetsBelow, SetsWithin}
-use Rattle.pat_inclusions.specs.ClosedForms.{only_empty, times_stars, sets_of, is_small, is_short, lists_are_short, SetsClean}
-use Rattle.pat_inclusions.specs.Covers.{CoverEntry, is_cover, IsDirectlyCovered}
-use Rattle.pat_inclusions.specs.Points.{points_fit, points_pattern}
-use Rattle.pat_inclusions.specs.CutWords.{cuts_of, cuts_lie}
-use Rattle.pat_inclusions.specs.Values.{Scope, pattern_of, is_formed, values_fit}
-use Rattle.pat_inclusions.specs.Certificates.{Cert, Inclusion, cover_shows, is_trivial, is_large_enough, is_shown, are_shown}
-use Rattle.pat_inclusions.specs.Under.{nullable_under, inhabited_under}
+use Rattle.pat_words_spec.specs.Words.{Word, no_word}
+use Rattle.pat_words_spec.specs.Patterns.{Pat, In, Included, is_nullable, is_inhabited, subst_of}
+use Rattle.pat_words_spec.specs.Flats.{is_flat, degree_of}
+use Rattle.pat_words_spec.specs.Cuts.{cut_at}
+use Rattle.pat_words_spec.specs.Tags.{tags_below, HasTagsBelow}
+use Rattle.pat_inclusion_spec.specs.Counts.{most_tags, same_below, has_word, counted}
+use Rattle.pat_inclusion_spec.specs.LinearSets.{LinearSet, InSets, SetsBelow, SetsWithin}
+use Rattle.pat_inclusion_spec.specs.ClosedForms.{only_empty, times_stars, sets_of, is_small, is_short, lists_are_short, SetsClean}
+use Rattle.pat_inclusion_spec.specs.Covers.{CoverEntry, is_cover, IsDirectlyCovered}
+use Rattle.pat_inclusion_spec.specs.Points.{points_fit, points_pattern}
+use Rattle.pat_inclusion_spec.specs.CutWords.{cuts_of, cuts_lie}
+use Rattle.pat_inclusion_spec.specs.Values.{Scope, pattern_of, is_formed, values_fit}
+use Rattle.pat_inclusion_spec.specs.Certificates.{Cert, Inclusion, cover_shows, is_trivial, is_large_enough, is_shown, are_shown}
+use Rattle.pat_inclusion_spec.specs.Under.{nullable_under, inhabited_under}
 
 -- ---- closed forms
 

@@ -6,14 +6,14 @@ use Rattle.std.specs.List.{AllByRecursion}
 use Rattle.std.proofs.lemmas.Bool.{eqb-true, eq-eqb, cond-false, cases_Bool}
 use Rattle.std.proofs.lemmas.List.{length-map}
 use Rattle.std.proofs.lemmas.Option.{slice_get_within}
-use Rattle.pat_model.specs.Programs as core
-use Rattle.pat_model.specs.Programs.{node_at}
-use Rattle.pat_model.specs.WellFormed.{WellFormed}
-use Rattle.pat_open_types.specs.NodeTypes.{NodeType}
-use Rattle.pat_inference.specs.Constraints.{Finding}
-use Rattle.pat_inference.specs.Laws.{BrokenIsUntypable, SolutionTypes}
-use Rattle.pat_inference.specs.Shapes.{FoundFits, EachNodeOnce}
-use Rattle.pat_inference.specs.Walk.{inferred}
+use Rattle.pat_semantics_spec.specs.Programs as core
+use Rattle.pat_semantics_spec.specs.Programs.{node_at}
+use Rattle.pat_semantics_spec.specs.WellFormed.{WellFormed}
+use Rattle.pat_type_schemes_spec.specs.NodeTypes.{NodeType}
+use Rattle.pat_infer_spec.specs.Constraints.{Finding}
+use Rattle.pat_infer_spec.specs.Laws.{BrokenIsUntypable, SolutionTypes}
+use Rattle.pat_infer_spec.specs.Shapes.{FoundFits, EachNodeOnce}
+use Rattle.pat_infer_spec.specs.Walk.{inferred}
 use Rattle.pat_core.specs.declared.program.Program.{Program}
 use Rattle.pat_core.specs.Views.{program_view, node_view}
 use Rattle.pat_types.specs.Views.{node_type_view}

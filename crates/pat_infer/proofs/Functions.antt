@@ -3,12 +3,12 @@ use Rattle.std.proofs.Common.{◌≡◌, ℕ, zero, suc, ◌+◌, ◌<◌, List,
 use Rattle.std.specs.Prelude.{slice_get, option_map}
 use Rattle.std.proofs.lemmas.List.{append-nil, append_assoc, map-append, length-map, at_drop_more}
 use Rattle.std.proofs.lemmas.Option.{slice_get_within, get_or_from_slice_get, slice_get-map, slice_get_read}
-use Rattle.pat_model.specs.Programs as core
-use Rattle.pat_model.specs.Programs.{Function}
-use Rattle.pat_open_types.specs.NodeTypes.{NodeType}
-use Rattle.pat_open_types.specs.Signatures.{signature_vars}
-use Rattle.pat_inference.specs.Constraints.{Found}
-use Rattle.pat_inference.specs.Walk.{walk_function, walk_functions, inferred, all_vars}
+use Rattle.pat_semantics_spec.specs.Programs as core
+use Rattle.pat_semantics_spec.specs.Programs.{Function}
+use Rattle.pat_type_schemes_spec.specs.NodeTypes.{NodeType}
+use Rattle.pat_type_schemes_spec.specs.Signatures.{signature_vars}
+use Rattle.pat_infer_spec.specs.Constraints.{Found}
+use Rattle.pat_infer_spec.specs.Walk.{walk_function, walk_functions, inferred, all_vars}
 use Rattle.pat_core.specs.declared.program.Program.{Program}
 use Rattle.pat_core.specs.Views.{program_view}
 use Rattle.pat_types.specs.Views.{node_type_view}
@@ -18,10 +18,10 @@ use Rattle.pat_infer_problems.specs.Growing.{Grows, settled}
 use Rattle.pat_infer_problems.specs.declared.problem.Problem.{Problem}
 use Rattle.pat_infer_problems.specs.declared.error.InferError.{InferError}
 use Rattle.pat_infer_problems.proofs.Joining.{first_behind, refuses_front, refuses_by, settled_both, grown}
-use Rattle.pat_infer_signatures.specs.Opened.{signature_end, signatures_from}
-use Rattle.pat_infer_signatures.specs.Views.{signature_view}
-use Rattle.pat_infer_signatures.specs.declared.signatures.Signature.{Signature}
-use Rattle.pat_infer_walk.specs.Walking.{HasGrown}
+use Rattle.pat_infer_problems.specs.signatures.Opened.{signature_end, signatures_from}
+use Rattle.pat_infer_problems.specs.signatures.Views.{signature_view}
+use Rattle.pat_infer_problems.specs.declared.signatures.signatures.Signature.{Signature}
+use Rattle.pat_infer.specs.walk.Walking.{HasGrown}
 use Rattle.pat_infer.specs.Answers.{IsMade, IsEmpty}
 
 -- what is found so far, with what is found of the functions that are left, is what is found of all

@@ -1,2 +1,6 @@
 mod Functions
 mod Answered
+mod SignedNumbers
+mod Climbing
+mod Parts
+mod WalkFunctions

@@ -1,9 +1,9 @@
 -- What inference answers of a program, and what it comes to on the way.
 use Rattle.std.specs.Prelude.{◌≡◌, List, [], length, map, None, Result, Ok, Err}
-use Rattle.pat_model.specs.Programs as core
-use Rattle.pat_typing.specs.Typings.{IsTypable}
-use Rattle.pat_open_types.specs.NodeTypes.{NodeType}
-use Rattle.pat_inference.specs.Walk.{inferred, all_vars}
+use Rattle.pat_semantics_spec.specs.Programs as core
+use Rattle.pat_type_system_spec.specs.Typings.{IsTypable}
+use Rattle.pat_type_schemes_spec.specs.NodeTypes.{NodeType}
+use Rattle.pat_infer_spec.specs.Walk.{inferred, all_vars}
 use Rattle.pat_core.specs.declared.program.Program.{Program}
 use Rattle.pat_core.specs.Views.{program_view}
 use Rattle.pat_types.specs.Views.{node_type_view}

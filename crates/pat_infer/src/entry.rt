@@ -1,7 +1,7 @@
 // The problem of a program.
 ghost use Rattle.std.specs.Prelude.{IfOk, OnOk, IfErr};
-ghost use Rattle.pat_model.specs.WellFormed.{WellFormed};
-ghost use Rattle.pat_inference.specs.Walk.{inferred};
+ghost use Rattle.pat_semantics_spec.specs.WellFormed.{WellFormed};
+ghost use Rattle.pat_infer_spec.specs.Walk.{inferred};
 ghost use Rattle.pat_core.specs.Views.{program_view};
 ghost use Rattle.pat_infer_problems.specs.Results.{Refuses};
 ghost use Rattle.pat_infer_problems.specs.Problems.{IsProblemOf, IsEnough};
@@ -9,8 +9,8 @@ ghost use Rattle.pat_infer.specs.Answers.{IsUntypable};
 
 use crate::making::problem_of;
 use pat_core::Program;
+use pat_infer_laws::{enough_laws, found_laws, lossless_laws};
 use pat_infer_problems::{InferError, Problem};
-use pat_inference_laws::{enough_laws, found_laws, lossless_laws};
 use std::alloc::Global;
 
 /// The problem of a well-formed program: which inclusions between patterns a typing has to meet, by backward typing, from the uses

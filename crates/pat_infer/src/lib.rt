@@ -1,8 +1,8 @@
-//! Inference: the problem of a program, whose solutions are the typings of the program; or the first rule of backward typing that
-//! the program breaks, so that it has no typing.
+//! The problem of a program, or the first broken rule.
 #![tactic(auto)]
 
 mod entry;
 mod making;
+mod walk;
 
 pub use entry::constraints;

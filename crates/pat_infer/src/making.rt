@@ -1,15 +1,14 @@
 // The functions of a program, walked one after another.
 ghost use Rattle.std.specs.Prelude.{◌≡◌, ◌+◌, ◌<◌, [], length, Some, slice_get, IfOk, OnOk};
-ghost use Rattle.pat_model.specs.Programs.{Function as GhostFunction};
-ghost use Rattle.pat_inference.specs.Walk.{walk_function as found_of_function, walk_functions as found_of_functions};
+ghost use Rattle.pat_semantics_spec.specs.Programs.{Function as GhostFunction};
+ghost use Rattle.pat_infer_spec.specs.Walk.{walk_function as found_of_function, walk_functions as found_of_functions};
 ghost use Rattle.pat_core.specs.Views.{program_view};
-ghost use Rattle.pat_infer_walk.specs.Walking.{IsSigned, Finds};
+ghost use Rattle.pat_infer.specs.walk.Walking.{IsSigned, Finds};
 ghost use Rattle.pat_infer.specs.Answers.{Answers, IsEmpty};
 
+use crate::walk::{Signed, walk_function};
 use pat_core::Program;
-use pat_infer_problems::{InferError, Problem};
-use pat_infer_signatures::open_signatures;
-use pat_infer_walk::{Signed, walk_function};
+use pat_infer_problems::{InferError, Problem, open_signatures};
 use pat_primitives::Base;
 use pat_sequences::Sequence;
 use pat_types::{NodeType, TypeOf};

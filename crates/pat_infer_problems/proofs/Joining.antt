@@ -2,10 +2,10 @@
 use Rattle.std.proofs.Common.{◌≡◌, ℕ, ◌+◌, List, [], ◌∷◌, ◌++◌, length, map, Some, None, refl, sym, ap, ◌∙◌, arith, slice_set}
 use Rattle.std.specs.Prelude.{option_map}
 use Rattle.std.proofs.lemmas.List.{append-nil, append_assoc, map-append, length-append, length-map}
-use Rattle.pat_open_types.specs.NodeTypes.{NodeType}
-use Rattle.pat_open_types.specs.Signatures.{Variable}
-use Rattle.pat_inference.specs.Constraints as found
-use Rattle.pat_inference.specs.Constraints.{Finding}
+use Rattle.pat_type_schemes_spec.specs.NodeTypes.{NodeType}
+use Rattle.pat_type_schemes_spec.specs.Signatures.{Variable}
+use Rattle.pat_infer_spec.specs.Constraints as found
+use Rattle.pat_infer_spec.specs.Constraints.{Finding}
 use Rattle.pat_core.specs.declared.program.Program.{Program}
 use Rattle.pat_types.specs.Views.{node_type_view}
 use Rattle.pat_infer_problems.specs.Views.{placed_variable, placed_variable_of, PlacedConstraint, placed_constraint, constraint_view, placed_finding}

@@ -1,2 +1,3 @@
 mod Grown
 pub mod Joining
+mod Variables

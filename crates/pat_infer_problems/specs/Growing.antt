@@ -1,6 +1,6 @@
 -- How a problem grows.
 use Rattle.std.specs.Prelude.{◌≡◌, ℕ, List, [], ◌∷◌, ◌++◌, map, slice_set}
-use Rattle.pat_open_types.specs.NodeTypes.{NodeType}
+use Rattle.pat_type_schemes_spec.specs.NodeTypes.{NodeType}
 use Rattle.pat_types.specs.Views.{node_type_view}
 use Rattle.pat_infer_problems.specs.Views.{PlacedVariable, placed_variable_of, PlacedConstraint, constraint_view}
 use Rattle.pat_infer_problems.specs.declared.problem.Problem.{Problem}

@@ -4,3 +4,4 @@ pub mod Results
 pub mod Growing
 pub mod Walked
 pub mod Problems
+pub mod signatures

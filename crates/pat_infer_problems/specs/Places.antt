@@ -6,8 +6,8 @@ use Rattle.pat_core.specs.declared.program.Sort.TheVariants as sort
 use Rattle.pat_core.specs.declared.program.Function.{Function}
 use Rattle.pat_core.specs.declared.program.Node.{Node}
 use Rattle.pat_core.specs.declared.program.Program.{Program}
-use Rattle.pat_open_types.specs.Signatures.{Origin, OfParameter, OfResult, OfNeed}
-use Rattle.pat_inference.specs.Constraints.{Place, AtNode, AtName}
+use Rattle.pat_type_schemes_spec.specs.Signatures.{Origin, OfParameter, OfResult, OfNeed}
+use Rattle.pat_infer_spec.specs.Constraints.{Place, AtNode, AtName}
 
 -- the beginning of the text, for what isn't there
 abbrev pub nowhere : Span

@@ -2,14 +2,14 @@
 use Rattle.std.specs.Prelude.{◌≡◌, ℕ, nat_eq, [], length, map, Some, slice_get}
 use Rattle.std.specs.Map.{lookup}
 use Rattle.std.specs.List.{AllByRecursion}
-use Rattle.pat_words.specs.Patterns.{Pat}
-use Rattle.pat_model.specs.Programs as core
-use Rattle.pat_model.specs.Programs.{node_at}
-use Rattle.pat_inference.specs.Typings.{IsTyping}
-use Rattle.pat_open_types.specs.Signatures.{signature_vars}
-use Rattle.pat_inference.specs.Walk.{inferred, all_vars}
-use Rattle.pat_inference.specs.Shapes.{ConstraintFits, NodeTypeFits}
-use Rattle.pat_inference.specs.Solutions.{IsPatternSolution, SendersHaveWords, typing_found}
+use Rattle.pat_words_spec.specs.Patterns.{Pat}
+use Rattle.pat_semantics_spec.specs.Programs as core
+use Rattle.pat_semantics_spec.specs.Programs.{node_at}
+use Rattle.pat_infer_spec.specs.Typings.{IsTyping}
+use Rattle.pat_type_schemes_spec.specs.Signatures.{signature_vars}
+use Rattle.pat_infer_spec.specs.Walk.{inferred, all_vars}
+use Rattle.pat_infer_spec.specs.Shapes.{ConstraintFits, NodeTypeFits}
+use Rattle.pat_infer_spec.specs.Solutions.{IsPatternSolution, SendersHaveWords, typing_found}
 use Rattle.pat_core.specs.declared.program.Program.{Program}
 use Rattle.pat_core.specs.Views.{program_view}
 use Rattle.pat_types.specs.Views.{node_type_view}

@@ -1,7 +1,7 @@
 -- A result against the list of all rules that are broken.
 use Rattle.std.specs.Prelude.{◌≡◌, List, [], ◌∷◌, Option, Some, None, Result, Ok, Err, option_map}
 use Rattle.pat_core.specs.declared.program.Program.{Program}
-use Rattle.pat_inference.specs.Constraints.{Finding}
+use Rattle.pat_infer_spec.specs.Constraints.{Finding}
 use Rattle.pat_infer_problems.specs.Views.{rule_view, PlacedFinding, placed_finding}
 use Rattle.pat_infer_problems.specs.declared.error.InferError.{InferError}
 use Rattle.pat_infer_problems.specs.declared.error.InferError.TheVariants.{Untypable, NoMemory}

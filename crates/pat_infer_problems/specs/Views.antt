@@ -1,14 +1,14 @@
 -- What the definitions see of problems and refusals, with places in the text.
 use Rattle.std.specs.Prelude.{ℕ, List, map}
-use Rattle.pat_words.specs.Patterns.{Pat}
-use Rattle.pat_model.specs.Programs.{Polarity}
+use Rattle.pat_words_spec.specs.Patterns.{Pat}
+use Rattle.pat_semantics_spec.specs.Programs.{Polarity}
 use Rattle.pat_syntax.specs.declared.span.Span.{Span}
 use Rattle.pat_core.specs.declared.program.Program.{Program}
 use Rattle.pat_primitives.specs.Views.{polarity_view}
 use Rattle.pat_patterns.specs.Views.{pattern_view}
-use Rattle.pat_open_types.specs.Signatures.{Variable}
+use Rattle.pat_type_schemes_spec.specs.Signatures.{Variable}
 use Rattle.pat_types.specs.Views.{RightForm, right_form, right_view}
-use Rattle.pat_inference.specs.Constraints as found
+use Rattle.pat_infer_spec.specs.Constraints as found
 use Rattle.pat_infer_problems.specs.Places.{place_of, origin_place}
 use Rattle.pat_infer_problems.specs.declared.error.Rule.{Rule}
 use Rattle.pat_infer_problems.specs.declared.error.Rule.TheVariants as rule

@@ -1,6 +1,6 @@
 -- What a walk does to a problem, against what the definition finds.
 use Rattle.std.specs.Prelude.{◌≡◌, ℕ, List, map, None, Result, Ok, Err}
-use Rattle.pat_inference.specs.Constraints.{Found}
+use Rattle.pat_infer_spec.specs.Constraints.{Found}
 use Rattle.pat_core.specs.declared.program.Program.{Program}
 use Rattle.pat_types.specs.Views.{needs_view}
 use Rattle.pat_types.specs.declared.types.MailboxType.{MailboxType}

@@ -1,6 +1,6 @@
 // Where the parts of a program stand in its text, and rules that are looked at there.
 ghost use Rattle.std.specs.Prelude.{◌≡◌};
-ghost use Rattle.pat_inference.specs.Constraints.{AtNode, AtName, unless};
+ghost use Rattle.pat_infer_spec.specs.Constraints.{AtNode, AtName, unless};
 ghost use Rattle.pat_infer_problems.specs.Places.{place_of};
 ghost use Rattle.pat_infer_problems.specs.Views.{rule_view};
 ghost use Rattle.pat_infer_problems.specs.Results.{Meets};

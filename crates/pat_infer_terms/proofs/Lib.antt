@@ -1,1 +1,3 @@
 pub mod Payloads
+mod Outer
+mod Order

@@ -1,18 +1,18 @@
 -- Arguments at places of the same types; payloads by their list.
 use Rattle.std.proofs.Common.{◌≡◌, ℕ, zero, suc, List, [], ◌∷◌, map, ◌||◌, Option, Some, None, refl, sym, ap, ◌∙◌}
 use Rattle.std.specs.Prelude.{slice_get, option_and_then, is_some}
-use Rattle.pat_model.specs.Values.{Expr, VarExpr, Literal, OpExpr}
-use Rattle.pat_model.specs.Programs.{Sort, TagDecl}
-use Rattle.pat_model.specs.Faults.{payloads_of}
-use Rattle.pat_typing.specs.Types.{MailboxType, TypeEnv}
-use Rattle.pat_typing.specs.Typings.{payload_sort, if_mailbox, mailbox_args}
-use Rattle.pat_typing.specs.Holdings.{declared_types}
-use Rattle.pat_open_types.specs.NodeTypes.{Needs, need_of}
-use Rattle.pat_inference.specs.Needs.{put_option, args_needs}
-use Rattle.pat_inference.specs.Binders.{name_before, names_bound}
-use Rattle.pat_inference.specs.Walk.{has_twice}
-use Rattle.pat_infer_needs.specs.Types.{types_at}
-use Rattle.pat_infer_needs.proofs.Listed.{among_args}
+use Rattle.pat_semantics_spec.specs.Values.{Expr, VarExpr, Literal, OpExpr}
+use Rattle.pat_semantics_spec.specs.Programs.{Sort, TagDecl}
+use Rattle.pat_semantics_spec.specs.Faults.{payloads_of}
+use Rattle.pat_type_system_spec.specs.Types.{MailboxType, TypeEnv}
+use Rattle.pat_type_system_spec.specs.Typings.{payload_sort, if_mailbox, mailbox_args}
+use Rattle.pat_type_system_spec.specs.Holdings.{declared_types}
+use Rattle.pat_type_schemes_spec.specs.NodeTypes.{Needs, need_of}
+use Rattle.pat_infer_spec.specs.Needs.{put_option, args_needs}
+use Rattle.pat_infer_spec.specs.Binders.{name_before, names_bound}
+use Rattle.pat_infer_spec.specs.Walk.{has_twice}
+use Rattle.pat_infer_environments.specs.Types.{types_at}
+use Rattle.pat_infer_environments.proofs.Listed.{among_args}
 
 listed : (ss : List Sort) (k : ℕ) → types_at (map payload_sort ss) k ≡ option_and_then payload_sort (slice_get ss k)
 listed [] zero = refl

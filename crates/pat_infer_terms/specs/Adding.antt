@@ -1,6 +1,6 @@
 -- A problem that grows by the constraints of a term, unless a rule is broken.
 use Rattle.std.specs.Prelude.{◌≡◌, List, [], map, None, Result, Ok, Err}
-use Rattle.pat_inference.specs.Constraints.{Finding, Constraint}
+use Rattle.pat_infer_spec.specs.Constraints.{Finding, Constraint}
 use Rattle.pat_core.specs.declared.program.Program.{Program}
 use Rattle.pat_infer_problems.specs.Views.{placed_constraint}
 use Rattle.pat_infer_problems.specs.Results.{first_of, Refuses}

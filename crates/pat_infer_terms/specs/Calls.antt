@@ -1,15 +1,15 @@
 -- A call of a function whose signature is at hand.
 use Rattle.std.specs.Prelude.{ℕ, not, List, [], ◌++◌}
-use Rattle.pat_words.specs.Patterns.{Pat}
-use Rattle.pat_model.specs.Values.{Expr}
-use Rattle.pat_model.specs.Programs.{Polarity, Sending, Receiving}
-use Rattle.pat_typing.specs.Types.{TypeOf}
-use Rattle.pat_typing.specs.Typings.{mailbox_args}
-use Rattle.pat_inference.specs.Constraints.{AtNode, AliasRule, PolarityRule, unless, Constraint, constraint, Found}
-use Rattle.pat_inference.specs.Needs.{args_needs}
-use Rattle.pat_inference.specs.Walk.{has_twice, result_agrees, result_constraints}
-use Rattle.pat_infer_signatures.specs.Opened.{Signature}
-use Rattle.pat_infer_needs.specs.Types.{types_at}
+use Rattle.pat_words_spec.specs.Patterns.{Pat}
+use Rattle.pat_semantics_spec.specs.Values.{Expr}
+use Rattle.pat_semantics_spec.specs.Programs.{Polarity, Sending, Receiving}
+use Rattle.pat_type_system_spec.specs.Types.{TypeOf}
+use Rattle.pat_type_system_spec.specs.Typings.{mailbox_args}
+use Rattle.pat_infer_spec.specs.Constraints.{AtNode, AliasRule, PolarityRule, unless, Constraint, constraint, Found}
+use Rattle.pat_infer_spec.specs.Needs.{args_needs}
+use Rattle.pat_infer_spec.specs.Walk.{has_twice, result_agrees, result_constraints}
+use Rattle.pat_infer_problems.specs.signatures.Opened.{Signature}
+use Rattle.pat_infer_environments.specs.Types.{types_at}
 
 abbrev pub signed_call : ℕ → TypeOf → Signature → List Expr → Found
 signed_call n asked s args = record {

@@ -1,7 +1,7 @@
 -- What the definitions see of names that are bound.
 use Rattle.std.specs.Prelude.{ℕ, List, [], ◌∷◌, Option, Some, None, option_map}
-use Rattle.pat_inference.specs.Constraints.{Rule, Finding, AtName}
-use Rattle.pat_inference.specs.Binders as binders
+use Rattle.pat_infer_spec.specs.Constraints.{Rule, Finding, AtName}
+use Rattle.pat_infer_spec.specs.Binders as binders
 use Rattle.pat_types.specs.Views.{type_view}
 use Rattle.pat_infer_terms.specs.declared.names.Binder.{Binder}
 

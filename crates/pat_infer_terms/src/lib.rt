@@ -1,11 +1,10 @@
-//! Names that are bound with a type, and terms without parts: what they need, which rules they break, and their constraints.
+//! Needs, rules and constraints of terms, choices and guards.
 #![tactic(auto)]
 
+mod branches;
 mod names;
 mod terms;
 
-pub use names::{Binder, bind, bind_all, bind_at, check_names, constrain_names};
-pub use pat_infer_needs::{
-    column_of, do_agree, find, first_places, gather_branches, is_named, put, without,
-};
-pub use terms::{call_needs, constrain_new, send_needs, tag_of, types_of_tag, value_needs};
+pub use branches::{Guarded, WalkedArm, check_arms, gather_arms, guard_needs};
+pub use names::{Binder, bind_at, check_names, constrain_names};
+pub use terms::{call_needs, constrain_new, send_needs, value_needs};

@@ -1,20 +1,20 @@
 // Names that are bound with a type: parameters, and the names of clauses. Rules and constraints.
 ghost use Rattle.std.specs.Prelude.{◌≡◌, ◌++◌, [], map, option_map, Some, IfOk, OnOk};
-ghost use Rattle.pat_typing.specs.Types.{mailbox_type};
-ghost use Rattle.pat_open_types.specs.Compared.{polarity_eq, usage_fits};
-ghost use Rattle.pat_open_types.specs.NodeTypes.{need_of};
-ghost use Rattle.pat_inference.specs.Constraints.{AtName, each_unless, UnusedRule, PolarityRule, SecondRule};
-ghost use Rattle.pat_inference.specs.Binders.{used_as, polarity_as, usage_as, binder_findings, binder_constraints, name_constraints, names_bound, name_before};
+ghost use Rattle.pat_type_system_spec.specs.Types.{mailbox_type};
+ghost use Rattle.pat_type_schemes_spec.specs.Compared.{polarity_eq, usage_fits};
+ghost use Rattle.pat_type_schemes_spec.specs.NodeTypes.{need_of};
+ghost use Rattle.pat_infer_spec.specs.Constraints.{AtName, each_unless, UnusedRule, PolarityRule, SecondRule};
+ghost use Rattle.pat_infer_spec.specs.Binders.{used_as, polarity_as, usage_as, binder_findings, binder_constraints, name_constraints, names_bound, name_before};
 ghost use Rattle.pat_primitives.specs.Views.{polarity_view};
 ghost use Rattle.pat_types.specs.Views.{usage_view, type_view, needs_view};
 ghost use Rattle.pat_infer_problems.specs.Views.{placed_constraint, rule_view};
 ghost use Rattle.pat_infer_problems.specs.Results.{Meets, first_of};
 ghost use Rattle.pat_infer_problems.specs.Growing.{Grows};
-ghost use Rattle.pat_infer_needs.specs.Types.{types_at};
+ghost use Rattle.pat_infer_environments.specs.Types.{types_at};
 ghost use Rattle.pat_infer_terms.specs.Views.{binder_view, broken_name};
 
 use pat_core::Program;
-use pat_infer_needs::{find, is_receiver, is_second, type_at};
+use pat_infer_environments::{find, is_receiver, is_second, type_at};
 use pat_infer_problems::{InferError, Problem, Rule, add_constraint, check_name, name_span};
 use pat_patterns::Pattern;
 use pat_primitives::Polarity;

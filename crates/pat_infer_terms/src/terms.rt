@@ -1,16 +1,16 @@
 // Terms without parts: what they need, and their constraints.
 ghost use Rattle.std.specs.Prelude.{◌≡◌, ◌∷◌, ◌||◌, [], map, option_map, is_some, IfOk, OnOk};
-ghost use Rattle.pat_open_types.specs.NodeTypes.{need_of};
-ghost use Rattle.pat_model.specs.Faults.{payloads_of};
-ghost use Rattle.pat_model.specs.Programs.{tag_at};
-ghost use Rattle.pat_typing.specs.Typings.{payload_sort, mailbox_args};
-ghost use Rattle.pat_typing.specs.Holdings.{declared_types};
-ghost use Rattle.pat_inference.specs.Constraints.{AtNode, PolarityRule, unless};
-ghost use Rattle.pat_inference.specs.Needs.{args_needs as args_needs_of};
-ghost use Rattle.pat_inference.specs.Walk.{value_needs as needs_of_value, new_found, result_agrees, result_constraints, send_found, has_twice};
+ghost use Rattle.pat_type_schemes_spec.specs.NodeTypes.{need_of};
+ghost use Rattle.pat_semantics_spec.specs.Faults.{payloads_of};
+ghost use Rattle.pat_semantics_spec.specs.Programs.{tag_at};
+ghost use Rattle.pat_type_system_spec.specs.Typings.{payload_sort, mailbox_args};
+ghost use Rattle.pat_type_system_spec.specs.Holdings.{declared_types};
+ghost use Rattle.pat_infer_spec.specs.Constraints.{AtNode, PolarityRule, unless};
+ghost use Rattle.pat_infer_spec.specs.Needs.{args_needs as args_needs_of};
+ghost use Rattle.pat_infer_spec.specs.Walk.{value_needs as needs_of_value, new_found, result_agrees, result_constraints, send_found, has_twice};
 ghost use Rattle.pat_core.specs.Views.{expr_view, tag_view, program_view};
 ghost use Rattle.pat_types.specs.Views.{type_view, needs_view, result_view};
-ghost use Rattle.pat_infer_signatures.specs.Views.{signature_view};
+ghost use Rattle.pat_infer_problems.specs.signatures.Views.{signature_view};
 ghost use Rattle.pat_primitives.specs.Views.{polarity_view};
 ghost use Rattle.pat_patterns.specs.Views.{pattern_view};
 ghost use Rattle.pat_infer_problems.specs.Views.{placed_constraint};
@@ -21,9 +21,10 @@ ghost use Rattle.pat_infer_terms.specs.Calls.{signed_call, directed};
 
 use crate::names::same_polarity;
 use pat_core::{Expr, Program, TagDecl};
-use pat_infer_needs::{Arguments, args_needs, find, put};
-use pat_infer_problems::{InferError, Problem, Rule, add_constraint, check_node, node_span};
-use pat_infer_signatures::Signature;
+use pat_infer_environments::{Arguments, args_needs, find, put};
+use pat_infer_problems::{
+    InferError, Problem, Rule, Signature, add_constraint, check_node, node_span,
+};
 use pat_patterns::Pattern;
 use pat_primitives::Polarity;
 use pat_sequences::Sequence;

@@ -4,7 +4,7 @@ use Rattle.std.specs.declared.result.Result.TheVariants.{Ok, Err}
 use Rattle.std.specs.declared.option.Option.{Option}
 use Rattle.std.specs.Io.KnownBytes.{Consumes, IsAtEnd}
 use Rattle.pat_ports.specs.Causes.{Raised}
-use Rattle.pat_lexical.specs.Divisions.{Divides}
+use Rattle.pat_lexer_spec.specs.Divisions.{Divides}
 use Rattle.pat_syntax.specs.Views.{token_view}
 use Rattle.pat_lexer.specs.Lexed.{Lexed, HasRead}
 use Rattle.pat_lexer.specs.Explains.{Explains}

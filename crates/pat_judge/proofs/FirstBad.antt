@@ -2,15 +2,15 @@
 use Rattle.std.proofs.Common.{◌≡◌, ℕ, zero, suc, ◌+◌, ◌-◌, ◌<◌, ◌≤◌, Bool, true, false, ◌&&◌, ◌||◌, max, List, [], ◌∷◌, length, Option, Some, None, get_or, refl, sym, ap, ap₂, ◌∙◌, subst, arith}
 use Rattle.std.specs.Prelude.{slice_get, not, nat_eq}
 use Rattle.std.proofs.lemmas.Option.{slice_get_within, slice_get-get_or}
-use Rattle.pat_model.specs.Programs.{Function, Node, Program, node_at, function_at}
-use Rattle.pat_model.specs.WellFormed.{WellFormed}
+use Rattle.pat_semantics_spec.specs.Programs.{Function, Node, Program, node_at, function_at}
+use Rattle.pat_semantics_spec.specs.WellFormed.{WellFormed}
 use Rattle.std.specs.List.{list_all}
-use Rattle.pat_typing.specs.Types.{kind_of_type}
-use Rattle.pat_validity.specs.Same.{is_same_kind}
-use Rattle.pat_validity.specs.Derivations.{Line, Derivation, line_at, ascends_from, scope_of}
-use Rattle.pat_validity.specs.Conditions.{Place}
-use Rattle.pat_validity.specs.Rules.{is_named_well, type_is_formed, tails_agree, first_agrees, has_values, has_shape}
-use Rattle.pat_validity.specs.Validity.{Rule, ShapeRule, broken_in, broken_for, broken_rule, broken_at, found_at, first_from, first_bad}
+use Rattle.pat_type_system_spec.specs.Types.{kind_of_type}
+use Rattle.pat_derivation_spec.specs.Same.{is_same_kind}
+use Rattle.pat_derivation_spec.specs.Derivations.{Line, Derivation, line_at, ascends_from, scope_of}
+use Rattle.pat_derivation_spec.specs.Conditions.{Place}
+use Rattle.pat_derivation_spec.specs.Rules.{is_named_well, type_is_formed, tails_agree, first_agrees, has_values, has_shape}
+use Rattle.pat_derivation_spec.specs.Validity.{Rule, ShapeRule, broken_in, broken_for, broken_rule, broken_at, found_at, first_from, first_bad}
 use Rattle.std.specs.Prelude.{Result, Ok, Err, IfOk, IfNone, option_map}
 use Rattle.std.proofs.lemmas.List.{length-map}
 use Rattle.pat_core.specs.declared.program.Program.{Program as CodeProgram}

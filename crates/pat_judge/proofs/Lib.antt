@@ -1,3 +1,5 @@
 mod Gets
 mod Breaking
 mod FirstBad
+mod Counted
+mod Shaped

@@ -1,18 +1,18 @@
 -- Rules and rejections as the definitions see them, and what is made once for all nodes.
 use Rattle.std.specs.Prelude.{◌≡◌, ℕ, map, Option, None}
-use Rattle.pat_model.specs.Programs.{Program}
-use Rattle.pat_validity.specs.Derivations.{Derivation, scope_of}
-use Rattle.pat_validity.specs.Conditions.{Place}
-use Rattle.pat_validity.specs.Rules.{uses_well, drops_well, payloads_stand_apart, guard_covers, certs_show}
-use Rattle.pat_validity.specs.Validity.{Rule, ShapeRule, EmptyRule, AliasRule, UseRule, DropRule, PayloadRule, CoversRule, CertRule, broken_or}
+use Rattle.pat_semantics_spec.specs.Programs.{Program}
+use Rattle.pat_derivation_spec.specs.Derivations.{Derivation, scope_of}
+use Rattle.pat_derivation_spec.specs.Conditions.{Place}
+use Rattle.pat_derivation_spec.specs.Rules.{uses_well, drops_well, payloads_stand_apart, guard_covers, certs_show}
+use Rattle.pat_derivation_spec.specs.Validity.{Rule, ShapeRule, EmptyRule, AliasRule, UseRule, DropRule, PayloadRule, CoversRule, CertRule, broken_or}
 use Rattle.pat_patterns.specs.Views.{patterns_view}
-use Rattle.pat_judge_uses.specs.Views.{signature_view}
-use Rattle.pat_judge_uses.specs.Opened.{opened_from}
-use Rattle.pat_judge_scopes.specs.Upwards.{AreAbove}
-use Rattle.pat_judge_shape.specs.Tested.{IsTested}
-use Rattle.pat_judge_certs.specs.Plain.{all_plain}
-use Rattle.pat_rules.specs.declared.Rule.{Rule as CodeRule}
-use Rattle.pat_rules.specs.declared.Rule.TheVariants as rule
+use Rattle.pat_judge_nodes.specs.uses.Views.{signature_view}
+use Rattle.pat_judge_nodes.specs.uses.Opened.{opened_from}
+use Rattle.pat_judge_nodes.specs.scopes.Upwards.{AreAbove}
+use Rattle.pat_judge.specs.shape.Tested.{IsTested}
+use Rattle.pat_certificate_checks.specs.Plain.{all_plain}
+use Rattle.pat_derivation_rules.specs.declared.Rule.{Rule as CodeRule}
+use Rattle.pat_derivation_rules.specs.declared.Rule.TheVariants as rule
 use Rattle.pat_judge.specs.declared.judging.Rejection.{Rejection}
 use Rattle.pat_judge.specs.declared.tables.Tables.{Tables}
 

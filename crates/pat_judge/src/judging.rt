@@ -1,20 +1,20 @@
 // The judge.
 ghost use Rattle.std.specs.Prelude.{◌≡◌, option_map, IsTrue, IfOk, IfNone};
-ghost use Rattle.pat_model.specs.WellFormed.{WellFormed};
-ghost use Rattle.pat_typing.specs.Typings.{IsTypable};
-ghost use Rattle.pat_validity.specs.Rules.{has_values as has_values_of};
-ghost use Rattle.pat_validity.specs.Validity.{first_bad, IsValid};
+ghost use Rattle.pat_semantics_spec.specs.WellFormed.{WellFormed};
+ghost use Rattle.pat_type_system_spec.specs.Typings.{IsTypable};
+ghost use Rattle.pat_derivation_spec.specs.Rules.{has_values as has_values_of};
+ghost use Rattle.pat_derivation_spec.specs.Validity.{first_bad, IsValid};
 ghost use Rattle.pat_core.specs.Views.{program_view};
 ghost use Rattle.pat_derivations.specs.Views.{derivation_view};
 ghost use Rattle.pat_judge.specs.Views.{rejection_view};
 
 use crate::nodes::broken_rule;
+use crate::shape::has_values;
 use crate::tables::tables_of;
 use pat_core::Program;
+use pat_derivation_laws::{first_bad_laws, validity_laws};
+use pat_derivation_rules::Rule;
 use pat_derivations::Derivation;
-use pat_judge_shape::has_values;
-use pat_rules::Rule;
-use pat_validity_laws::{first_bad_laws, validity_laws};
 use std::alloc::{AllocError, Global};
 
 /// Why a derivation isn't valid: the first bad number, and the first rule that is broken there.

@@ -1,9 +1,9 @@
-//! The judge: whether a derivation of a program is valid, and otherwise the first bad number with its first broken rule. It trusts
-//! nobody: each rule is a test of its own, also of lines that are missing or forged.
+//! The judge: all rules at all numbers, in order.
 #![tactic(auto)]
 
 mod judging;
 mod nodes;
+mod shape;
 mod tables;
 
 pub use judging::{Rejection, judge};

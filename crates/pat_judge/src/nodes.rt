@@ -1,26 +1,26 @@
 // The first broken rule of a node.
 ghost use Rattle.std.specs.Prelude.{◌≡◌, Some, option_map, option_copied, IsTrue, IfOk};
-ghost use Rattle.pat_model.specs.Programs.{node_at, function_at};
-ghost use Rattle.pat_model.specs.WellFormed.{WellFormed};
-ghost use Rattle.pat_validity.specs.Derivations.{line_at};
-ghost use Rattle.pat_validity.specs.Truth.{place};
-ghost use Rattle.pat_validity.specs.Conditions.{demands as demands_at};
-ghost use Rattle.pat_validity.specs.Rules.{has_values};
-ghost use Rattle.pat_validity.specs.Validity.{broken_at, broken_in, broken_rule as broken_rule_of};
+ghost use Rattle.pat_semantics_spec.specs.Programs.{node_at, function_at};
+ghost use Rattle.pat_semantics_spec.specs.WellFormed.{WellFormed};
+ghost use Rattle.pat_derivation_spec.specs.Derivations.{line_at};
+ghost use Rattle.pat_derivation_spec.specs.Truth.{place};
+ghost use Rattle.pat_derivation_spec.specs.Conditions.{demands as demands_at};
+ghost use Rattle.pat_derivation_spec.specs.Rules.{has_values};
+ghost use Rattle.pat_derivation_spec.specs.Validity.{broken_at, broken_in, broken_rule as broken_rule_of};
 ghost use Rattle.pat_core.specs.Views.{node_view, function_view, program_view};
 ghost use Rattle.pat_derivations.specs.Views.{line_view, derivation_view};
-ghost use Rattle.pat_judge_uses.specs.Views.{demands_view};
+ghost use Rattle.pat_judge_nodes.specs.uses.Views.{demands_view};
 ghost use Rattle.pat_judge.specs.Views.{rule_view, AreTables, after_alias};
 
+use crate::shape::{guard_covers, has_shape, has_words};
 use crate::tables::Tables;
+use pat_certificate_checks::are_shown;
 use pat_core::{Function, Node, Program};
+use pat_derivation_rules::Rule;
 use pat_derivations::{Derivation, DerivedNode};
-use pat_judge_certs::are_shown;
-use pat_judge_drops::drops_well;
-use pat_judge_scopes::names_in_scope;
-use pat_judge_shape::{guard_covers, has_shape, has_words};
-use pat_judge_uses::{Demand, demands, has_no_alias, payloads_stand_apart, uses_well};
-use pat_rules::Rule;
+use pat_judge_nodes::{
+    Demand, demands, drops_well, has_no_alias, names_in_scope, payloads_stand_apart, uses_well,
+};
 use std::alloc::{AllocError, Global};
 
 /// The first broken rule of those behind Alias, where the node has these demands.

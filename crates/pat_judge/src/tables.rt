@@ -1,17 +1,16 @@
 // What is made once for all nodes.
 ghost use Rattle.std.specs.Prelude.{◌≡◌, IsTrue, IfOk};
-ghost use Rattle.pat_inclusions.specs.Values.{values_fit};
-ghost use Rattle.pat_validity.specs.Derivations.{scope_of};
+ghost use Rattle.pat_inclusion_spec.specs.Values.{values_fit};
+ghost use Rattle.pat_derivation_spec.specs.Derivations.{scope_of};
 ghost use Rattle.pat_core.specs.Views.{program_view};
 ghost use Rattle.pat_derivations.specs.Views.{derivation_view};
 ghost use Rattle.pat_judge.specs.Views.{AreTables};
 
+use pat_certificate_checks::plain_values;
+use pat_certificate_values::{Tests, tests_of};
 use pat_core::Program;
 use pat_derivations::Derivation;
-use pat_judge_certs::plain_values;
-use pat_judge_scopes::nodes_above;
-use pat_judge_shape::{Tests, tests_of};
-use pat_judge_uses::{Signature, signatures};
+use pat_judge_nodes::{Signature, nodes_above, signatures};
 use pat_patterns::Pattern;
 use pat_sequences::Sequence;
 use std::alloc::{AllocError, Global};

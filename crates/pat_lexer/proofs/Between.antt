@@ -2,22 +2,22 @@
 use Rattle.std.proofs.Common.{◌≡◌, ◌≢◌, ◌+◌, ◌<◌, inl, ℕ, false, List, [], ◌∷◌, ◌++◌, length, refl, ap, sym, subst, ◌∙◌, arith}
 use Rattle.std.proofs.lemmas.Str.{char_from_byte}
 use Rattle.unicode_ident.proofs.IdentLemmas.{is_xid_continue-ascii}
-use Rattle.pat_lexical.specs.Marks.{Mark as MarkKind, mark_bytes}
-use Rattle.pat_lexical.specs.Tokens.{Token, Spanned, Mark}
-use Rattle.pat_lexical.specs.Lexemes.{Whole, Begins, NothingFits, NoLonger}
-use Rattle.pat_lexical.specs.Divisions.{Reaches, IsRefused, BadToken}
-use Rattle.pat_lexical.specs.Characters.{is_blank, Each, IsNameText, continues_name}
-use Rattle.pat_lexical_laws.proofs.Texts.{encode_some}
-use Rattle.pat_lexical_laws.proofs.Reaching.{over_more}
-use Rattle.pat_lexical_laws.proofs.Beginnings.{blank_begins}
-use Rattle.pat_lexical_laws.proofs.MarkBeginnings.{mark_begins}
-use Rattle.pat_lexical_laws.proofs.NameBeginnings.{name_begins, word_begins, NoMoreName}
+use Rattle.pat_lexer_spec.specs.Marks.{Mark as MarkKind, mark_bytes}
+use Rattle.pat_lexer_spec.specs.Tokens.{Token, Spanned, Mark}
+use Rattle.pat_lexer_spec.specs.Lexemes.{Whole, Begins, NothingFits, NoLonger}
+use Rattle.pat_lexer_spec.specs.Divisions.{Reaches, IsRefused, BadToken}
+use Rattle.pat_lexer_spec.specs.Characters.{is_blank, Each, IsNameText, continues_name}
+use Rattle.pat_lexer_laws.proofs.Texts.{encode_some}
+use Rattle.pat_lexer_laws.proofs.Reaching.{over_more}
+use Rattle.pat_lexer_laws.proofs.Beginnings.{blank_begins}
+use Rattle.pat_lexer_laws.proofs.MarkBeginnings.{mark_begins}
+use Rattle.pat_lexer_laws.proofs.NameBeginnings.{name_begins, word_begins, NoMoreName}
 use Rattle.pat_lexer.specs.declared.unfinished.Unfinished.{Unfinished}
 use Rattle.pat_lexer.specs.declared.unfinished.Unfinished.TheVariants.{Nothing}
-use Rattle.pat_lexer_fronts.specs.Bytes.{is_name_byte}
+use Rattle.pat_lexer.specs.fronts.Bytes.{is_name_byte}
 use Rattle.pat_lexer.specs.Progress.{Progress, HasKind, Stands}
 use Rattle.pat_lexer.specs.Changes.{with_token, with_piece}
-use Rattle.pat_lexer_fronts.specs.Spelled.{IsNameToken, name, word}
+use Rattle.pat_lexer.specs.fronts.Spelled.{IsNameToken, name, word}
 use Rattle.pat_lexer.proofs.Standing.{free_of, stands_free, stands_of, with_token_stands}
 
 -- a place is refused where nothing fits

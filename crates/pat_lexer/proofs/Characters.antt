@@ -7,24 +7,24 @@ use Rattle.std.specs.Char.{encode_utf8, IsScalar}
 use lib.Utf8.{low_scalar}
 use Rattle.unicode_ident.specs.Ident.{is_xid_start}
 use Rattle.unicode_ident.proofs.IdentLemmas.{is_xid_start-is_xid_continue, is_xid_continue-ascii}
-use Rattle.pat_lexical.specs.Characters.{starts_name, continues_name, is_plain, is_in_line, Each, IsUnfinished, IsNameText}
-use Rattle.pat_lexical.specs.Lexemes.{NothingFits}
-use Rattle.pat_lexical.specs.Divisions.{Reaches}
-use Rattle.pat_lexical_laws.proofs.Runs.{both, Each-append}
-use Rattle.pat_lexical_laws.proofs.Texts.{encode_some}
-use Rattle.pat_lexical_laws.proofs.Reaching.{token_more}
-use Rattle.pat_lexical_laws.proofs.Strings.{quotes_append, quotes_plain}
-use Rattle.pat_lexical_laws.proofs.NameBeginnings.{NoMoreName, name_more, name_of_one}
-use Rattle.pat_lexical_laws.proofs.Faults.{no_name, no_string, no_end_character, no_comment_text, NoEnd}
+use Rattle.pat_lexer_spec.specs.Characters.{starts_name, continues_name, is_plain, is_in_line, Each, IsUnfinished, IsNameText}
+use Rattle.pat_lexer_spec.specs.Lexemes.{NothingFits}
+use Rattle.pat_lexer_spec.specs.Divisions.{Reaches}
+use Rattle.pat_lexer_laws.proofs.Runs.{both, Each-append}
+use Rattle.pat_lexer_laws.proofs.Texts.{encode_some}
+use Rattle.pat_lexer_laws.proofs.Reaching.{token_more}
+use Rattle.pat_lexer_laws.proofs.Strings.{quotes_append, quotes_plain}
+use Rattle.pat_lexer_laws.proofs.NameBeginnings.{NoMoreName, name_more, name_of_one}
+use Rattle.pat_lexer_laws.proofs.Faults.{no_name, no_string, no_end_character, no_comment_text, NoEnd}
 use Rattle.pat_lexer.specs.declared.unfinished.Unfinished.{Unfinished}
 use Rattle.pat_lexer.specs.declared.unfinished.Unfinished.TheVariants.{Nothing, Name, Integer, Str, Escape, Equals, Minus, Slash, Comment}
-use Rattle.pat_lexer_fronts.specs.Fronts.{IsCut}
+use Rattle.pat_lexer.specs.fronts.Fronts.{IsCut}
 use Rattle.pat_lexer.specs.Progress.{Progress, HasKind, Stands}
 use Rattle.pat_lexer.specs.Explains.{Explains}
 use Rattle.pat_lexer.specs.Reads.{refusal_in, TakesCharacters, Judges}
 use Rattle.pat_lexer.proofs.Standing.{stands_of}
 use Rattle.pat_lexer.proofs.Between.{refused_at, name_token_begins}
-use Rattle.pat_lexer_fronts.proofs.WordOr.{name_or_word}
+use Rattle.pat_lexer.proofs.WordOr.{name_or_word}
 
 -- a text that begins with a byte that isn't ASCII
 pub record High (tail : List ℕ) : Type 0 where

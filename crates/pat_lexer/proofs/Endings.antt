@@ -2,13 +2,13 @@
 use Rattle.std.proofs.Common.{◌≡◌, ◌<◌, ◌==◌, ◌&&◌, not, nat_lt, ℕ, Bool, true, false, List, [], ◌∷◌, ◌++◌, length, get_or, ◌+◌, ◌∙◌, Result, Ok, Err, refl, ap, sym, arith}
 use Rattle.std.specs.Result.{IfOk, IfErr}
 use Rattle.std.proofs.lemmas.Bool.Decides.{nat_tests}
-use Rattle.pat_lexical.specs.Characters.{is_digit, is_in_line, FrontFails}
-use Rattle.pat_lexical.specs.Divisions.{IsRefused, BadToken}
-use Rattle.pat_lexical_laws.proofs.NameBeginnings.{NoMoreName}
-use Rattle.pat_lexical_laws.proofs.Faults.{no_end_nil}
+use Rattle.pat_lexer_spec.specs.Characters.{is_digit, is_in_line, FrontFails}
+use Rattle.pat_lexer_spec.specs.Divisions.{IsRefused, BadToken}
+use Rattle.pat_lexer_laws.proofs.NameBeginnings.{NoMoreName}
+use Rattle.pat_lexer_laws.proofs.Faults.{no_end_nil}
 use Rattle.pat_lexer.specs.declared.unfinished.Unfinished.{Unfinished}
 use Rattle.pat_lexer.specs.declared.unfinished.Unfinished.TheVariants.{Name, Integer, Str, Escape, Equals, Minus, Slash, Comment}
-use Rattle.pat_lexer_fronts.specs.Bytes.{is_name_byte}
+use Rattle.pat_lexer.specs.fronts.Bytes.{is_name_byte}
 use Rattle.pat_lexer.specs.Ends.{ends, EndsAt}
 use Rattle.pat_lexer.specs.declared.error.LexError.{LexError}
 use Rattle.pat_lexer.specs.declared.reader.Reader.{Reader}

@@ -1,16 +1,16 @@
 -- What a lexer holds of the bytes that it was fed.
 use Rattle.std.proofs.Common.{◌≡◌, ◌≢◌, ◌+◌, ◌⊎◌, inl, inr, ℕ, List, [], ◌∷◌, ◌++◌, length, None, refl, ap, sym, subst, ◌∙◌, arith, length-append, append_assoc, append-nil}
-use Rattle.pat_lexical.specs.Characters.{IsUnfinished}
-use Rattle.pat_lexical.specs.Tokens.{Spanned}
-use Rattle.pat_lexical.specs.Divisions.{Reaches, here, over, token}
+use Rattle.pat_lexer_spec.specs.Characters.{IsUnfinished}
+use Rattle.pat_lexer_spec.specs.Tokens.{Spanned}
+use Rattle.pat_lexer_spec.specs.Divisions.{Reaches, here, over, token}
 use Rattle.pat_lexer.specs.declared.unfinished.Unfinished.{Unfinished}
 use Rattle.pat_lexer.specs.declared.unfinished.Unfinished.TheVariants.{Nothing, Name, Integer, Str, Escape, Equals, Minus, Slash, Comment}
 use Rattle.pat_lexer.specs.Progress.{Progress, HasKind}
 use Rattle.pat_lexer.specs.Lexed.{Lexed, HasRead, Holds}
-use Rattle.pat_lexical.specs.Held.{IsHeld, piece, in_comment, NothingWhole, IsInComment}
-use Rattle.pat_lexical_laws.proofs.Classes.{Fronts, Names, Quoted, Marks, digits_front, name_front}
-use Rattle.pat_lexical_laws.proofs.Strings.{rest_of}
-use Rattle.pat_lexical_laws.proofs.Unique.{same_fronts}
+use Rattle.pat_lexer_spec.specs.Held.{IsHeld, piece, in_comment, NothingWhole, IsInComment}
+use Rattle.pat_lexer_laws.proofs.Classes.{Fronts, Names, Quoted, Marks, digits_front, name_front}
+use Rattle.pat_lexer_laws.proofs.Strings.{rest_of}
+use Rattle.pat_lexer_laws.proofs.Unique.{same_fronts}
 use Rattle.pat_lexer.proofs.Histories.{stands_at_end}
 use Rattle.pat_lexer.proofs.Unsure.{character_unsure, name_unsure, integer_unsure, string_unsure, escape_unsure, slash_unsure, equals_unsure, minus_unsure, outside, character_outside}
 

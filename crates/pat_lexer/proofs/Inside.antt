@@ -3,26 +3,26 @@ use Rattle.std.proofs.Common.{◌≡◌, ◌≢◌, ◌+◌, ◌<◌, ◌≤◌,
 use Rattle.std.proofs.lemmas.Bool.Decides.{nat_tests}
 use Rattle.std.proofs.lemmas.Str.{IsUtf8-append, IsUtf8-from_ascii}
 use Rattle.std.specs.Str.{IsUtf8}
-use Rattle.pat_lexical.specs.Marks.{Equals as EqualsMark, Minus as MinusMark, DoubleEquals, Arrow}
-use Rattle.pat_lexical.specs.Tokens.{Token, Spanned, Integer as IntegerToken, Str as StrToken, Mark}
-use Rattle.pat_lexical.specs.Lexemes.{Comment as CommentLexeme, Whole, Begins, greatest}
-use Rattle.pat_lexical.specs.Divisions.{Reaches, IsRefused, BadToken, NumberTooWide}
-use Rattle.pat_lexical.specs.Characters.{is_digit, is_plain, is_in_line, Each, FrontFails, number_after, Quotes, quote, backslash, nothing}
-use Rattle.pat_lexical_laws.proofs.Runs.{both, Each-append}
-use Rattle.pat_lexical_laws.proofs.Numbers.{number_parts}
-use Rattle.pat_lexical_laws.proofs.Reaching.{over_more}
-use Rattle.pat_lexical_laws.proofs.Strings.{quotes_append, quotes_plain}
-use Rattle.pat_lexical_laws.proofs.Beginnings.{integer_begins, string_begins, comment_begins}
-use Rattle.pat_lexical_laws.proofs.MarkBeginnings.{mark_begins}
-use Rattle.pat_lexical_laws.proofs.NameBeginnings.{NoMoreName, name_more_ascii}
-use Rattle.pat_lexical_laws.proofs.Faults.{no_string, no_end_escape, no_comment, wide_begins, NoEnd}
+use Rattle.pat_lexer_spec.specs.Marks.{Equals as EqualsMark, Minus as MinusMark, DoubleEquals, Arrow}
+use Rattle.pat_lexer_spec.specs.Tokens.{Token, Spanned, Integer as IntegerToken, Str as StrToken, Mark}
+use Rattle.pat_lexer_spec.specs.Lexemes.{Comment as CommentLexeme, Whole, Begins, greatest}
+use Rattle.pat_lexer_spec.specs.Divisions.{Reaches, IsRefused, BadToken, NumberTooWide}
+use Rattle.pat_lexer_spec.specs.Characters.{is_digit, is_plain, is_in_line, Each, FrontFails, number_after, Quotes, quote, backslash, nothing}
+use Rattle.pat_lexer_laws.proofs.Runs.{both, Each-append}
+use Rattle.pat_lexer_laws.proofs.Numbers.{number_parts}
+use Rattle.pat_lexer_laws.proofs.Reaching.{over_more}
+use Rattle.pat_lexer_laws.proofs.Strings.{quotes_append, quotes_plain}
+use Rattle.pat_lexer_laws.proofs.Beginnings.{integer_begins, string_begins, comment_begins}
+use Rattle.pat_lexer_laws.proofs.MarkBeginnings.{mark_begins}
+use Rattle.pat_lexer_laws.proofs.NameBeginnings.{NoMoreName, name_more_ascii}
+use Rattle.pat_lexer_laws.proofs.Faults.{no_string, no_end_escape, no_comment, wide_begins, NoEnd}
 use Rattle.pat_lexer.specs.declared.unfinished.Unfinished.{Unfinished}
 use Rattle.pat_lexer.specs.declared.unfinished.Unfinished.TheVariants.{Nothing, Name, Integer, Str, Escape, Equals, Minus, Slash, Comment}
-use Rattle.pat_lexer_fronts.specs.Bytes.{is_name_byte, is_plain_ascii}
+use Rattle.pat_lexer.specs.fronts.Bytes.{is_name_byte, is_plain_ascii}
 use Rattle.pat_lexer.specs.Progress.{Progress, HasKind, Stands}
 use Rattle.pat_lexer.specs.Changes.{with_token, with_held}
 use Rattle.pat_lexer.proofs.Standing.{Opened, opened_of, stands_of, stands_free, with_token_stands}
-use Rattle.pat_lexer_fronts.specs.Spelled.{IsNameToken}
+use Rattle.pat_lexer.specs.fronts.Spelled.{IsNameToken}
 use Rattle.pat_lexer.proofs.Between.{refused_at, name_token_begins}
 
 -- what is known of the unfinished piece, by its kind

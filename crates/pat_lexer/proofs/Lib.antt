@@ -7,3 +7,6 @@ mod Endings
 mod Histories
 mod Unsure
 mod Holding
+mod Cuts
+-- for the crates above
+mod WordOr

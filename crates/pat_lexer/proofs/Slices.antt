@@ -4,10 +4,10 @@ use Rattle.std.proofs.lemmas.List.{drop_more, take-append-drop, length-take-le}
 use Rattle.std.proofs.lemmas.Bool.Decides.{nat_tests}
 use Rattle.std.proofs.lemmas.Str.{IsUtf8-from_ascii}
 use Rattle.std.specs.Str.{IsUtf8}
-use Rattle.pat_lexical.specs.Characters.{Each, FrontFails, IsNameText}
-use Rattle.pat_lexical_laws.proofs.Runs.{both}
-use Rattle.pat_lexical_laws.proofs.NameBeginnings.{NoMoreName, ascii_name}
-use Rattle.pat_lexer_fronts.specs.Bytes.{is_name_byte, is_name_start, IsRunOf}
+use Rattle.pat_lexer_spec.specs.Characters.{Each, FrontFails, IsNameText}
+use Rattle.pat_lexer_laws.proofs.Runs.{both}
+use Rattle.pat_lexer_laws.proofs.NameBeginnings.{NoMoreName, ascii_name}
+use Rattle.pat_lexer.specs.fronts.Bytes.{is_name_byte, is_name_start, IsRunOf}
 use Rattle.pat_lexer.proofs.Between.{no_more_ascii}
 use Rattle.pat_lexer.specs.declared.error.LexError.{LexError}
 use Rattle.pat_lexer.specs.declared.error.LexError.TheVariants.{NoMemory}

@@ -1,9 +1,9 @@
 -- How a reader stands that has no unfinished character.
 use Rattle.std.proofs.Common.{◌≡◌, ◌+◌, inl, ℕ, List, [], ◌∷◌, ◌++◌, length, refl, ap, sym, subst, ◌∙◌, arith}
-use Rattle.pat_lexical.specs.Tokens.{Token}
-use Rattle.pat_lexical.specs.Lexemes.{Whole, Begins}
-use Rattle.pat_lexical.specs.Divisions.{Reaches}
-use Rattle.pat_lexical_laws.proofs.Reaching.{token_more}
+use Rattle.pat_lexer_spec.specs.Tokens.{Token}
+use Rattle.pat_lexer_spec.specs.Lexemes.{Whole, Begins}
+use Rattle.pat_lexer_spec.specs.Divisions.{Reaches}
+use Rattle.pat_lexer_laws.proofs.Reaching.{token_more}
 use Rattle.pat_lexer.specs.declared.unfinished.Unfinished.TheVariants.{Nothing}
 use Rattle.pat_lexer.specs.Progress.{Progress, HasKind, Stands}
 use Rattle.pat_lexer.specs.Changes.{with_token}

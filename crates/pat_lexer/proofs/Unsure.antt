@@ -2,21 +2,21 @@
 use Rattle.std.proofs.Common.{◌≡◌, ◌<◌, ◌≤◌, nat_le, ◌⊎◌, inl, inr, ℕ, pos, Bool, true, false, List, [], ◌∷◌, ◌++◌, length, refl, ap, sym, subst, ◌∙◌, arith, length-append, append_assoc, append-nil}
 use Rattle.std.proofs.lemmas.Bool.Decides.{nat_tests}
 use Rattle.std.specs.Str.{IsUtf8, StartsWithNoChar}
-use Rattle.pat_lexical.specs.Marks.{DoubleEquals, Arrow}
-use Rattle.pat_lexical.specs.Tokens.{Token, Integer, Mark}
-use Rattle.pat_lexical.specs.Characters.{is_digit, Each, number_after, IsNameText, Quotes, IsUnfinished}
-use Rattle.pat_lexical.specs.Lexemes.{Lexeme, Whole, TooWide, Fits, Begins, NothingFits, IsRun, greatest}
-use Rattle.pat_lexical.specs.Held.{IsNamed, NothingWhole, IsInComment}
-use Rattle.pat_lexical_laws.proofs.Runs.{Each-append, push_some}
-use Rattle.pat_lexical_laws.proofs.Classes.{Class, Slashes, Names, Fronts, class, lexeme_front, high_class}
-use Rattle.pat_lexical_laws.proofs.Unique.{one_front}
-use Rattle.pat_lexical_laws.proofs.Strings.{first_of}
-use Rattle.pat_lexical_laws.proofs.NameBeginnings.{name_more_ascii}
-use Rattle.pat_lexical_laws.proofs.Faults.{no_string, no_end_nil, no_end_escape, no_end_character, no_comment, NoEnd}
-use Rattle.pat_lexer_fronts.specs.Spelled.{IsNameToken, name, word}
+use Rattle.pat_lexer_spec.specs.Marks.{DoubleEquals, Arrow}
+use Rattle.pat_lexer_spec.specs.Tokens.{Token, Integer, Mark}
+use Rattle.pat_lexer_spec.specs.Characters.{is_digit, Each, number_after, IsNameText, Quotes, IsUnfinished}
+use Rattle.pat_lexer_spec.specs.Lexemes.{Lexeme, Whole, TooWide, Fits, Begins, NothingFits, IsRun, greatest}
+use Rattle.pat_lexer_spec.specs.Held.{IsNamed, NothingWhole, IsInComment}
+use Rattle.pat_lexer_laws.proofs.Runs.{Each-append, push_some}
+use Rattle.pat_lexer_laws.proofs.Classes.{Class, Slashes, Names, Fronts, class, lexeme_front, high_class}
+use Rattle.pat_lexer_laws.proofs.Unique.{one_front}
+use Rattle.pat_lexer_laws.proofs.Strings.{first_of}
+use Rattle.pat_lexer_laws.proofs.NameBeginnings.{name_more_ascii}
+use Rattle.pat_lexer_laws.proofs.Faults.{no_string, no_end_nil, no_end_escape, no_end_character, no_comment, NoEnd}
+use Rattle.pat_lexer.specs.fronts.Spelled.{IsNameToken, name, word}
 use Rattle.pat_lexer.proofs.Between.{name_token_begins, no_more_nil}
 use Rattle.pat_lexer.proofs.Characters.{High, high_of, unfinished_high, bad_name}
-use Rattle.pat_lexer_fronts.proofs.WordOr.{name_or_word}
+use Rattle.pat_lexer.proofs.WordOr.{name_or_word}
 
 -- where nothing fits, nothing is whole
 nothing_fits : (text : List ℕ) → NothingFits text → NothingWhole text

@@ -1,6 +1,6 @@
 -- How what a reader has changes.
 use Rattle.std.specs.Prelude.{ℕ, ◌+◌, List, [], ◌∷◌, ◌++◌, length}
-use Rattle.pat_lexical.specs.Tokens.{Token}
+use Rattle.pat_lexer_spec.specs.Tokens.{Token}
 use Rattle.pat_lexer.specs.declared.unfinished.Unfinished.{Unfinished}
 use Rattle.pat_lexer.specs.declared.unfinished.Unfinished.TheVariants.{Nothing}
 use Rattle.pat_lexer.specs.Progress.{Progress}

@@ -1,7 +1,7 @@
 -- Which bytes end what is unfinished.
 use Rattle.std.specs.Prelude.{◌≡◌, ℕ, Bool, true, false, not, ◌&&◌, ◌==◌, nat_lt, List, [], ◌∷◌}
-use Rattle.pat_lexical.specs.Characters.{is_digit}
-use Rattle.pat_lexer_fronts.specs.Bytes.{is_name_byte}
+use Rattle.pat_lexer_spec.specs.Characters.{is_digit}
+use Rattle.pat_lexer.specs.fronts.Bytes.{is_name_byte}
 use Rattle.pat_lexer.specs.declared.unfinished.Unfinished.{Unfinished}
 use Rattle.pat_lexer.specs.declared.unfinished.Unfinished.TheVariants.{Name, Integer, Equals, Minus, Comment}
 

@@ -1,6 +1,6 @@
 -- What an error says of a text.
 use Rattle.std.specs.Prelude.{ℕ, List}
-use Rattle.pat_lexical.specs.Divisions.{IsRefused, BadToken as BadTokenAt, NumberTooWide as NumberTooWideAt}
+use Rattle.pat_lexer_spec.specs.Divisions.{IsRefused, BadToken as BadTokenAt, NumberTooWide as NumberTooWideAt}
 use Rattle.pat_lexer.specs.declared.error.LexError.{LexError}
 use Rattle.pat_lexer.specs.declared.error.LexError.TheVariants.{BadToken, NumberTooWide, NoMemory}
 

@@ -1,7 +1,7 @@
 -- What a lexer shows, and what it knows of the bytes that it was fed.
 use Rattle.std.specs.Prelude.{◌≡◌, ◌≢◌, ◌⊎◌, ℕ, List, [], ◌++◌, length, Option, None, Some}
-use Rattle.pat_lexical.specs.Characters.{IsUnfinished}
-use Rattle.pat_lexical.specs.Divisions.{Reaches}
+use Rattle.pat_lexer_spec.specs.Characters.{IsUnfinished}
+use Rattle.pat_lexer_spec.specs.Divisions.{Reaches}
 use Rattle.pat_lexer.specs.declared.error.LexError.{LexError}
 use Rattle.pat_lexer.specs.declared.unfinished.Unfinished.TheVariants.{Comment}
 use Rattle.pat_lexer.specs.Progress.{Progress, Stands}

@@ -4,3 +4,4 @@ pub mod Progress
 pub mod Changes
 pub mod Reads
 pub mod Lexed
+pub mod fronts

@@ -1,9 +1,9 @@
 -- What a reader has that has read a text up to some place.
 use Rattle.std.specs.Prelude.{◌≡◌, ◌≢◌, ◌≤◌, ◌+◌, ◌⊎◌, ℕ, List, [], ◌∷◌, ◌++◌, length, IsUtf8}
-use Rattle.pat_lexical.specs.Tokens.{Spanned}
-use Rattle.pat_lexical.specs.Characters.{is_digit, is_in_line, Each, number_after, IsNameText, Quotes, IsUnfinished}
-use Rattle.pat_lexical.specs.Lexemes.{greatest}
-use Rattle.pat_lexical.specs.Divisions.{Reaches}
+use Rattle.pat_lexer_spec.specs.Tokens.{Spanned}
+use Rattle.pat_lexer_spec.specs.Characters.{is_digit, is_in_line, Each, number_after, IsNameText, Quotes, IsUnfinished}
+use Rattle.pat_lexer_spec.specs.Lexemes.{greatest}
+use Rattle.pat_lexer_spec.specs.Divisions.{Reaches}
 use Rattle.pat_lexer.specs.declared.unfinished.Unfinished.{Unfinished}
 use Rattle.pat_lexer.specs.declared.unfinished.Unfinished.TheVariants.{Nothing, Name, Integer, Str, Escape, Equals, Minus, Slash, Comment}
 

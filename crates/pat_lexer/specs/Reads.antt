@@ -3,17 +3,17 @@ use Rattle.std.specs.Prelude.{◌≡◌, ◌<◌, ◌≤◌, ◌+◌, ℕ, List,
 use Rattle.pat_syntax.specs.declared.mark.Mark.{Mark}
 use Rattle.pat_syntax.specs.declared.mark.Mark.TheVariants.{DoubleEquals, Arrow}
 use Rattle.pat_syntax.specs.Views.{token_view}
-use Rattle.pat_lexical.specs.Divisions.{Reaches}
+use Rattle.pat_lexer_spec.specs.Divisions.{Reaches}
 use Rattle.pat_lexer.specs.declared.error.LexError.{LexError}
 use Rattle.pat_lexer.specs.declared.error.LexError.TheVariants.{BadToken}
 use Rattle.pat_lexer.specs.declared.unfinished.Unfinished.{Unfinished}
 use Rattle.pat_lexer.specs.declared.unfinished.Unfinished.TheVariants.{Nothing, Name, Str, Equals, Minus, Slash, Comment}
-use Rattle.pat_lexer_fronts.specs.declared.character.Front.{Front}
+use Rattle.pat_lexer.specs.declared.fronts.character.Front.{Front}
 use Rattle.pat_lexer.specs.declared.reader.Reader.{Reader}
 use Rattle.pat_lexer.specs.Explains.{Explains}
 use Rattle.pat_lexer.specs.Ends.{EndsAt}
 use Rattle.pat_lexer.specs.Progress.{Progress, HasKind, Stands}
-use Rattle.pat_lexer_fronts.specs.Fronts.{IsCut, FrontIs}
+use Rattle.pat_lexer.specs.fronts.Fronts.{IsCut, FrontIs}
 
 -- what the reader has
 abbrev pub progress : Reader → Progress

@@ -1,7 +1,7 @@
 // The lexer: a reader, and the refusal that it has answered.
 ghost use Rattle.std.specs.Prelude.{◌≡◌, ◌+◌, ◌<◌, ◌^◌, ℕ, List, [], ◌++◌, length, map, None, Some, Err, IfOk, IfErr, MatchResult};
-ghost use Rattle.pat_lexical.specs.Divisions.{Divides};
-ghost use Rattle.pat_lexical.specs.Held.{IsHeld};
+ghost use Rattle.pat_lexer_spec.specs.Divisions.{Divides};
+ghost use Rattle.pat_lexer_spec.specs.Held.{IsHeld};
 ghost use Rattle.pat_syntax.specs.Views.{token_view};
 ghost use Rattle.pat_lexer.specs.Lexed.{HasRead, Holds};
 ghost use Rattle.pat_lexer.specs.Explains.{Explains};

@@ -1,7 +1,8 @@
-// Bytes to tokens, however the bytes are cut into pieces.
+//! Text in pieces to tokens.
 #![tactic(auto)]
 
 mod error;
+mod fronts;
 mod lexer;
 mod reader;
 mod unfinished;

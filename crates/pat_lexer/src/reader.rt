@@ -1,12 +1,12 @@
 // The reader behind the lexer: it reads a text from its front, and keeps what is unfinished.
 ghost use Rattle.std.specs.Prelude.{◌≡◌, ◌≢◌, ◌+◌, ◌<◌, ◌≤◌, ◌^◌, ◌==◌, ◌||◌, ℕ, List, [], ◌∷◌, map, length, slice_index, true, false, IfOk, IfErr};
-ghost use Rattle.pat_lexical.specs.Characters.{is_blank, is_digit, is_in_line};
+ghost use Rattle.pat_lexer_spec.specs.Characters.{is_blank, is_digit, is_in_line};
 ghost use Rattle.pat_syntax.specs.Views.{kind_view, token_view};
-ghost use Rattle.pat_lexer_fronts.specs.Bytes.{is_name_start, is_name_byte, is_plain_ascii, is_other, IsRunOf};
+ghost use Rattle.pat_lexer.specs.fronts.Bytes.{is_name_start, is_name_byte, is_plain_ascii, is_other, IsRunOf};
 
 use super::error::LexError;
 use super::unfinished::Unfinished;
-use pat_lexer_fronts::{
+use crate::fronts::{
     Front, blank_run, comment_run, digit_run, front_of, is_escapable, is_name_byte, mark_of,
     name_run, name_token, number_with, plain_run,
 };
@@ -43,7 +43,7 @@ impl Reader {
     ghost use Rattle.pat_lexer.specs.Ends.{ends};
     ghost use Rattle.pat_lexer.specs.Changes.{with_token, with_piece, with_held};
     ghost use Rattle.pat_lexer.specs.Progress.{Stands};
-    ghost use Rattle.pat_lexical.specs.Divisions.{Divides};
+    ghost use Rattle.pat_lexer_spec.specs.Divisions.{Divides};
     ghost use Rattle.pat_lexer.specs.Explains.{Explains};
     ghost use Rattle.pat_lexer.specs.Reads.{refusal_of, progress, Reads, Refuses, Advances, Closes, ClosesNot, StandsAtStart, MayGoOn, Takes, TakesNot, Extends, OpensWith, Completes};
 

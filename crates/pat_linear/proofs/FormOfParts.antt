@@ -1,16 +1,16 @@
 -- When the forms of a small pattern's parts can be joined, and that one with few nodes is small.
 use Rattle.std.proofs.Common.{◌≡◌, ℕ, ◌≤◌, ◌^◌, ◌<◌, true, List, ◌∷◌, sym, ap, ◌∙◌, subst, arith}
 use Rattle.std.proofs.lemmas.Bool.{ltb-true}
-use Rattle.pat_words.specs.Patterns.{Pat, Tag, Prod, Star}
-use Rattle.pat_words.specs.Tags.{tags_below}
-use Rattle.pat_words.specs.Sizes.{size_of}
+use Rattle.pat_words_spec.specs.Patterns.{Pat, Tag, Prod, Star}
+use Rattle.pat_words_spec.specs.Tags.{tags_below}
+use Rattle.pat_words_spec.specs.Sizes.{size_of}
 use Rattle.pat_words_laws.proofs.SizeLaws.{levels_size}
-use Rattle.pat_inclusions.specs.Counts.{most_tags}
-use Rattle.pat_inclusions.specs.LinearSets.{LinearSet}
-use Rattle.pat_inclusions.specs.ClosedForms.{sets_of, lists_are_short, is_small}
+use Rattle.pat_inclusion_spec.specs.Counts.{most_tags}
+use Rattle.pat_inclusion_spec.specs.LinearSets.{LinearSet}
+use Rattle.pat_inclusion_spec.specs.ClosedForms.{sets_of, lists_are_short, is_small}
 use Rattle.pat_inclusion_laws.proofs.FormCounts.{form_counts, form_clean}
 use Rattle.pat_inclusion_laws.proofs.Exact.{tags_are}
-use Rattle.pat_postfix.specs.declared.Head.TheVariants.{Prod as ProdHead, Star as StarHead}
+use Rattle.pat_patterns.specs.declared.postfix_form.Head.TheVariants.{Prod as ProdHead, Star as StarHead}
 use Rattle.pat_linear.specs.Forms.{CanJoin}
 use Rattle.pat_linear.proofs.Standing.{small, small_down}
 

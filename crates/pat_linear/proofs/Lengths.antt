@@ -2,8 +2,8 @@
 use Rattle.std.proofs.Common.{◌≡◌, ℕ, ◌*◌, ◌-◌, ◌^◌, ◌≤◌, ◌<◌, min, true, false, List, [], ◌∷◌, length, get_or, map, length-append, sym, ap, ◌∙◌, arith, zero-mul, suc-mul}
 use Rattle.std.proofs.lemmas.List.{length-map}
 use Rattle.std.proofs.lemmas.Bool.{le-leb, lt-leb}
-use Rattle.pat_inclusions.specs.LinearSets.{LinearSet}
-use Rattle.pat_inclusions.specs.ClosedForms.{set_product, products, is_short}
+use Rattle.pat_inclusion_spec.specs.LinearSets.{LinearSet}
+use Rattle.pat_inclusion_spec.specs.ClosedForms.{set_product, products, is_short}
 use Rattle.pat_linear.specs.declared.set.LinearSet.{LinearSet as CodeSet}
 use Rattle.pat_linear.specs.Views.{set_view, sets_view}
 

@@ -1,12 +1,12 @@
 -- What a form says of a pattern's words.
 use Rattle.std.proofs.Common.{◌≡◌, ◌↔◌, true, Bool, List, sym, subst}
 use Rattle.std.specs.Prelude.{Result, Ok, Err, IfOk}
-use Rattle.pat_words.specs.Words.{Word}
-use Rattle.pat_words.specs.Patterns.{Pat, In}
-use Rattle.pat_words.specs.Tags.{tags_below}
-use Rattle.pat_inclusions.specs.Counts.{most_tags}
-use Rattle.pat_inclusions.specs.LinearSets.{InSets}
-use Rattle.pat_inclusions.specs.ClosedForms.{sets_of}
+use Rattle.pat_words_spec.specs.Words.{Word}
+use Rattle.pat_words_spec.specs.Patterns.{Pat, In}
+use Rattle.pat_words_spec.specs.Tags.{tags_below}
+use Rattle.pat_inclusion_spec.specs.Counts.{most_tags}
+use Rattle.pat_inclusion_spec.specs.LinearSets.{InSets}
+use Rattle.pat_inclusion_spec.specs.ClosedForms.{sets_of}
 use Rattle.pat_inclusion_laws.proofs.Forms.{form_to, form_from}
 use Rattle.pat_linear.specs.declared.set.LinearSet.{LinearSet as CodeSet}
 use Rattle.pat_linear.specs.declared.error.FormError.{FormError}

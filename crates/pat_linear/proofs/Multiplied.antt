@@ -2,7 +2,7 @@
 use Rattle.std.proofs.Common.{◌≡◌, ℕ, zero, suc, ◌+◌, ◌≤◌, ◌<◌, List, [], ◌∷◌, ◌++◌, length, get_or, map, take, drop, refl, sym, ap, ap₂, ◌∙◌, subst, arith, length-take-le}
 use Rattle.std.specs.Prelude.{Result, Ok, Err, OnOk, slice_set, slice_index_or}
 use Rattle.std.proofs.lemmas.List.{length-map}
-use Rattle.pat_inclusions.specs.LinearSets.{LinearSet}
+use Rattle.pat_inclusion_spec.specs.LinearSets.{LinearSet}
 use Rattle.pat_linear.specs.declared.set.LinearSet.{LinearSet as CodeSet}
 use Rattle.pat_linear.specs.Views.{set_view, sets_view, forms_view}
 use Rattle.pat_linear.specs.Rooms.{HasRoom}

@@ -1,6 +1,6 @@
 -- Room for each set of a list.
 use Rattle.std.proofs.Common.{◌≡◌, ℕ, zero, suc, ◌+◌, ◌<◌, ◌^◌, List, [], ◌∷◌, length, get_or, sym, subst, arith}
-use Rattle.pat_inclusions.specs.LinearSets.{LinearSet}
+use Rattle.pat_inclusion_spec.specs.LinearSets.{LinearSet}
 use Rattle.pat_linear.specs.declared.set.LinearSet.{LinearSet as CodeSet}
 use Rattle.pat_linear.specs.Views.{set_view, sets_view}
 use Rattle.pat_linear.specs.Rooms.{HasRoom, HaveRoom}

@@ -1,9 +1,9 @@
 -- Words that differ at a tag are not the same.
 use Rattle.std.proofs.Common.{◌≡◌, ℕ, suc, ◌<◌, ◌+◌, true, false, nat_eq, ⊎_elim, subst, sym, ◌∙◌, arith}
 use Rattle.std.proofs.lemmas.Bool.{cases_Bool, and_from, eq-eqb}
-use Rattle.pat_words.specs.Words.{Word}
-use Rattle.pat_inclusions.specs.Counts.{same_below}
-use Rattle.pat_inclusions.specs.Counts.{most_tags}
+use Rattle.pat_words_spec.specs.Words.{Word}
+use Rattle.pat_inclusion_spec.specs.Counts.{same_below}
+use Rattle.pat_inclusion_spec.specs.Counts.{most_tags}
 use Rattle.pat_inclusion_laws.proofs.Spans.{same_counts}
 use Rattle.pat_inclusion_laws.proofs.Exact.{tags_are}
 

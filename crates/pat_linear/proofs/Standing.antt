@@ -3,18 +3,18 @@ use Rattle.std.proofs.Common.{⊎_elim, ◌≡◌, ℕ, ◌<◌, ◌≤◌, ◌^
 use Rattle.std.specs.List.{AllByRecursion}
 use Rattle.std.specs.Prelude.{Err}
 use Rattle.std.proofs.lemmas.Bool.{and_parts, and_from, leb-true, le-leb, ltb-true, cases_Bool}
-use Rattle.pat_words.specs.Patterns.{Pat, Zero, One, Tag, Sum, Prod, Star, Var}
-use Rattle.pat_words.specs.Tags.{tags_below}
-use Rattle.pat_words.specs.Sizes.{size_of, levels_of}
-use Rattle.pat_inclusions.specs.Counts.{most_tags}
-use Rattle.pat_inclusions.specs.LinearSets.{LinearSet}
-use Rattle.pat_inclusions.specs.ClosedForms.{only_empty, sets_of, is_short, stars_are_short, lists_are_short, is_small}
+use Rattle.pat_words_spec.specs.Patterns.{Pat, Zero, One, Tag, Sum, Prod, Star, Var}
+use Rattle.pat_words_spec.specs.Tags.{tags_below}
+use Rattle.pat_words_spec.specs.Sizes.{size_of, levels_of}
+use Rattle.pat_inclusion_spec.specs.Counts.{most_tags}
+use Rattle.pat_inclusion_spec.specs.LinearSets.{LinearSet}
+use Rattle.pat_inclusion_spec.specs.ClosedForms.{only_empty, sets_of, is_short, stars_are_short, lists_are_short, is_small}
 use Rattle.pat_inclusion_laws.proofs.FormCounts.{form_counts, form_clean}
 use Rattle.pat_inclusion_laws.proofs.Exact.{tags_are}
-use Rattle.pat_postfix.specs.declared.Head.{Head}
-use Rattle.pat_postfix.specs.declared.Head.TheVariants.{Zero as ZeroHead, One as OneHead, Tag as TagHead, Var as VarHead, Sum as SumHead, Prod as ProdHead, Star as StarHead}
-use Rattle.pat_postfix.specs.Postfix.{postfix_onto, made_by}
-use Rattle.pat_postfix.proofs.Made.{made_whole}
+use Rattle.pat_patterns.specs.declared.postfix_form.Head.{Head}
+use Rattle.pat_patterns.specs.declared.postfix_form.Head.TheVariants.{Zero as ZeroHead, One as OneHead, Tag as TagHead, Var as VarHead, Sum as SumHead, Prod as ProdHead, Star as StarHead}
+use Rattle.pat_patterns.specs.postfix_form.Postfix.{postfix_onto, made_by}
+use Rattle.pat_patterns.proofs.Made.{made_whole}
 use Rattle.pat_linear.specs.declared.error.FormError.{FormError}
 use Rattle.pat_linear.specs.declared.error.FormError.TheVariants.{TooLarge, NoMemory}
 use Rattle.pat_linear.specs.Forms.{after, after_is_short, CanJoin, Joins, GivesSets}

@@ -3,12 +3,12 @@ use Rattle.std.proofs.Common.{◌≡◌, ℕ, zero, suc, ◌+◌, ◌<◌, true,
 use Rattle.std.specs.Prelude.{◌&&◌, Result, Ok, Err, OnOk, if◌then◌else◌}
 use Rattle.std.specs.List.{AllByRecursion}
 use Rattle.std.proofs.lemmas.Bool.{cases_Bool}
-use Rattle.pat_words.specs.Words.{Word, no_word}
+use Rattle.pat_words_spec.specs.Words.{Word, no_word}
 use Rattle.pat_bags.specs.Views.{word_of}
-use Rattle.pat_inclusions.specs.Counts.{is_empty_below, has_word}
-use Rattle.pat_inclusions.specs.LinearSets.{LinearSet, linear_set}
-use Rattle.pat_inclusions.specs.ClosedForms.{add_period, add_periods, only_empty, products, star_by, set_star, times_stars, is_short, stars_are_short}
-use Rattle.pat_postfix.specs.declared.Head.TheVariants.{Star as StarHead}
+use Rattle.pat_inclusion_spec.specs.Counts.{is_empty_below, has_word}
+use Rattle.pat_inclusion_spec.specs.LinearSets.{LinearSet, linear_set}
+use Rattle.pat_inclusion_spec.specs.ClosedForms.{add_period, add_periods, only_empty, products, star_by, set_star, times_stars, is_short, stars_are_short}
+use Rattle.pat_patterns.specs.declared.postfix_form.Head.TheVariants.{Star as StarHead}
 use Rattle.pat_linear.specs.declared.set.LinearSet.{LinearSet as CodeSet}
 use Rattle.pat_linear.specs.Views.{set_view, sets_view, forms_view}
 use Rattle.pat_linear.specs.Flat.{top_of}

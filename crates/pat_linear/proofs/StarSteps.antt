@@ -2,9 +2,9 @@
 use Rattle.std.proofs.Common.{◌≡◌, ℕ, zero, suc, ◌+◌, ◌*◌, ◌<◌, ◌^◌, true, false, List, [], ◌∷◌, length, get_or, take, drop, refl, sym, ap, ◌∙◌, subst, arith}
 use Rattle.std.specs.Prelude.{◌&&◌, Err}
 use Rattle.std.specs.List.{AllByRecursion}
-use Rattle.pat_inclusions.specs.Counts.{most_tags}
-use Rattle.pat_inclusions.specs.LinearSets.{LinearSet, SetWithin, SetsWithin}
-use Rattle.pat_inclusions.specs.ClosedForms.{only_empty, products, set_star, times_stars, is_short, stars_are_short, SetsClean}
+use Rattle.pat_inclusion_spec.specs.Counts.{most_tags}
+use Rattle.pat_inclusion_spec.specs.LinearSets.{LinearSet, SetWithin, SetsWithin}
+use Rattle.pat_inclusion_spec.specs.ClosedForms.{only_empty, products, set_star, times_stars, is_short, stars_are_short, SetsClean}
 use Rattle.pat_inclusion_laws.proofs.FormCounts.{star_bound, star_counts}
 use Rattle.pat_linear.specs.declared.set.LinearSet.{LinearSet as CodeSet}
 use Rattle.pat_linear.specs.declared.error.FormError.{FormError}

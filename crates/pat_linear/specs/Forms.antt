@@ -1,10 +1,10 @@
 -- What is made of lists of sets, if it is not too large.
 use Rattle.std.specs.Prelude.{◌≡◌, ℕ, ◌<◌, ◌^◌, Bool, true, false, List, [], ◌∷◌, ◌++◌, Option, Some, None, Result, Ok, Err, IsTrue}
-use Rattle.pat_words.specs.Words.{one}
-use Rattle.pat_inclusions.specs.LinearSets.{LinearSet, linear_set, SetsWithin}
-use Rattle.pat_inclusions.specs.ClosedForms.{only_empty, products, times_stars, is_short, stars_are_short, SetsClean}
-use Rattle.pat_postfix.specs.declared.Head.{Head}
-use Rattle.pat_postfix.specs.declared.Head.TheVariants.{Zero, One, Tag, Var, Sum, Prod, Star}
+use Rattle.pat_words_spec.specs.Words.{one}
+use Rattle.pat_inclusion_spec.specs.LinearSets.{LinearSet, linear_set, SetsWithin}
+use Rattle.pat_inclusion_spec.specs.ClosedForms.{only_empty, products, times_stars, is_short, stars_are_short, SetsClean}
+use Rattle.pat_patterns.specs.declared.postfix_form.Head.{Head}
+use Rattle.pat_patterns.specs.declared.postfix_form.Head.TheVariants.{Zero, One, Tag, Var, Sum, Prod, Star}
 use Rattle.pat_linear.specs.declared.set.LinearSet.{LinearSet as CodeSet}
 use Rattle.pat_linear.specs.declared.error.FormError.{FormError}
 use Rattle.pat_linear.specs.declared.error.FormError.TheVariants.{TooLarge, NoMemory}

@@ -1,9 +1,9 @@
 -- Linear sets as the definitions see them.
 use Rattle.std.specs.Prelude.{List, map}
-use Rattle.pat_words.specs.Words.{Word}
+use Rattle.pat_words_spec.specs.Words.{Word}
 use Rattle.pat_bags.specs.declared.Bag.{Bag}
 use Rattle.pat_bags.specs.Views.{word_of}
-use Rattle.pat_inclusions.specs.LinearSets.{LinearSet, linear_set}
+use Rattle.pat_inclusion_spec.specs.LinearSets.{LinearSet, linear_set}
 use Rattle.pat_linear.specs.declared.set.LinearSet.{LinearSet as CodeSet}
 
 -- the words of bags

@@ -1,7 +1,7 @@
 -- Linear sets of one word each.
 use Rattle.std.specs.Prelude.{◌≡◌, []}
-use Rattle.pat_words.specs.Words.{Word}
-use Rattle.pat_inclusions.specs.LinearSets.{LinearSet}
+use Rattle.pat_words_spec.specs.Words.{Word}
+use Rattle.pat_inclusion_spec.specs.LinearSets.{LinearSet}
 
 -- the set has no periods, so its base alone
 abbrev pub IsWord : LinearSet → Type 0

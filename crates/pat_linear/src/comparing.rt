@@ -1,8 +1,8 @@
 // Bags compared, and lists of periods without an empty one and without repeats.
 ghost use Rattle.std.specs.Prelude.{◌≡◌, IfOk, OnOk};
 ghost use Rattle.pat_bags.specs.Views.{word_of};
-ghost use Rattle.pat_inclusions.specs.Counts.{most_tags, same_below, has_word, is_empty_below};
-ghost use Rattle.pat_inclusions.specs.ClosedForms.{add_period as period_added, add_periods as periods_added};
+ghost use Rattle.pat_inclusion_spec.specs.Counts.{most_tags, same_below, has_word, is_empty_below};
+ghost use Rattle.pat_inclusion_spec.specs.ClosedForms.{add_period as period_added, add_periods as periods_added};
 ghost use Rattle.pat_linear.specs.Views.{words_of};
 
 use pat_bags::Bag;

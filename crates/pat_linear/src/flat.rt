@@ -1,7 +1,7 @@
 // Lists of linear sets on a stack.
 ghost use Rattle.std.specs.Prelude.{◌≡◌, ◌≤◌, [], ◌∷◌, ◌++◌, length, drop, map, IfOk, OnOk};
-ghost use Rattle.pat_inclusions.specs.Counts.{most_tags};
-ghost use Rattle.pat_inclusions.specs.ClosedForms.{set_product as set_product_of};
+ghost use Rattle.pat_inclusion_spec.specs.Counts.{most_tags};
+ghost use Rattle.pat_inclusion_spec.specs.ClosedForms.{set_product as set_product_of};
 ghost use Rattle.pat_linear.specs.Views.{set_view, sets_view, forms_view};
 ghost use Rattle.pat_linear.specs.Rooms.{HasRoom};
 ghost use Rattle.pat_linear.specs.Flat.{top_of, Unites, TakesFirst};

@@ -1,14 +1,14 @@
 // The closed form of a pattern.
 ghost use Rattle.std.specs.Prelude.{◌≡◌, ◌∷◌, [], ◌<◌, ◌≤◌, ◌↔◌, ◌-◌, ◌^◌, min, length, take, drop, IfOk, OnOk, IsTrue};
 ghost use Rattle.std.specs.List.{AllByRecursion};
-ghost use Rattle.pat_words.specs.Words.{Word, one};
-ghost use Rattle.pat_words.specs.Patterns.{In};
-ghost use Rattle.pat_words.specs.Sizes.{size_of};
-ghost use Rattle.pat_words.specs.Tags.{tags_below};
+ghost use Rattle.pat_words_spec.specs.Words.{Word, one};
+ghost use Rattle.pat_words_spec.specs.Patterns.{In};
+ghost use Rattle.pat_words_spec.specs.Sizes.{size_of};
+ghost use Rattle.pat_words_spec.specs.Tags.{tags_below};
 ghost use Rattle.pat_patterns.specs.Views.{pattern_view};
-ghost use Rattle.pat_inclusions.specs.Counts.{most_tags};
-ghost use Rattle.pat_inclusions.specs.LinearSets.{InSets, linear_set};
-ghost use Rattle.pat_inclusions.specs.ClosedForms.{only_empty as only_empty_set, is_small as is_small_of, is_short, closed_form as closed_form_of, products as products_of, sets_of, times_stars as times_stars_of, lists_are_short};
+ghost use Rattle.pat_inclusion_spec.specs.Counts.{most_tags};
+ghost use Rattle.pat_inclusion_spec.specs.LinearSets.{InSets, linear_set};
+ghost use Rattle.pat_inclusion_spec.specs.ClosedForms.{only_empty as only_empty_set, is_small as is_small_of, is_short, closed_form as closed_form_of, products as products_of, sets_of, times_stars as times_stars_of, lists_are_short};
 ghost use Rattle.pat_linear.specs.Views.{set_view, sets_view, forms_view};
 ghost use Rattle.pat_linear.specs.Rooms.{HaveRoom};
 ghost use Rattle.pat_linear.specs.Flat.{top_of};
@@ -21,8 +21,7 @@ use crate::products::{MOST_SETS, products};
 use crate::set::LinearSet;
 use crate::stars::{only_empty, star, star_of_words};
 use pat_bags::Bag;
-use pat_patterns::{Pattern, levels, size};
-use pat_postfix::{Head, postfix};
+use pat_patterns::{Head, Pattern, levels, postfix, size};
 use pat_sequences::Sequence;
 use std::alloc::{AllocError, Global};
 

@@ -1,8 +1,8 @@
 // Products of linear sets.
 ghost use Rattle.std.specs.Prelude.{◌≡◌, ◌++◌, ◌∷◌, [], ℕ, ◌<◌, ◌≤◌, ◌+◌, ◌^◌, map, length, take, drop, IfOk, OnOk};
 ghost use Rattle.pat_bags.specs.Views.{word_of};
-ghost use Rattle.pat_inclusions.specs.Counts.{most_tags};
-ghost use Rattle.pat_inclusions.specs.ClosedForms.{is_short, set_product as set_product_of, products as products_of};
+ghost use Rattle.pat_inclusion_spec.specs.Counts.{most_tags};
+ghost use Rattle.pat_inclusion_spec.specs.ClosedForms.{is_short, set_product as set_product_of, products as products_of};
 ghost use Rattle.pat_linear.specs.Views.{set_view, sets_view};
 ghost use Rattle.pat_linear.specs.Rooms.{HasRoom, HaveRoom};
 ghost use Rattle.pat_linear.specs.Forms.{GivesSets};

@@ -1,10 +1,10 @@
 // Stars of linear sets.
 ghost use Rattle.std.specs.Prelude.{◌≡◌, ◌∷◌, [], ◌^◌, map, IfOk};
-ghost use Rattle.pat_words.specs.Words.{no_word};
+ghost use Rattle.pat_words_spec.specs.Words.{no_word};
 ghost use Rattle.pat_bags.specs.Views.{word_of};
-ghost use Rattle.pat_inclusions.specs.Counts.{most_tags};
-ghost use Rattle.pat_inclusions.specs.LinearSets.{linear_set, SetsWithin};
-ghost use Rattle.pat_inclusions.specs.ClosedForms.{only_empty as only_empty_set, add_period as add_period_of, add_periods as add_periods_of, set_star as set_star_of, times_stars as times_stars_of, stars_are_short, SetsClean};
+ghost use Rattle.pat_inclusion_spec.specs.Counts.{most_tags};
+ghost use Rattle.pat_inclusion_spec.specs.LinearSets.{linear_set, SetsWithin};
+ghost use Rattle.pat_inclusion_spec.specs.ClosedForms.{only_empty as only_empty_set, add_period as add_period_of, add_periods as add_periods_of, set_star as set_star_of, times_stars as times_stars_of, stars_are_short, SetsClean};
 ghost use Rattle.pat_linear.specs.Views.{set_view, sets_view};
 ghost use Rattle.pat_linear.specs.Forms.{GivesSets};
 ghost use Rattle.pat_linear.specs.WordSets.{base_of};

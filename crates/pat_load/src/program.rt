@@ -2,7 +2,7 @@
 ghost use Rattle.std.specs.Prelude.{◌≡◌, ◌++◌, ◌<◌, IfOk, OnOk};
 ghost use Rattle.pat_load.specs.LoadText.{each_from, group_text, load_text, main_text, numbered, worker_text};
 
-use pat_decimal::push_number;
+use pat_texts::push_number;
 use std::alloc::{AllocError, Global};
 
 /// The text of a program that sends each of so many workers a number and a mailbox for its answer, and prints the sum of the answers:

@@ -1,17 +1,17 @@
 -- How a run ends, where no thread is out.
 use Rattle.std.proofs.Common.{◌≡◌, ℕ, ◌+◌, ◌<◌, ◌≤◌, List, [], length, map, Option, Some, None, refl, sym, ap, ◌∙◌, arith, inl, inr, ◌⊎◌}
 use Rattle.std.specs.Prelude.{option_and_then}
-use Rattle.pat_model.specs.Programs.{Program}
-use Rattle.pat_model.specs.Steps.{Step, step}
-use Rattle.pat_model.specs.Runs.{Outcome, EndDone, EndWaiting, EndFull, EndBudget, step_count, outcome}
-use Rattle.pat_model_laws.specs.Laws.{IsEnabled, Ends, OutcomeIsExact}
+use Rattle.pat_semantics_spec.specs.Programs.{Program}
+use Rattle.pat_semantics_spec.specs.Steps.{Step, step}
+use Rattle.pat_semantics_spec.specs.Runs.{Outcome, EndDone, EndWaiting, EndFull, EndBudget, step_count, outcome}
+use Rattle.pat_semantics_laws.specs.Laws.{IsEnabled, Ends, OutcomeIsExact}
 use Rattle.pat_core.specs.Views.{program_view}
 use Rattle.pat_reduce.specs.Views.{entry_view}
-use Rattle.pat_commits.specs.Opens.{IsOpen}
-use Rattle.pat_commits.specs.Lendings.{NoneOut, SomeOut}
-use Rattle.pat_commit_laws.proofs.Runs.{limited_now}
-use Rattle.pat_commit_laws.proofs.Takings.{someone_out}
-use Rattle.pat_commit_laws.proofs.Endings.{full_so, open_no_full}
+use Rattle.pat_machine_spec.specs.Opens.{IsOpen}
+use Rattle.pat_machine_spec.specs.Lendings.{NoneOut, SomeOut}
+use Rattle.pat_machine_laws.proofs.Runs.{limited_now}
+use Rattle.pat_machine_laws.proofs.Takings.{someone_out}
+use Rattle.pat_machine_laws.proofs.Endings.{full_so, open_no_full}
 use Rattle.pat_machine.specs.declared.parts.Parts.{Parts}
 use Rattle.pat_machine.specs.Parted.{shown, IsKept}
 use Rattle.pat_machine.specs.Gives.{MayTake, Rests}
@@ -21,7 +21,7 @@ module _ (laws : OutcomeIsExact) (m : Parts) (k : IsKept m) where
   abbrev p : Program
   p = program_view m.code.program
 
-  abbrev es : List Rattle.pat_model.specs.Runs.Entry
+  abbrev es : List Rattle.pat_semantics_spec.specs.Runs.Entry
   es = map entry_view m.history.items
 
   abbrev ends_as : Outcome → Type 0
@@ -40,7 +40,7 @@ module _ (laws : OutcomeIsExact) (m : Parts) (k : IsKept m) where
   over h threads =
       ended EndDone h
       (inr (λ t (none, (a, (e, space))).
-      let gone : step p m.state (record { thread = t; act = a }) ≡ None = ap (λ ts. option_and_then (λ s. Rattle.pat_model.specs.Steps.thread_step p m.state t s a) (Rattle.std.specs.Map.lookup (Rattle.std.proofs.Common.nat_eq t) ts)) threads in
+      let gone : step p m.state (record { thread = t; act = a }) ≡ None = ap (λ ts. option_and_then (λ s. Rattle.pat_semantics_spec.specs.Steps.thread_step p m.state t s a) (Rattle.std.specs.Map.lookup (Rattle.std.proofs.Common.nat_eq t) ts)) threads in
       let at = e.1 in
       cc))
       threads

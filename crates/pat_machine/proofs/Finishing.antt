@@ -3,26 +3,26 @@ use Rattle.std.proofs.Common.{◌≡◌, ℕ, ◌+◌, ◌-◌, ◌<◌, Bool, t
 use Rattle.std.specs.Prelude.{◌↔◌}
 use Rattle.std.proofs.lemmas.Bool.{eqb-true, eqb-false}
 use Rattle.std.proofs.lemmas.List.{map-append}
-use Rattle.pat_model.specs.Programs.{Program}
-use Rattle.pat_model.specs.Configs.{Thread, Message, Config, thread_at, thread_refers, with_thread}
-use Rattle.pat_model.specs.Steps.{Act, ActReceive, message_at}
+use Rattle.pat_semantics_spec.specs.Programs.{Program}
+use Rattle.pat_semantics_spec.specs.Configs.{Thread, Message, Config, thread_at, thread_refers, with_thread}
+use Rattle.pat_semantics_spec.specs.Steps.{Act, ActReceive, message_at}
 use Rattle.pat_core.specs.Views.{program_view}
-use Rattle.pat_model.specs.Runs.{Entry, entry_steps, run_from, shared_step}
+use Rattle.pat_semantics_spec.specs.Runs.{Entry, entry_steps, run_from, shared_step}
 use Rattle.pat_reduce.specs.declared.history.Entry.{Entry as CodeEntry}
 use Rattle.pat_reduce.specs.Views.{entry_view}
-use Rattle.pat_commits.specs.Opens.{IsStill}
-use Rattle.pat_commits.specs.Commits.{IsCommit, noted}
-use Rattle.pat_commits.specs.Lendings.{Out, allowance_of, allowances, committed_out}
-use Rattle.pat_commits.specs.Machines.{MachineInvariant}
-use Rattle.pat_commits.specs.Tops.{below, over}
-use Rattle.pat_commit_laws.proofs.Idle.{idle_still, step_open}
-use Rattle.pat_commit_laws.proofs.Runs.{commit_shared, commit_stands}
+use Rattle.pat_machine_spec.specs.Opens.{IsStill}
+use Rattle.pat_machine_spec.specs.Commits.{IsCommit, noted}
+use Rattle.pat_machine_spec.specs.Lendings.{Out, allowance_of, allowances, committed_out}
+use Rattle.pat_machine_spec.specs.Machines.{MachineInvariant}
+use Rattle.pat_machine_spec.specs.Tops.{below, over}
+use Rattle.pat_machine_laws.proofs.Idle.{idle_still, step_open}
+use Rattle.pat_machine_laws.proofs.Runs.{commit_shared, commit_stands}
 use Rattle.pat_machine_threads.specs.declared.settling.Settled.{Settled}
-use Rattle.pat_machine_following.specs.Settling.{IsSettled, half_way, Finishes}
-use Rattle.pat_machine_following.specs.Counting.{AreCounted}
-use Rattle.pat_machine_following.proofs.Settled.{run_of, commit_of}
-use Rattle.pat_machine_following.proofs.Listed.{listed_from_top}
-use Rattle.pat_machine_waits.specs.Noted.{AreNoted}
+use Rattle.pat_machine_steps.specs.shared_steps.Settling.{IsSettled, half_way, Finishes}
+use Rattle.pat_machine_steps.specs.wakeups.Counting.{AreCounted}
+use Rattle.pat_machine_steps.proofs.Settled.{run_of, commit_of}
+use Rattle.pat_machine_steps.proofs.Listed.{listed_from_top}
+use Rattle.pat_machine_indexes.specs.ready_sets.Noted.{AreNoted}
 use Rattle.pat_machine.specs.declared.job.Job.{Job}
 use Rattle.pat_machine.specs.declared.parts.Parts.{Parts}
 use Rattle.pat_machine.specs.Shown.{steps_in, noted_in, place_of}

@@ -1,10 +1,10 @@
 -- A thread at a guard has no local step.
 use Rattle.std.proofs.Common.{◌≡◌, true, List, Option, Some, None, refl, sym}
 use Rattle.std.specs.Prelude.{option_map, is_some}
-use Rattle.pat_model.specs.Programs.{Program, Guard}
-use Rattle.pat_model.specs.Configs.{Frame, Thread}
-use Rattle.pat_model.specs.Steps.{Redex, At, redex, local_at, local_step}
-use Rattle.pat_reduce_threads.specs.ThreadActs.{Guarding, guard_at}
+use Rattle.pat_semantics_spec.specs.Programs.{Program, Guard}
+use Rattle.pat_semantics_spec.specs.Configs.{Frame, Thread}
+use Rattle.pat_semantics_spec.specs.Steps.{Redex, At, redex, local_at, local_step}
+use Rattle.pat_reduce.specs.threads.ThreadActs.{Guarding, guard_at}
 
 still_at : (p : Program) (r : Redex) (frames : List Frame) (g : Guarding) → guard_at r ≡ Some g → local_at p r frames ≡ None
 still_at p (At (Guard x e free cs) env) frames g at = refl

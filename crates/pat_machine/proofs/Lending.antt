@@ -1,8 +1,8 @@
 -- Jobs that leave and come back.
 use Rattle.std.proofs.Common.{◌≡◌, ℕ, zero, suc, ◌+◌, ◌<◌, ◌≤◌, [], ◌∷◌, ◌++◌, length, Option, Some, None, refl, sym, ap, ◌∙◌, arith, slice_set, drop, add-one}
-use Rattle.pat_commits.specs.Lendings.{Out, all_in, allowance_of, allowances}
-use Rattle.pat_commits.specs.Lendings.{NoneOut}
-use Rattle.pat_commit_laws.proofs.Tables.{none_out, allowances_without}
+use Rattle.pat_machine_spec.specs.Lendings.{Out, all_in, allowance_of, allowances}
+use Rattle.pat_machine_spec.specs.Lendings.{NoneOut}
+use Rattle.pat_machine_laws.proofs.Tables.{none_out, allowances_without}
 
 -- an allowance that is out is part of all that is lent
 pub part_lent : (out : Out) (lent t n : ℕ) → lent ≡ allowances out → allowance_of out t ≡ Some n → n ≤ lent

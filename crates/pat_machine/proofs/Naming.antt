@@ -4,26 +4,26 @@ use Rattle.std.specs.Prelude.{replicate}
 use Rattle.std.specs.Map.{lookup}
 use Rattle.std.proofs.lemmas.Bool.{cases_lt}
 use Rattle.std.proofs.lemmas.List.{length-map, length-replicate}
-use Rattle.pat_model.specs.Programs.{Program, Function, function_at}
-use Rattle.pat_model.specs.Configs.{Thread, Config, with_thread, start, start_of}
-use Rattle.pat_model.specs.Runs.{Entry}
+use Rattle.pat_semantics_spec.specs.Programs.{Program, Function, function_at}
+use Rattle.pat_semantics_spec.specs.Configs.{Thread, Config, with_thread, start, start_of}
+use Rattle.pat_semantics_spec.specs.Runs.{Entry}
 use Rattle.pat_core.specs.Views.{program_view}
-use Rattle.pat_reduce_threads.specs.ThreadViews.{frame_view, thread_view}
-use Rattle.pat_commits.specs.Commits.{local_of}
-use Rattle.pat_commits.specs.Lendings.{Out, allowance_of}
-use Rattle.pat_commits.specs.Machines.{MachineInvariant}
-use Rattle.pat_commits.specs.Tops.{below}
-use Rattle.pat_commit_laws.proofs.Locals.{there_after, locals_run}
-use Rattle.pat_commit_laws.proofs.Tables.{allowances_without}
-use Rattle.pat_machine_following.specs.Naming.{sum_of_threads, parts_of}
-use Rattle.pat_machine_following.specs.Counting.{count_at, AreCounted, TellOfEach}
-use Rattle.pat_machine_following.proofs.Freed.{counts_tell}
-use Rattle.pat_machine_following.proofs.Live.{start_names, next_not_named}
-use Rattle.pat_machine_following.proofs.Parts.{run_parts, replay_parts, machine_names}
+use Rattle.pat_reduce.specs.threads.ThreadViews.{frame_view, thread_view}
+use Rattle.pat_machine_spec.specs.Commits.{local_of}
+use Rattle.pat_machine_spec.specs.Lendings.{Out, allowance_of}
+use Rattle.pat_machine_spec.specs.Machines.{MachineInvariant}
+use Rattle.pat_machine_spec.specs.Tops.{below}
+use Rattle.pat_machine_laws.proofs.Locals.{there_after, locals_run}
+use Rattle.pat_machine_laws.proofs.Tables.{allowances_without}
+use Rattle.pat_machine_steps.specs.wakeups.Naming.{sum_of_threads, parts_of}
+use Rattle.pat_machine_steps.specs.wakeups.Counting.{count_at, AreCounted, TellOfEach}
+use Rattle.pat_machine_steps.proofs.Freed.{counts_tell}
+use Rattle.pat_machine_steps.proofs.Live.{start_names, next_not_named}
+use Rattle.pat_machine_steps.proofs.Parts.{run_parts, replay_parts, machine_names}
 use Rattle.pat_machine_threads.specs.declared.settling.Settled.{Settled}
 use Rattle.pat_machine_threads.specs.Settling.{settled_thread}
-use Rattle.pat_machine_following.specs.Settling.{IsSettled}
-use Rattle.pat_machine_following.specs.Leaving.{CanBeCounted}
+use Rattle.pat_machine_steps.specs.shared_steps.Settling.{IsSettled}
+use Rattle.pat_machine_steps.specs.shared_steps.Leaving.{CanBeCounted}
 use Rattle.pat_machine.specs.declared.parts.Parts.{Parts}
 use Rattle.pat_machine.specs.Parted.{IsKept}
 

@@ -5,11 +5,11 @@ use Rattle.std.proofs.lemmas.List.{map-append, length-map}
 use Rattle.std.proofs.lemmas.Bool.{eqb-false}
 use Rattle.pat_reduce.specs.declared.history.Entry.{Entry as CodeEntry}
 use Rattle.pat_reduce.specs.Views.{act_view, entry_view}
-use Rattle.pat_commits.specs.Lendings.{allowance_of, committed_out}
-use Rattle.pat_commits.specs.Lendings.{NoneOut}
-use Rattle.pat_commit_laws.proofs.Runs.{commit_within}
-use Rattle.pat_commit_laws.proofs.Tables.{set_here, set_elsewhere, committed_still_out}
-use Rattle.pat_commit_laws.proofs.Takings.{thread_within, none_in}
+use Rattle.pat_machine_spec.specs.Lendings.{allowance_of, committed_out}
+use Rattle.pat_machine_spec.specs.Lendings.{NoneOut}
+use Rattle.pat_machine_laws.proofs.Runs.{commit_within}
+use Rattle.pat_machine_laws.proofs.Tables.{set_here, set_elsewhere, committed_still_out}
+use Rattle.pat_machine_laws.proofs.Takings.{thread_within, none_in}
 use Rattle.pat_machine.specs.declared.parts.Parts.{Parts}
 use Rattle.pat_machine.specs.declared.job.Job.{Job}
 use Rattle.pat_machine.specs.declared.job.Receipt.{Receipt}
@@ -17,7 +17,7 @@ use Rattle.pat_machine.specs.Shown.{Shown, program_of, entries_of, steps_in, not
 use Rattle.pat_machine.specs.Parted.{shown, IsKept}
 use Rattle.pat_machine.specs.Gives.{IsLent, Lends, TakeGives, Committed, GivesBack, all_back}
 use Rattle.pat_machine.specs.Driving.{Rounds, AreInOrder, GoesOnBy, GoesOn}
-use Rattle.pat_commit_laws.proofs.Ready.{ready_there}
+use Rattle.pat_machine_laws.proofs.Ready.{ready_there}
 
 -- a job that leaves is out
 pub lent_now : (k : Parts) (j : Job) (new : Shown) → IsKept k → Lends (shown k) j new → IsLent new j
@@ -55,9 +55,9 @@ module _ (old m0 m1 m2 : Shown) (worker : ℕ) (j : Job) (r : Receipt) (rs : Lis
   has_step h =
       let may = lends.ready.1 in
       let still = done.idle.0 h in
-      let there : Rattle.pat_commits.specs.Opens.IsOpen (program_of m1) m1.config m1.named.limit (record { thread = j.thread; act = may.0 }) =
-      subst (λ x. Rattle.pat_commits.specs.Opens.IsOpen (program_of m1) x m1.named.limit (record { thread = j.thread; act = may.0 })) (sym same_config)
-      (subst (λ x. Rattle.pat_commits.specs.Opens.IsOpen (Rattle.pat_core.specs.Views.program_view x.program) m0.config x.limit (record { thread = j.thread; act = may.0 })) (sym same_named) may.1)
+      let there : Rattle.pat_machine_spec.specs.Opens.IsOpen (program_of m1) m1.config m1.named.limit (record { thread = j.thread; act = may.0 }) =
+      subst (λ x. Rattle.pat_machine_spec.specs.Opens.IsOpen (program_of m1) x m1.named.limit (record { thread = j.thread; act = may.0 })) (sym same_config)
+      (subst (λ x. Rattle.pat_machine_spec.specs.Opens.IsOpen (Rattle.pat_core.specs.Views.program_view x.program) m0.config x.limit (record { thread = j.thread; act = may.0 })) (sym same_named) may.1)
       in
       still may.0 there
 

@@ -1,6 +1,6 @@
 -- What a drive leaves: rounds of one job each, and receipts that are just the further entries, in order, each with its place.
 use Rattle.std.specs.Prelude.{◌≡◌, ℕ, ◌+◌, List, [], ◌∷◌, ◌++◌, length, map, Some}
-use Rattle.pat_commits.specs.Lendings.{NoneOut}
+use Rattle.pat_machine_spec.specs.Lendings.{NoneOut}
 use Rattle.pat_machine.specs.declared.job.Job.{Job}
 use Rattle.pat_machine.specs.declared.job.Receipt.{Receipt}
 use Rattle.pat_machine.specs.Shown.{Shown}

@@ -1,19 +1,19 @@
 -- A commit whose steps were taken, before it is entered.
 use Rattle.std.specs.Prelude.{◌≡◌, ℕ, ◌<◌, List, Option, Some, map, IsTrue, IsFalse, vec_len, vec_capacity}
-use Rattle.pat_model.specs.Programs.{is_among}
-use Rattle.pat_model.specs.Configs.{Thread, Message, Config, thread_at, thread_refers}
-use Rattle.pat_model.specs.Steps.{Act, ActReceive, message_at}
+use Rattle.pat_semantics_spec.specs.Programs.{is_among}
+use Rattle.pat_semantics_spec.specs.Configs.{Thread, Message, Config, thread_at, thread_refers}
+use Rattle.pat_semantics_spec.specs.Steps.{Act, ActReceive, message_at}
 use Rattle.pat_core.specs.Views.{program_view}
 use Rattle.pat_reduce.specs.Views.{entry_view}
-use Rattle.pat_commits.specs.Commits.{IsCommit}
-use Rattle.pat_commits.specs.Lendings.{allowance_of, allowances}
-use Rattle.pat_commits.specs.Machines.{MachineInvariant}
-use Rattle.pat_commits.specs.Tops.{top_of}
-use Rattle.pat_machine_waits.specs.Wakings.{is_named_by}
-use Rattle.pat_machine_waits.specs.Waits.{HasSpace, CanHold, HasRoom}
-use Rattle.pat_machine_waits.specs.Noted.{AreNoted}
-use Rattle.pat_machine_following.specs.Naming.{times_in_thread}
-use Rattle.pat_machine_following.specs.Counting.{AreCounted}
+use Rattle.pat_machine_spec.specs.Commits.{IsCommit}
+use Rattle.pat_machine_spec.specs.Lendings.{allowance_of, allowances}
+use Rattle.pat_machine_spec.specs.Machines.{MachineInvariant}
+use Rattle.pat_machine_spec.specs.Tops.{top_of}
+use Rattle.pat_machine_indexes.specs.ready_sets.Wakings.{is_named_by}
+use Rattle.pat_machine_indexes.specs.ready_sets.Waits.{HasSpace, CanHold, HasRoom}
+use Rattle.pat_machine_indexes.specs.ready_sets.Noted.{AreNoted}
+use Rattle.pat_machine_steps.specs.wakeups.Naming.{times_in_thread}
+use Rattle.pat_machine_steps.specs.wakeups.Counting.{AreCounted}
 use Rattle.pat_machine.specs.declared.job.Job.{Job}
 use Rattle.pat_machine.specs.declared.parts.Parts.{Parts}
 

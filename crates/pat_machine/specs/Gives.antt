@@ -1,16 +1,16 @@
 -- What the calls of a machine give.
 use Rattle.std.specs.Prelude.{◌≡◌, ℕ, ◌+◌, ◌-◌, ◌<◌, min, length, Option, Some, None, option_map, Result, Ok, Err, slice_set, ◌↔◌, ◌⊎◌}
-use Rattle.pat_model.specs.Configs.{Thread, thread_at}
-use Rattle.pat_model.specs.Runs.{Outcome, EndDone, EndWaiting, EndFull, EndBudget, step_count, outcome}
-use Rattle.pat_reduce_threads.specs.declared.state.ThreadState.{ThreadState}
-use Rattle.pat_reduce_threads.specs.ThreadViews.{thread_view}
+use Rattle.pat_semantics_spec.specs.Configs.{Thread, thread_at}
+use Rattle.pat_semantics_spec.specs.Runs.{Outcome, EndDone, EndWaiting, EndFull, EndBudget, step_count, outcome}
+use Rattle.pat_reduce.specs.declared.threads.state.ThreadState.{ThreadState}
+use Rattle.pat_reduce.specs.threads.ThreadViews.{thread_view}
 use Rattle.pat_reduce.specs.Views.{act_view, entry_view}
-use Rattle.pat_commits.specs.Opens.{IsStill}
-use Rattle.pat_commits.specs.Commits.{IsCommit}
-use Rattle.pat_commits.specs.Tops.{top_of}
-use Rattle.pat_commits.specs.Lendings.{allowance_of, allowances, all_in, committed_out}
-use Rattle.pat_commits.specs.Lendings.{NoneOut, SomeOut}
-use Rattle.pat_commits.specs.Turns.{IsReady, IsAtRest, IsTurn}
+use Rattle.pat_machine_spec.specs.Opens.{IsStill}
+use Rattle.pat_machine_spec.specs.Commits.{IsCommit}
+use Rattle.pat_machine_spec.specs.Tops.{top_of}
+use Rattle.pat_machine_spec.specs.Lendings.{allowance_of, allowances, all_in, committed_out}
+use Rattle.pat_machine_spec.specs.Lendings.{NoneOut, SomeOut}
+use Rattle.pat_machine_spec.specs.Turns.{IsReady, IsAtRest, IsTurn}
 use Rattle.pat_machine.specs.declared.job.Job.{Job}
 use Rattle.pat_machine.specs.declared.job.Receipt.{Receipt}
 use Rattle.pat_machine.specs.declared.job.Outcome.{Outcome as CodeOutcome}

@@ -2,10 +2,10 @@
 use Rattle.std.specs.Prelude.{◌≡◌, map}
 use Rattle.pat_core.specs.Views.{program_view}
 use Rattle.pat_reduce.specs.Views.{entry_view}
-use Rattle.pat_commits.specs.Lendings.{allowances}
-use Rattle.pat_commits.specs.Machines.{MachineInvariant}
-use Rattle.pat_machine_waits.specs.Noted.{AreNoted}
-use Rattle.pat_machine_following.specs.Counting.{AreCounted}
+use Rattle.pat_machine_spec.specs.Lendings.{allowances}
+use Rattle.pat_machine_spec.specs.Machines.{MachineInvariant}
+use Rattle.pat_machine_indexes.specs.ready_sets.Noted.{AreNoted}
+use Rattle.pat_machine_steps.specs.wakeups.Counting.{AreCounted}
 use Rattle.pat_machine.specs.declared.parts.Parts.{Parts}
 use Rattle.pat_machine.specs.Shown.{Shown}
 

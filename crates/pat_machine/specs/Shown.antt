@@ -1,15 +1,15 @@
 -- What contracts see of a machine.
 use Rattle.std.specs.Prelude.{◌≡◌, ℕ, List, [], ◌∷◌, ◌++◌, length, map, Option, Some, None, nat_eq, if◌then◌else◌}
-use Rattle.pat_model.specs.Programs.{Program}
-use Rattle.pat_model.specs.Configs.{Config, start}
-use Rattle.pat_model.specs.Runs.{Entry, entry_steps}
+use Rattle.pat_semantics_spec.specs.Programs.{Program}
+use Rattle.pat_semantics_spec.specs.Configs.{Config, start}
+use Rattle.pat_semantics_spec.specs.Runs.{Entry, entry_steps}
 use Rattle.pat_core.specs.declared.program.Program.{Program as CodeProgram}
 use Rattle.pat_core.specs.Views.{program_view}
 use Rattle.pat_reduce.specs.declared.history.Entry.{Entry as CodeEntry}
 use Rattle.pat_reduce.specs.Views.{entry_view}
-use Rattle.pat_commits.specs.Lendings.{Out}
-use Rattle.pat_commits.specs.Machines.{MachineFacts}
-use Rattle.pat_commits.specs.Lendings.{NoneOut}
+use Rattle.pat_machine_spec.specs.Lendings.{Out}
+use Rattle.pat_machine_spec.specs.Machines.{MachineFacts}
+use Rattle.pat_machine_spec.specs.Lendings.{NoneOut}
 use Rattle.pat_machine.specs.declared.job.Named.{Named}
 
 -- what stays the same, the configuration, the history, the steps left, the allowances that are out by thread number, and the thread last taken

@@ -1,11 +1,11 @@
 // Commits.
 ghost use Rattle.std.specs.Prelude.{◌≡◌, ◌<◌, Some, None, IfOk, OnOk, OnErr, IfErr, IsTrue, vec_len, vec_capacity};
-ghost use Rattle.pat_model.specs.Configs.{Config as ConfigOf};
+ghost use Rattle.pat_semantics_spec.specs.Configs.{Config as ConfigOf};
 ghost use Rattle.pat_core.specs.Views.{program_view};
-ghost use Rattle.pat_reduce_threads.specs.ThreadViews.{thread_view};
-ghost use Rattle.pat_commits.specs.Commits.{IsLocalRun};
-ghost use Rattle.pat_machine_following.specs.Taking.{taken_act, taken_message};
-ghost use Rattle.pat_machine_following.specs.Settling.{IsSettled, StandsStill};
+ghost use Rattle.pat_reduce.specs.threads.ThreadViews.{thread_view};
+ghost use Rattle.pat_machine_spec.specs.Commits.{IsLocalRun};
+ghost use Rattle.pat_machine_steps.specs.shared_steps.Taking.{taken_act, taken_message};
+ghost use Rattle.pat_machine_steps.specs.shared_steps.Settling.{IsSettled, StandsStill};
 ghost use Rattle.pat_machine.specs.Parted.{shown, IsKept};
 ghost use Rattle.pat_machine.specs.Entering.{CanEnter, ListsTop, WentFrom};
 ghost use Rattle.pat_machine.specs.Gives.{IsLent, Committed, CommitGives};
@@ -13,10 +13,9 @@ ghost use Rattle.pat_machine.specs.Gives.{IsLent, Committed, CommitGives};
 use crate::entry::{note, steps_of, take_back};
 use crate::job::{CommitRefused, Job, Receipt};
 use crate::parts::Parts;
-use pat_machine_following::{State, Taken, act_of, list_top, note_threads, share, share_in_place};
+use pat_machine_steps::{State, Taken, act_of, list_top, note_threads, share, share_in_place};
 use pat_machine_threads::{LocalRun, Settled, is_top, settle_top};
-use pat_reduce::Entry;
-use pat_reduce_threads::guard_of;
+use pat_reduce::{Entry, guard_of};
 use pat_sequences::let_go;
 use std::alloc::{AllocError, Global};
 

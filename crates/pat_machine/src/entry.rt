@@ -1,8 +1,8 @@
 // The entry of a commit.
 ghost use Rattle.std.specs.Prelude.{◌≡◌, ◌<◌, ◌≤◌, length, option_map, vec_len, vec_capacity};
-ghost use Rattle.pat_model.specs.Runs.{entry_steps};
+ghost use Rattle.pat_semantics_spec.specs.Runs.{entry_steps};
 ghost use Rattle.pat_reduce.specs.Views.{act_view, entry_view};
-ghost use Rattle.pat_commits.specs.Lendings.{committed_out};
+ghost use Rattle.pat_machine_spec.specs.Lendings.{committed_out};
 ghost use Rattle.pat_machine.specs.Shown.{noted_in, place_of};
 
 use pat_reduce::{Act, Entry};

@@ -12,4 +12,4 @@ mod taking;
 
 pub use job::{CommitRefused, Job, Named, Outcome, Receipt, StateRefused, TakeRefused};
 pub use machine::Machine;
-pub use pat_machine_following::Remains;
+pub use pat_machine_steps::Remains;

@@ -1,8 +1,8 @@
 // The machine.
 ghost use Rattle.std.specs.Prelude.{◌≡◌, ℕ, ◌<◌, ◌≤◌, List, IfOk, OnOk, OnErr};
-ghost use Rattle.pat_reduce_threads.specs.ThreadViews.{thread_view};
+ghost use Rattle.pat_reduce.specs.threads.ThreadViews.{thread_view};
 ghost use Rattle.pat_reduce.specs.Views.{config_view};
-ghost use Rattle.pat_commits.specs.Commits.{IsLocalRun};
+ghost use Rattle.pat_machine_spec.specs.Commits.{IsLocalRun};
 ghost use Rattle.pat_machine.specs.Remains.{remains_of};
 ghost use Rattle.pat_machine.specs.Shown.{program_of, IsMachine, IsNew};
 ghost use Rattle.pat_machine.specs.Gives.{TakeGives, TakeThreadGives, StateGives, CommitGives, GivesBack, OutcomeGives, all_back};
@@ -11,13 +11,13 @@ ghost use Rattle.pat_machine.specs.declared.job.Receipt.{Receipt as ReceiptOf};
 
 use crate::job::{CommitRefused, Job, Named, Outcome, Receipt, StateRefused, TakeRefused};
 use crate::parts::Parts;
-use pat_accepted::Accepted;
 use pat_core::Program;
-use pat_kept::Kept;
-use pat_machine_following::Remains;
+use pat_logged_value::Kept;
+use pat_machine_steps::Remains;
 use pat_machine_threads::LocalRun;
 use pat_reduce::{Config, Entry, ThreadState};
 use pat_sequences::Text;
+use pat_typed_program::Accepted;
 use std::alloc::{AllocError, Global};
 use std::marker::Model;
 

@@ -4,8 +4,8 @@ ghost use Rattle.pat_machine.specs.Gives.{OutcomeGives};
 
 use crate::job::Outcome;
 use crate::parts::Parts;
-use pat_machine_following::Prospect;
-use pat_model_laws::outcome_laws;
+use pat_machine_steps::Prospect;
+use pat_semantics_laws::outcome_laws;
 
 impl Parts {
     /// The outcome, where no thread is out and nothing can be taken.

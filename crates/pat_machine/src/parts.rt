@@ -1,17 +1,17 @@
 // What a machine is made of.
 ghost use Rattle.std.specs.Prelude.{◌≡◌, ℕ, ◌<◌, ◌≤◌, [], IfOk};
-ghost use Rattle.pat_model.specs.WellFormed.{WellFormed};
-ghost use Rattle.pat_typing.specs.Typings.{IsTypable};
+ghost use Rattle.pat_semantics_spec.specs.WellFormed.{WellFormed};
+ghost use Rattle.pat_type_system_spec.specs.Typings.{IsTypable};
 ghost use Rattle.pat_core.specs.Views.{program_view};
-ghost use Rattle.pat_commits.specs.Lendings.{all_in};
+ghost use Rattle.pat_machine_spec.specs.Lendings.{all_in};
 ghost use Rattle.pat_machine.specs.Parted.{shown, IsKept};
 ghost use Rattle.pat_machine.specs.Shown.{IsNew};
 
 use pat_core::Program;
-use pat_executable::Executable;
-use pat_machine_following::{Names, State};
-use pat_machine_waits::Waits;
+use pat_machine_indexes::Waits;
+use pat_machine_steps::{Names, State};
 use pat_reduce::Entry;
+use pat_reduce_values::Executable;
 use std::alloc::{AllocError, Global};
 
 /// The parts of a machine, which a commit changes one after another.

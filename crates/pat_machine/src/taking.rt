@@ -1,16 +1,16 @@
 // Jobs that are taken and given back.
 ghost use Rattle.std.specs.Prelude.{◌≡◌, ℕ, ◌<◌, length, find, Some, None, ◌↔◌, IsTrue};
-ghost use Rattle.pat_model.specs.Configs.{Thread as ThreadOf, thread_at};
-ghost use Rattle.pat_commits.specs.Lendings.{all_in, allowance_of};
+ghost use Rattle.pat_semantics_spec.specs.Configs.{Thread as ThreadOf, thread_at};
+ghost use Rattle.pat_machine_spec.specs.Lendings.{all_in, allowance_of};
 ghost use Rattle.pat_core.specs.Views.{program_view};
-ghost use Rattle.pat_commits.specs.Turns.{is_ready, ready_above, turn};
+ghost use Rattle.pat_machine_spec.specs.Turns.{is_ready, ready_above, turn};
 ghost use Rattle.pat_machine.specs.Parted.{shown, IsKept};
 ghost use Rattle.pat_machine.specs.Gives.{IsLent, MayTake, Lends, TakeGives, TakeThreadGives, StateGives, GivesBack, all_back};
 
 use crate::job::{Job, StateRefused, TakeRefused};
 use crate::parts::Parts;
+use pat_machine_indexes::lesser;
 use pat_machine_threads::copy_top;
-use pat_machine_waits::lesser;
 use pat_reduce::ThreadState;
 
 // The most steps of a job.

@@ -3,11 +3,11 @@ use Rattle.std.proofs.Common.{◌≡◌, ℕ, suc, ◌≤◌, Bool, true, List, 
 use Rattle.std.specs.Prelude.{◌==◌}
 use Rattle.std.proofs.lemmas.Bool.{eqb-true}
 use Rattle.std.proofs.lemmas.List.{length-map, append-nil}
-use Rattle.pat_model.specs.Configs.{Frame, Thread, Config, thread_at, with_thread}
-use Rattle.pat_commits.specs.Tops.{below, over}
-use Rattle.pat_reduce_threads.specs.declared.state.ThreadState.{ThreadState}
-use Rattle.pat_reduce_threads.specs.ThreadViews.{frame_view, thread_view}
-use Rattle.pat_locality_laws.proofs.Locals.{there_after, with_twice, with_same}
+use Rattle.pat_semantics_spec.specs.Configs.{Frame, Thread, Config, thread_at, with_thread}
+use Rattle.pat_machine_spec.specs.Tops.{below, over}
+use Rattle.pat_reduce.specs.declared.threads.state.ThreadState.{ThreadState}
+use Rattle.pat_reduce.specs.threads.ThreadViews.{frame_view, thread_view}
+use Rattle.pat_machine_laws.proofs.Locals.{there_after, with_twice, with_same}
 use Rattle.pat_machine_threads.specs.declared.asides.Aside.{Aside}
 use Rattle.pat_machine_threads.specs.Aside.{aside_view}
 use Rattle.pat_machine_states.specs.Asides.{IsAside}

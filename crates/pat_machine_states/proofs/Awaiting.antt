@@ -5,29 +5,29 @@ use Rattle.std.specs.List.{AllByRecursion}
 use Rattle.std.proofs.lemmas.Bool.{cond-true}
 use Rattle.std.proofs.lemmas.List.{length-append, length-map}
 use Rattle.std.proofs.lemmas.List.Elements.{filter-append}
-use Rattle.pat_model.specs.Values.{Value, Const, Mailbox, Env, value_at}
-use Rattle.pat_model.specs.Programs.{Program, Guard, Clause}
-use Rattle.pat_model.specs.Configs.{Thread, Message, Config, thread_at}
-use Rattle.pat_model.specs.Steps.{Redex, At, redex, ActReceive, at_node, clause_for, received, step}
-use Rattle.pat_model.specs.Faults.{IsIn}
-use Rattle.pat_model_laws.specs.Laws.{IsEnabled}
-use Rattle.pat_model_laws.proofs.Ascending.{found_by_number}
-use Rattle.pat_locality_laws.proofs.Opens.{some_of}
-use Rattle.pat_reduce_threads.specs.declared.state.Message.{Message as CodeMessage}
-use Rattle.pat_reduce_threads.specs.ThreadViews.{message_view}
-use Rattle.pat_reduce_threads.specs.ThreadActs.{Guarding, guarding, guard_at, message_in, clause_takes, takes, received_by, received_of, redex_received}
+use Rattle.pat_semantics_spec.specs.Values.{Value, Const, Mailbox, Env, value_at}
+use Rattle.pat_semantics_spec.specs.Programs.{Program, Guard, Clause}
+use Rattle.pat_semantics_spec.specs.Configs.{Thread, Message, Config, thread_at}
+use Rattle.pat_semantics_spec.specs.Steps.{Redex, At, redex, ActReceive, at_node, clause_for, received, step}
+use Rattle.pat_semantics_spec.specs.Faults.{IsIn}
+use Rattle.pat_semantics_laws.specs.Laws.{IsEnabled}
+use Rattle.pat_semantics_laws.proofs.Ascending.{found_by_number}
+use Rattle.pat_machine_laws.proofs.Opens.{some_of}
+use Rattle.pat_reduce.specs.declared.threads.state.Message.{Message as CodeMessage}
+use Rattle.pat_reduce.specs.threads.ThreadViews.{message_view}
+use Rattle.pat_reduce.specs.threads.ThreadActs.{Guarding, guarding, guard_at, message_in, clause_takes, takes, received_by, received_of, redex_received}
 use Rattle.pat_reduce.specs.Acts.{EnabledAct, act_at, guard_act, plain_act}
 use Rattle.pat_reduce.proofs.Candidates.{act_found}
 use Rattle.pat_reduce.proofs.Shared.{taken, receive_step}
-use Rattle.pat_pending_laws.specs.Pending.{Ascend, messages_of}
-use Rattle.pat_pending_laws.proofs.LookUps.{own_are_pending}
-use Rattle.pat_machine_pending.specs.Mailboxes.{Mailbox as Box, pending_at as pending_of}
-use Rattle.pat_machine_pending.specs.Boxes.{boxes_view}
-use Rattle.pat_machine_pending.proofs.Boxed.{pending_view, map_get}
+use Rattle.pat_machine_laws.specs.mailbox_index.Pending.{Ascend, messages_of}
+use Rattle.pat_machine_laws.proofs.MailboxIndexLookUps.{own_are_pending}
+use Rattle.pat_machine_indexes.specs.messages.Mailboxes.{Mailbox as Box, pending_at as pending_of}
+use Rattle.pat_machine_indexes.specs.messages.Boxes.{boxes_view}
+use Rattle.pat_machine_indexes.proofs.Boxed.{pending_view, map_get}
 use Rattle.pat_machine_states.specs.Boxes.{state_view, IsLatest, IsState}
 use Rattle.pat_machine_states.specs.Stepping.{mailbox_of}
 use Rattle.pat_machine_states.proofs.Reaching.{some_map}
-use Rattle.pat_locality_laws.specs.Wakings.{mailbox_in, guarded_at, IsWaiting}
+use Rattle.pat_machine_laws.specs.wakeups.Wakings.{mailbox_in, guarded_at, IsWaiting}
 
 on_value : (free : Option ℕ) (o : Option Value) (cs : List Clause) (env : Env) → mailbox_in o ≡ option_map mailbox_of (guarding free cs env o)
 on_value free (Some (Mailbox a)) cs env = refl

@@ -4,36 +4,36 @@ use Rattle.std.specs.Prelude.{◌&&◌, if◌then◌else◌, option_map, option_
 use Rattle.std.specs.List.{AllByRecursion}
 use Rattle.std.proofs.lemmas.Bool.{eqb-true, ne_eqb, lt-ltb, cases_eq, and_parts, not-true, cond-true, cond-false}
 use Rattle.std.proofs.lemmas.List.{map-append, length-append, length-map}
-use Rattle.pat_model.specs.Programs.{Program, Function, function_at, is_among}
-use Rattle.pat_model.specs.Configs.{Thread, Message, Config, Control, start, start_of, thread_at, with_thread, has_pending, is_reached_by_none_but}
-use Rattle.pat_model.specs.Orders.{IsOrdered}
-use Rattle.pat_model.specs.Steps.{Act, ActNew, ActSend, ActFree, ActReceive, Redex, Step, redex, at_node, thread_of, message_at, thread_step, step}
-use Rattle.pat_model_laws.specs.Laws.{IsEnabled}
-use Rattle.pat_model_laws.proofs.Inversion.{step_of}
+use Rattle.pat_semantics_spec.specs.Programs.{Program, Function, function_at, is_among}
+use Rattle.pat_semantics_spec.specs.Configs.{Thread, Message, Config, Control, start, start_of, thread_at, with_thread, has_pending, is_reached_by_none_but}
+use Rattle.pat_semantics_spec.specs.Orders.{IsOrdered}
+use Rattle.pat_semantics_spec.specs.Steps.{Act, ActNew, ActSend, ActFree, ActReceive, Redex, Step, redex, at_node, thread_of, message_at, thread_step, step}
+use Rattle.pat_semantics_laws.specs.Laws.{IsEnabled}
+use Rattle.pat_semantics_laws.proofs.Inversion.{step_of}
 use Rattle.pat_reduce_values.specs.declared.error.StepError.{StepError}
 use Rattle.pat_reduce_values.specs.declared.error.StepError.TheVariants.{Disabled, NoMemory}
 use Rattle.pat_reduce_values.specs.Results.{StepGives}
-use Rattle.pat_reduce_threads.specs.declared.state.Message.{Message as CodeMessage}
-use Rattle.pat_reduce_threads.specs.ThreadViews.{message_view}
-use Rattle.pat_reduce_threads.specs.ThreadActs.{Guarding, guard_at, is_new, redex_message, redex_received}
+use Rattle.pat_reduce.specs.declared.threads.state.Message.{Message as CodeMessage}
+use Rattle.pat_reduce.specs.threads.ThreadViews.{message_view}
+use Rattle.pat_reduce.specs.threads.ThreadActs.{Guarding, guard_at, is_new, redex_message, redex_received}
 use Rattle.pat_reduce.specs.Acts.{may_free, freed_by, redex_freed}
 use Rattle.pat_reduce.proofs.Shared.{made, sent, freed, taken, new_step, send_step, free_step, receive_step}
-use Rattle.pat_machine_placed.specs.Alone.{alone, back, is_beside}
-use Rattle.pat_machine_placed.specs.Laws.{Sends}
-use Rattle.pat_machine_placed.proofs.Steps.{steps_alone, beside_leaves}
-use Rattle.pat_machine_placed.proofs.Backs.{own_there}
-use Rattle.pat_machine_placed.proofs.Sending.{send_leaves}
-use Rattle.pat_pending_laws.specs.Pending.{messages_of, all_of, live_of, box_at, pending_at, AreKept}
-use Rattle.pat_pending_laws.proofs.Insertions.{all_in_order}
-use Rattle.pat_pending_laws.proofs.Boxes.{pending_all}
-use Rattle.pat_pending_laws.proofs.Changes.{makes_last, sends_last, takes_one, frees_one}
-use Rattle.pat_pending_laws.proofs.LookUps.{pending_is_own, live_is_listed, all_are_counted, place_is_found}
-use Rattle.pat_machine_pending.specs.Mailboxes.{Mailbox, IsLive, mailbox_at, all_pending, pending_at as pending_of}
-use Rattle.pat_machine_pending.specs.Boxes.{boxes_view}
-use Rattle.pat_machine_pending.specs.Deliveries.{IsDelivery}
-use Rattle.pat_machine_pending.proofs.Boxed.{pending_view, live_view, is_live, none_pending, set_view, push_view, map_get, map_remove, all_unmap, count_view}
-use Rattle.pat_machine_placed.specs.InPlace.{HasNone, frees_by, redex_frees, IsSent, SendsOut, IsMade, MakesOut, IsFreed, FreesOut}
-use Rattle.pat_machine_placed.specs.Steps.{IsTaken, StepsApart}
+use Rattle.pat_machine_threads.specs.store.Alone.{alone, back, is_beside}
+use Rattle.pat_machine_threads.specs.store.Laws.{Sends}
+use Rattle.pat_machine_threads.proofs.Steps.{steps_alone, beside_leaves}
+use Rattle.pat_machine_threads.proofs.Backs.{own_there}
+use Rattle.pat_machine_threads.proofs.Sending.{send_leaves}
+use Rattle.pat_machine_laws.specs.mailbox_index.Pending.{messages_of, all_of, live_of, box_at, pending_at, AreKept}
+use Rattle.pat_machine_laws.proofs.Insertions.{all_in_order}
+use Rattle.pat_machine_laws.proofs.Boxes.{pending_all}
+use Rattle.pat_machine_laws.proofs.MailboxIndexChanges.{makes_last, sends_last, takes_one, frees_one}
+use Rattle.pat_machine_laws.proofs.MailboxIndexLookUps.{pending_is_own, live_is_listed, all_are_counted, place_is_found}
+use Rattle.pat_machine_indexes.specs.messages.Mailboxes.{Mailbox, IsLive, mailbox_at, all_pending, pending_at as pending_of}
+use Rattle.pat_machine_indexes.specs.messages.Boxes.{boxes_view}
+use Rattle.pat_machine_indexes.specs.messages.Deliveries.{IsDelivery}
+use Rattle.pat_machine_indexes.proofs.Boxed.{pending_view, live_view, is_live, none_pending, set_view, push_view, map_get, map_remove, all_unmap, count_view}
+use Rattle.pat_machine_threads.specs.store.InPlace.{HasNone, frees_by, redex_frees, IsSent, SendsOut, IsMade, MakesOut, IsFreed, FreesOut}
+use Rattle.pat_machine_threads.specs.store.Steps.{IsTaken, StepsApart}
 use Rattle.pat_machine_states.specs.Boxes.{state_view, AreOf, IsState}
 use Rattle.pat_machine_states.specs.Stepping.{ReferToLive}
 

@@ -1,5 +1,5 @@
 -- for others: lemmas on threads that are put in their places
-pub use Rattle.pat_locality_laws.proofs.Locals
+pub use Rattle.pat_machine_laws.proofs.Locals
 -- the crate's own
 mod Opened
 mod Prospected

@@ -2,18 +2,18 @@
 use Rattle.std.proofs.Common.{◌≡◌, ℕ, ◌<◌, ◌≤◌, true, false, not, ◌&&◌, length, Option, Some, None, refl, sym, ap, ◌∙◌, subst, ⊎_elim, arith}
 use Rattle.std.specs.Prelude.{is_some, option_and_then, []}
 use Rattle.std.proofs.lemmas.Bool.{and_parts, and_cases, not-true, not-false, ltb-true, ltb-false, false_from_ne_true}
-use Rattle.pat_model.specs.Programs.{Program}
-use Rattle.pat_model.specs.Configs.{Config, thread_at}
-use Rattle.pat_model.specs.Orders.{IsOrdered}
-use Rattle.pat_model.specs.Steps.{Act, ActLocal, ActNew, ActSend, ActSpawn, ActPrint, ActEnd, ActFree, ActReceive, step}
-use Rattle.pat_model.specs.Runs.{run_from, can_step_thread}
-use Rattle.pat_model_laws.specs.Laws.{IsEnabled}
-use Rattle.pat_model_laws.proofs.Lists.{clash}
-use Rattle.pat_model_laws.proofs.Enabled.{thread_exact}
+use Rattle.pat_semantics_spec.specs.Programs.{Program}
+use Rattle.pat_semantics_spec.specs.Configs.{Config, thread_at}
+use Rattle.pat_semantics_spec.specs.Orders.{IsOrdered}
+use Rattle.pat_semantics_spec.specs.Steps.{Act, ActLocal, ActNew, ActSend, ActSpawn, ActPrint, ActEnd, ActFree, ActReceive, step}
+use Rattle.pat_semantics_spec.specs.Runs.{run_from, can_step_thread}
+use Rattle.pat_semantics_laws.specs.Laws.{IsEnabled}
+use Rattle.pat_semantics_laws.proofs.Lists.{clash}
+use Rattle.pat_semantics_laws.proofs.Enabled.{thread_exact}
 use Rattle.pat_reduce.specs.Acts.{EnabledAct, IsLeast}
-use Rattle.pat_commits.specs.Opens.{has_space, can_go_on, IsStill}
-use Rattle.pat_commits.specs.Commits.{ReceivesLeast, Shares}
-use Rattle.pat_locality_laws.proofs.Opens.{some_of, send_alone, open_exact}
+use Rattle.pat_machine_spec.specs.Opens.{has_space, can_go_on, IsStill}
+use Rattle.pat_machine_spec.specs.Commits.{ReceivesLeast, Shares}
+use Rattle.pat_machine_laws.proofs.Opens.{some_of, send_alone, open_exact}
 use Rattle.pat_machine_states.specs.Opening.{OpenAct, is_sending}
 
 -- a thread that isn't there has no step

@@ -1,19 +1,19 @@
 -- How the threads stand, by the tests.
 use Rattle.std.proofs.Common.{◌≡◌, ℕ, Bool, true, false, ◌&&◌, ◌||◌, nat_eq, List, [], length, Option, Some, None, refl, ap, ◌∙◌}
 use Rattle.std.specs.List.{list_any}
-use Rattle.pat_model.specs.Programs.{Program}
+use Rattle.pat_semantics_spec.specs.Programs.{Program}
 use Rattle.std.proofs.lemmas.Bool.{eqb-false, or_left, or_right}
-use Rattle.pat_model.specs.Configs.{Thread, Config}
-use Rattle.pat_model.specs.Steps.{Step, step}
-use Rattle.pat_model.specs.Runs.{can_step_thread}
-use Rattle.pat_model_laws.specs.Laws.{IsEnabled}
-use Rattle.pat_model_laws.proofs.Lists.{any_some, clash}
-use Rattle.pat_model_laws.proofs.Inversion.{step_of}
-use Rattle.pat_model_laws.proofs.Enabled.{some_key, step_found, found_step}
-use Rattle.pat_commits.specs.Opens.{IsOpen, has_space, can_go_on}
-use Rattle.pat_locality_laws.proofs.Opens.{open_exact}
-use Rattle.pat_locality_laws.specs.Senders.{AreCandidates}
-use Rattle.pat_locality_laws.proofs.Senders.{open_in_both, enabled_in_both}
+use Rattle.pat_semantics_spec.specs.Configs.{Thread, Config}
+use Rattle.pat_semantics_spec.specs.Steps.{Step, step}
+use Rattle.pat_semantics_spec.specs.Runs.{can_step_thread}
+use Rattle.pat_semantics_laws.specs.Laws.{IsEnabled}
+use Rattle.pat_semantics_laws.proofs.Lists.{any_some, clash}
+use Rattle.pat_semantics_laws.proofs.Inversion.{step_of}
+use Rattle.pat_semantics_laws.proofs.Enabled.{some_key, step_found, found_step}
+use Rattle.pat_machine_spec.specs.Opens.{IsOpen, has_space, can_go_on}
+use Rattle.pat_machine_laws.proofs.Opens.{open_exact}
+use Rattle.pat_machine_laws.specs.wakeups.Senders.{AreCandidates}
+use Rattle.pat_machine_laws.proofs.Senders.{open_in_both, enabled_in_both}
 
 -- threads are left where the list isn't empty
 pub not_empty : (ts us : List (ℕ × Thread)) → ts ≡ us → nat_eq (length ts) 0 ≡ false → us ≡ [] → ⊥

@@ -4,21 +4,21 @@ use Rattle.std.specs.Prelude.{◌↔◌, option_map, option_and_then, is_some, i
 use Rattle.std.specs.List.{list_any}
 use Rattle.std.specs.Map.{set_value}
 use Rattle.std.proofs.lemmas.Bool.{eqb-true}
-use Rattle.pat_model.specs.Values.{Value, Const, Mailbox, Env, value_at}
-use Rattle.pat_model.specs.Programs.{Program, Guard, Clause}
-use Rattle.pat_model.specs.Configs.{Control, Frame, Thread, Config, thread_at, with_thread, thread_refers, message_refers, other_refers}
-use Rattle.pat_model.specs.Steps.{Act, ActFree, Redex, At, redex, at_node, step}
-use Rattle.pat_model_laws.specs.Laws.{IsEnabled}
-use Rattle.pat_commits.specs.Tops.{over}
-use Rattle.pat_locality_laws.proofs.Opens.{some_of}
-use Rattle.pat_reduce_threads.specs.ThreadActs.{Guarding, guarding, guard_at}
+use Rattle.pat_semantics_spec.specs.Values.{Value, Const, Mailbox, Env, value_at}
+use Rattle.pat_semantics_spec.specs.Programs.{Program, Guard, Clause}
+use Rattle.pat_semantics_spec.specs.Configs.{Control, Frame, Thread, Config, thread_at, with_thread, thread_refers, message_refers, other_refers}
+use Rattle.pat_semantics_spec.specs.Steps.{Act, ActFree, Redex, At, redex, at_node, step}
+use Rattle.pat_semantics_laws.specs.Laws.{IsEnabled}
+use Rattle.pat_machine_spec.specs.Tops.{over}
+use Rattle.pat_machine_laws.proofs.Opens.{some_of}
+use Rattle.pat_reduce.specs.threads.ThreadActs.{Guarding, guarding, guard_at}
 use Rattle.pat_reduce.specs.Acts.{may_free, freed_by, act_if, free_act}
 use Rattle.pat_reduce.proofs.Shared.{freed as left_by, free_step}
-use Rattle.pat_locality_laws.specs.Wakings.{mailbox_in}
-use Rattle.pat_machine_names.specs.declared.freed.Counted.{Counted}
-use Rattle.pat_machine_names.specs.declared.freed.Counted.TheVariants.{All, Others}
-use Rattle.pat_machine_names.specs.Counting.{freed, freed_at, TellsAlone, is_named_just}
-use Rattle.pat_machine_names.specs.Telling.{names_alone, says_alone}
+use Rattle.pat_machine_laws.specs.wakeups.Wakings.{mailbox_in}
+use Rattle.pat_machine_indexes.specs.declared.refcounts.freed.Counted.{Counted}
+use Rattle.pat_machine_indexes.specs.declared.refcounts.freed.Counted.TheVariants.{All, Others}
+use Rattle.pat_machine_indexes.specs.refcounts.Counting.{freed, freed_at, TellsAlone, is_named_just}
+use Rattle.pat_machine_indexes.specs.refcounts.Telling.{names_alone, says_alone}
 use Rattle.pat_machine_states.specs.Alone.{GuardsAlone, StandsAlone}
 
 -- the mailbox, where there is a clause for freeing it

@@ -3,9 +3,9 @@ use Rattle.std.proofs.Common.{◌≡◌, ℕ, Bool, true, false, cond, ◌||◌,
 use Rattle.std.specs.List.{list_any}
 use Rattle.std.specs.Map.{set_value}
 use Rattle.std.proofs.lemmas.Bool.{or_left, or_right}
-use Rattle.pat_model.specs.Configs.{Frame, Thread, Config, with_thread, thread_refers, control_refers, env_refers}
-use Rattle.pat_commits.specs.Tops.{over}
-use Rattle.pat_pending_laws.proofs.Kept.{any_joined}
+use Rattle.pat_semantics_spec.specs.Configs.{Frame, Thread, Config, with_thread, thread_refers, control_refers, env_refers}
+use Rattle.pat_machine_spec.specs.Tops.{over}
+use Rattle.pat_machine_laws.proofs.Kept.{any_joined}
 use Rattle.pat_machine_states.specs.Stepping.{ReferToLive}
 
 either : (a b : Bool) → (a || b) ≡ true → (a ≡ true) ⊎ (b ≡ true)

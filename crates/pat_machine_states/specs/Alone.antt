@@ -1,11 +1,11 @@
 -- What is known of a mailbox that may be freed, and of all of them, where threads are asked for their acts.
 use Rattle.std.specs.Prelude.{◌≡◌, ℕ, Bool, true, false, Some}
-use Rattle.pat_model.specs.Programs.{Program, is_among}
-use Rattle.pat_model.specs.Configs.{Thread, Config, thread_at, has_pending, is_reached_by_none_but}
-use Rattle.pat_reduce_threads.specs.ThreadActs.{Guarding}
-use Rattle.pat_machine_names.specs.declared.freed.Counted.{Counted}
-use Rattle.pat_machine_names.specs.Counting.{TellsAlone}
-use Rattle.pat_machine_names.specs.Telling.{says_alone}
+use Rattle.pat_semantics_spec.specs.Programs.{Program, is_among}
+use Rattle.pat_semantics_spec.specs.Configs.{Thread, Config, thread_at, has_pending, is_reached_by_none_but}
+use Rattle.pat_reduce.specs.threads.ThreadActs.{Guarding}
+use Rattle.pat_machine_indexes.specs.declared.refcounts.freed.Counted.{Counted}
+use Rattle.pat_machine_indexes.specs.refcounts.Counting.{TellsAlone}
+use Rattle.pat_machine_indexes.specs.refcounts.Telling.{says_alone}
 
 -- the answer says whether nothing but thread t reaches the mailbox, where that is live and has no message
 abbrev pub IsReachedAlone : Config → (t a : ℕ) → Bool → Type 0

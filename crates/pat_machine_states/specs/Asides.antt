@@ -1,8 +1,8 @@
 -- A thread's state that is set aside, and what stands in its place.
 use Rattle.std.specs.Prelude.{◌≡◌, ℕ, suc, ◌≤◌, length, Some}
-use Rattle.pat_model.specs.Configs.{Config, thread_at, with_thread}
-use Rattle.pat_reduce_threads.specs.declared.state.ThreadState.{ThreadState}
-use Rattle.pat_reduce_threads.specs.ThreadViews.{thread_view}
+use Rattle.pat_semantics_spec.specs.Configs.{Config, thread_at, with_thread}
+use Rattle.pat_reduce.specs.declared.threads.state.ThreadState.{ThreadState}
+use Rattle.pat_reduce.specs.threads.ThreadViews.{thread_view}
 use Rattle.pat_machine_threads.specs.declared.asides.Aside.{Aside}
 use Rattle.pat_machine_threads.specs.Aside.{aside_view}
 

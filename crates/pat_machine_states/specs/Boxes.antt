@@ -1,10 +1,10 @@
 -- A configuration whose messages are kept by mailbox.
 use Rattle.std.specs.Prelude.{◌≡◌, ℕ, ◌+◌, List, [], length, Option, Some}
 use Rattle.std.specs.List.{AllByRecursion}
-use Rattle.pat_model.specs.Configs.{Message, Config}
-use Rattle.pat_pending_laws.specs.Pending.{messages_of, live_of, AreKept}
-use Rattle.pat_machine_pending.specs.Mailboxes.{Mailbox}
-use Rattle.pat_machine_pending.specs.Boxes.{boxes_view}
+use Rattle.pat_semantics_spec.specs.Configs.{Message, Config}
+use Rattle.pat_machine_laws.specs.mailbox_index.Pending.{messages_of, live_of, AreKept}
+use Rattle.pat_machine_indexes.specs.messages.Mailboxes.{Mailbox}
+use Rattle.pat_machine_indexes.specs.messages.Boxes.{boxes_view}
 
 -- the configuration, with the messages that are kept by mailbox, and the mailboxes that are live
 abbrev pub state_view : Config → List (Option Mailbox) → Config

@@ -1,5 +1,5 @@
-pub use Rattle.pat_machine_names.specs.Changes
-pub use Rattle.pat_machine_placed.specs.Remains
+pub use Rattle.pat_machine_indexes.specs.refcounts.Changes
+pub use Rattle.pat_machine_threads.specs.store.Remains
 pub mod Opening
 pub mod Prospects
 pub mod Asides

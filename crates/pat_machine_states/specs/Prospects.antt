@@ -1,10 +1,10 @@
 -- How the threads of a configuration stand.
 use Rattle.std.specs.Prelude.{◌≡◌, ℕ, [], None}
-use Rattle.pat_model.specs.Programs.{Program}
-use Rattle.pat_model.specs.Configs.{Config}
-use Rattle.pat_model.specs.Steps.{Step, step}
-use Rattle.pat_model_laws.specs.Laws.{IsEnabled}
-use Rattle.pat_commits.specs.Opens.{IsOpen}
+use Rattle.pat_semantics_spec.specs.Programs.{Program}
+use Rattle.pat_semantics_spec.specs.Configs.{Config}
+use Rattle.pat_semantics_spec.specs.Steps.{Step, step}
+use Rattle.pat_semantics_laws.specs.Laws.{IsEnabled}
+use Rattle.pat_machine_spec.specs.Opens.{IsOpen}
 use Rattle.pat_machine_states.specs.declared.prospect.Prospect.{Prospect}
 use Rattle.pat_machine_states.specs.declared.prospect.Prospect.TheVariants as prospect
 

@@ -1,8 +1,8 @@
 -- Steps of a configuration whose messages are kept by mailbox.
 use Rattle.std.specs.Prelude.{◌≡◌, ℕ, true}
-use Rattle.pat_model.specs.Programs.{is_among}
-use Rattle.pat_model.specs.Configs.{Config, some_thread_refers}
-use Rattle.pat_reduce_threads.specs.ThreadActs.{Guarding}
+use Rattle.pat_semantics_spec.specs.Programs.{is_among}
+use Rattle.pat_semantics_spec.specs.Configs.{Config, some_thread_refers}
+use Rattle.pat_reduce.specs.threads.ThreadActs.{Guarding}
 
 -- what threads refer to is live
 abbrev pub ReferToLive : Config → Type 0

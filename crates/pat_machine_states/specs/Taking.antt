@@ -1,9 +1,9 @@
 -- What a shared step took, and what a step gives that may be refused.
 use Rattle.std.specs.Prelude.{Option, Some, None, option_map, Result}
 use Rattle.std.specs.declared.result.Result.TheVariants.{Ok, Err}
-use Rattle.pat_model.specs.Configs.{Message}
-use Rattle.pat_model.specs.Steps.{Act}
-use Rattle.pat_reduce_threads.specs.ThreadViews.{message_view}
+use Rattle.pat_semantics_spec.specs.Configs.{Message}
+use Rattle.pat_semantics_spec.specs.Steps.{Act}
+use Rattle.pat_reduce.specs.threads.ThreadViews.{message_view}
 use Rattle.pat_reduce.specs.Views.{act_view}
 use Rattle.pat_machine_states.specs.declared.sharing.Taken.{Taken}
 

@@ -1,24 +1,22 @@
 // The act of a thread that is enabled.
 ghost use Rattle.std.specs.Prelude.{◌≡◌, ℕ, map, option_map};
-ghost use Rattle.pat_model.specs.Configs.{has_pending};
-ghost use Rattle.pat_model.specs.Programs.{is_among};
-ghost use Rattle.pat_model.specs.Steps.{redex};
+ghost use Rattle.pat_semantics_spec.specs.Configs.{has_pending};
+ghost use Rattle.pat_semantics_spec.specs.Programs.{is_among};
+ghost use Rattle.pat_semantics_spec.specs.Steps.{redex};
 ghost use Rattle.pat_core.specs.Views.{program_view};
-ghost use Rattle.pat_reduce_threads.specs.ThreadViews.{control_view, frame_view, thread_view};
-ghost use Rattle.pat_reduce_threads.specs.GuardViews.{guard_view};
-ghost use Rattle.pat_reduce_threads.specs.ThreadActs.{guard_at};
+ghost use Rattle.pat_reduce.specs.threads.ThreadViews.{control_view, frame_view, thread_view};
+ghost use Rattle.pat_reduce.specs.threads.GuardViews.{guard_view};
+ghost use Rattle.pat_reduce.specs.threads.ThreadActs.{guard_at};
 ghost use Rattle.pat_reduce.specs.Acts.{act_at, free_act, guard_act, may_free, plain_act};
 ghost use Rattle.pat_reduce.specs.Views.{act_view};
-ghost use Rattle.pat_machine_names.specs.Counting.{TellsAlone};
-ghost use Rattle.pat_machine_names.specs.Telling.{names_alone, says_alone};
+ghost use Rattle.pat_machine_indexes.specs.refcounts.Counting.{TellsAlone};
+ghost use Rattle.pat_machine_indexes.specs.refcounts.Telling.{names_alone, says_alone};
 ghost use Rattle.pat_machine_states.specs.Alone.{GuardsAlone, IsReachedAlone};
 
 use crate::State;
-use pat_executable::Executable;
-use pat_machine_names::Counted;
-use pat_machine_pending::first_message;
-use pat_reduce::{Act, Control, ThreadState, plain_act};
-use pat_reduce_threads::{GuardRef, guard_of};
+use pat_machine_indexes::{Counted, first_message};
+use pat_reduce::{Act, Control, GuardRef, ThreadState, guard_of, plain_act};
+use pat_reduce_values::Executable;
 
 impl State {
     // The act of a thread with this state, where the counts tell whether nothing else reaches the mailbox that it may free.

@@ -1,17 +1,17 @@
 // The act of a thread that is open.
 ghost use Rattle.std.specs.Prelude.{◌≡◌, ◌&&◌, not, option_map};
 ghost use Rattle.pat_core.specs.Views.{program_view};
-ghost use Rattle.pat_model.specs.Orders.{IsOrdered};
+ghost use Rattle.pat_semantics_spec.specs.Orders.{IsOrdered};
 ghost use Rattle.pat_reduce.specs.Acts.{EnabledAct, IsLeast};
 ghost use Rattle.pat_reduce.specs.Views.{act_view};
-ghost use Rattle.pat_commits.specs.Opens.{has_space};
+ghost use Rattle.pat_machine_spec.specs.Opens.{has_space};
 ghost use Rattle.pat_machine_states.specs.Opening.{OpenAct, is_sending};
 ghost use Rattle.pat_machine_states.specs.Alone.{StandsAlone};
 
 use crate::State;
-use pat_executable::Executable;
-use pat_machine_names::Counted;
+use pat_machine_indexes::Counted;
 use pat_reduce::Act;
+use pat_reduce_values::Executable;
 
 impl State {
     // The act of the thread that is open, if one is, where the counts tell whether nothing else reaches the mailbox that it may free.

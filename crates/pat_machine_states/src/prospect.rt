@@ -1,16 +1,16 @@
 // Whether a run can go on.
 ghost use Rattle.std.specs.Prelude.{◌≡◌, ◌≤◌, ◌&&◌, length};
 ghost use Rattle.std.specs.List.{list_any};
-ghost use Rattle.pat_model.specs.Runs.{can_step_thread};
+ghost use Rattle.pat_semantics_spec.specs.Runs.{can_step_thread};
 ghost use Rattle.pat_core.specs.Views.{program_view};
-ghost use Rattle.pat_commits.specs.Opens.{has_space, can_go_on};
-ghost use Rattle.pat_locality_laws.specs.Senders.{AreCandidates};
-ghost use Rattle.pat_machine_names.specs.Counting.{TellOfEach};
+ghost use Rattle.pat_machine_spec.specs.Opens.{has_space, can_go_on};
+ghost use Rattle.pat_machine_laws.specs.wakeups.Senders.{AreCandidates};
+ghost use Rattle.pat_machine_indexes.specs.refcounts.Counting.{TellOfEach};
 ghost use Rattle.pat_machine_states.specs.Prospects.{HasProspect};
 
 use crate::State;
-use pat_executable::Executable;
-use pat_machine_names::{Counted, Names};
+use pat_machine_indexes::{Counted, Names};
+use pat_reduce_values::Executable;
 
 /// How the threads stand.
 #[derive(Clone, Copy, Debug, PartialEq, Eq)]

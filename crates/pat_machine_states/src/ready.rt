@@ -1,14 +1,14 @@
 // Which threads can go on.
 ghost use Rattle.std.specs.Prelude.{◌≡◌, find};
 ghost use Rattle.pat_core.specs.Views.{program_view};
-ghost use Rattle.pat_commits.specs.Opens.{can_go_on};
-ghost use Rattle.pat_commits.specs.Lendings.{is_out};
-ghost use Rattle.pat_commits.specs.Turns.{is_ready};
-ghost use Rattle.pat_machine_names.specs.Counting.{TellOfEach};
+ghost use Rattle.pat_machine_spec.specs.Opens.{can_go_on};
+ghost use Rattle.pat_machine_spec.specs.Lendings.{is_out};
+ghost use Rattle.pat_machine_spec.specs.Turns.{is_ready};
+ghost use Rattle.pat_machine_indexes.specs.refcounts.Counting.{TellOfEach};
 
 use crate::State;
-use pat_executable::Executable;
-use pat_machine_names::{Counted, Names};
+use pat_machine_indexes::{Counted, Names};
+use pat_reduce_values::Executable;
 
 impl State {
     /// The first of these threads that is ready. It takes no memory.

@@ -1,24 +1,24 @@
 // The shared step that ends a commit.
 ghost use Rattle.std.specs.Prelude.{◌≡◌, ℕ, ◌<◌, ◌⊎◌, [], length, Some, OnOk, OnErr};
-ghost use Rattle.pat_model.specs.Orders.{IsOrdered};
-ghost use Rattle.pat_model.specs.Configs.{Thread as ThreadOf, thread_at, with_thread};
-ghost use Rattle.pat_model.specs.Steps.{ActReceive, message_at};
+ghost use Rattle.pat_semantics_spec.specs.Orders.{IsOrdered};
+ghost use Rattle.pat_semantics_spec.specs.Configs.{Thread as ThreadOf, thread_at, with_thread};
+ghost use Rattle.pat_semantics_spec.specs.Steps.{ActReceive, message_at};
 ghost use Rattle.pat_core.specs.Views.{program_view};
-ghost use Rattle.pat_reduce_threads.specs.ThreadViews.{thread_view};
-ghost use Rattle.pat_commits.specs.Commits.{Shares};
-ghost use Rattle.pat_commits.specs.Tops.{below, over};
-ghost use Rattle.pat_commits.specs.Machines.{HasRoom, IsTypedBySome};
-ghost use Rattle.pat_machine_names.specs.Counting.{TellsAlone};
-ghost use Rattle.pat_machine_names.specs.Telling.{says_alone};
+ghost use Rattle.pat_reduce.specs.threads.ThreadViews.{thread_view};
+ghost use Rattle.pat_machine_spec.specs.Commits.{Shares};
+ghost use Rattle.pat_machine_spec.specs.Tops.{below, over};
+ghost use Rattle.pat_machine_spec.specs.Machines.{HasRoom, IsTypedBySome};
+ghost use Rattle.pat_machine_indexes.specs.refcounts.Counting.{TellsAlone};
+ghost use Rattle.pat_machine_indexes.specs.refcounts.Telling.{says_alone};
 ghost use Rattle.pat_machine_states.specs.Alone.{StandsAlone};
 ghost use Rattle.pat_machine_states.specs.Stepping.{ReferToLive};
 ghost use Rattle.pat_machine_states.specs.Taking.{taken_act, taken_message};
 
 use crate::State;
-use pat_executable::Executable;
-use pat_machine_names::Counted;
+use pat_machine_indexes::Counted;
 use pat_machine_threads::taken_up;
 use pat_reduce::{Act, Message, Step, StepError, ThreadState};
+use pat_reduce_values::Executable;
 use pat_sequences::let_go;
 use std::alloc::{AllocError, Global};
 

@@ -1,15 +1,15 @@
 // The kept configuration and the states of its threads.
 ghost use Rattle.std.specs.Prelude.{◌≡◌, ℕ, ◌<◌, Some, None, length, option_copied, option_map, IfOk, slice_get, slice_set};
-ghost use Rattle.pat_model.specs.Configs.{Thread as ThreadOf, start, thread_at, with_thread};
+ghost use Rattle.pat_semantics_spec.specs.Configs.{Thread as ThreadOf, start, thread_at, with_thread};
 ghost use Rattle.pat_core.specs.Views.{program_view};
-ghost use Rattle.pat_reduce_threads.specs.ThreadViews.{thread_view};
+ghost use Rattle.pat_reduce.specs.threads.ThreadViews.{thread_view};
 ghost use Rattle.pat_reduce.specs.Views.{config_view};
-ghost use Rattle.pat_machine_placed.specs.Remains.{remains_of};
+ghost use Rattle.pat_machine_threads.specs.store.Remains.{remains_of};
 
-use pat_executable::Executable;
-use pat_machine_pending::{Mailboxes, copy_pending, count_live, list_live};
-use pat_machine_placed::{Placed, Remains};
+use pat_machine_indexes::{Mailboxes, copy_pending, count_live, list_live};
+use pat_machine_threads::{Placed, Remains};
 use pat_reduce::{Config, ThreadState};
+use pat_reduce_values::Executable;
 use pat_sequences::Text;
 use std::alloc::{AllocError, Global};
 use std::marker::Model;
@@ -34,7 +34,7 @@ impl Drop for State {
 }
 
 impl Model for State {
-    ghost use Rattle.pat_model.specs.Configs.{Config};
+    ghost use Rattle.pat_semantics_spec.specs.Configs.{Config};
     ghost use Rattle.pat_machine_states.specs.Boxes.{state_view, IsState};
 
     ghost Value = { Config };

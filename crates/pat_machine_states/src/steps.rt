@@ -1,21 +1,21 @@
 // The steps of a thread.
 ghost use Rattle.std.specs.Prelude.{◌≡◌, ℕ, true, Some, None, option_map, IfOk};
-ghost use Rattle.pat_model.specs.Orders.{IsOrdered};
-ghost use Rattle.pat_model.specs.Steps.{ActNew, ActSend, ActFree, ActReceive, message_at, step as after_step};
-ghost use Rattle.pat_model_laws.specs.Laws.{IsEnabled};
+ghost use Rattle.pat_semantics_spec.specs.Orders.{IsOrdered};
+ghost use Rattle.pat_semantics_spec.specs.Steps.{ActNew, ActSend, ActFree, ActReceive, message_at, step as after_step};
+ghost use Rattle.pat_semantics_laws.specs.Laws.{IsEnabled};
 ghost use Rattle.pat_core.specs.Views.{program_view};
 ghost use Rattle.pat_reduce_values.specs.Results.{StepGives};
-ghost use Rattle.pat_reduce_threads.specs.ThreadViews.{message_view};
+ghost use Rattle.pat_reduce.specs.threads.ThreadViews.{message_view};
 ghost use Rattle.pat_reduce.specs.Views.{act_view, step_view};
-ghost use Rattle.pat_commits.specs.Machines.{HasRoom};
-ghost use Rattle.pat_machine_placed.specs.Alone.{is_beside};
+ghost use Rattle.pat_machine_spec.specs.Machines.{HasRoom};
+ghost use Rattle.pat_machine_threads.specs.store.Alone.{is_beside};
 ghost use Rattle.pat_machine_states.specs.Stepping.{ReferToLive};
 ghost use Rattle.pat_machine_states.specs.Taking.{outcome};
 
 use crate::State;
-use pat_executable::Executable;
-use pat_machine_pending::delivery;
+use pat_machine_indexes::delivery;
 use pat_reduce::{Act, Message, Step, StepError};
+use pat_reduce_values::Executable;
 use std::alloc::Global;
 
 impl State {

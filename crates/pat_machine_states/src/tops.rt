@@ -1,8 +1,8 @@
 // The top of a thread put in the place of its top frames, while those below stay where they are.
 ghost use Rattle.std.specs.Prelude.{◌≡◌, ◌≤◌, length, Some, IfOk, OnOk, OnErr};
-ghost use Rattle.pat_model.specs.Configs.{Thread as ThreadOf, thread_at, with_thread};
-ghost use Rattle.pat_reduce_threads.specs.ThreadViews.{thread_view};
-ghost use Rattle.pat_commits.specs.Tops.{below, over, with_below};
+ghost use Rattle.pat_semantics_spec.specs.Configs.{Thread as ThreadOf, thread_at, with_thread};
+ghost use Rattle.pat_reduce.specs.threads.ThreadViews.{thread_view};
+ghost use Rattle.pat_machine_spec.specs.Tops.{below, over, with_below};
 ghost use Rattle.pat_machine_threads.specs.Aside.{aside_view};
 ghost use Rattle.pat_machine_states.specs.Asides.{IsAside};
 

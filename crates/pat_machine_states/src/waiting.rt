@@ -1,18 +1,17 @@
 // Threads that wait at guards, and what may end that.
 ghost use Rattle.std.specs.Prelude.{◌≡◌, ◌+◌, List, [], ◌∷◌, ◌++◌, Some, IfSome, IsTrue, ◌↔◌, option_copied, option_map};
-ghost use Rattle.pat_model.specs.Configs.{Message as MessageOf};
-ghost use Rattle.pat_model.specs.Steps.{ActFree, ActReceive};
-ghost use Rattle.pat_model_laws.specs.Laws.{IsEnabled};
+ghost use Rattle.pat_semantics_spec.specs.Configs.{Message as MessageOf};
+ghost use Rattle.pat_semantics_spec.specs.Steps.{ActFree, ActReceive};
+ghost use Rattle.pat_semantics_laws.specs.Laws.{IsEnabled};
 ghost use Rattle.pat_core.specs.Views.{program_view};
-ghost use Rattle.pat_reduce_threads.specs.ThreadViews.{message_view};
-ghost use Rattle.pat_locality_laws.specs.Wakings.{IsWaiting};
-ghost use Rattle.pat_machine_names.specs.Counting.{TellOfEach};
+ghost use Rattle.pat_reduce.specs.threads.ThreadViews.{message_view};
+ghost use Rattle.pat_machine_laws.specs.wakeups.Wakings.{IsWaiting};
+ghost use Rattle.pat_machine_indexes.specs.refcounts.Counting.{TellOfEach};
 
 use crate::State;
-use pat_executable::Executable;
-use pat_machine_names::{Counted, Names};
-use pat_reduce::Message;
-use pat_reduce_threads::{guard_of, takes};
+use pat_machine_indexes::{Counted, Names};
+use pat_reduce::{Message, guard_of, takes};
+use pat_reduce_values::Executable;
 
 impl State {
     /// The mailbox that the thread waits at, if it is found to have no enabled step. It takes no memory.

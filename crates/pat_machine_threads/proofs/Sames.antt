@@ -3,10 +3,10 @@ use Rattle.std.proofs.Common.{◌≡◌, ℕ, zero, suc, ◌-◌, ◌<◌, ◌�
 use Rattle.std.proofs.lemmas.List.{length-map, reverse-reverse, reverse-append, length-reverse, length-drop, take-append-drop, take_all, take-map}
 use Rattle.std.proofs.lemmas.Bool.{cases_lt}
 use Rattle.std.proofs.Math.Seq.{take-append_seam}
-use Rattle.pat_model.specs.Configs.{Control, Frame, Thread}
-use Rattle.pat_reduce_threads.specs.declared.state.ThreadState.{ThreadState}
-use Rattle.pat_reduce_threads.specs.ThreadViews.{control_view, frame_view, thread_view}
-use Rattle.pat_commits.specs.Tops.{top_of}
+use Rattle.pat_semantics_spec.specs.Configs.{Control, Frame, Thread}
+use Rattle.pat_reduce.specs.declared.threads.state.ThreadState.{ThreadState}
+use Rattle.pat_reduce.specs.threads.ThreadViews.{control_view, frame_view, thread_view}
+use Rattle.pat_machine_spec.specs.Tops.{top_of}
 use mathlib.Core.List.{reverse_aux}
 
 -- what is seen as the same is as long

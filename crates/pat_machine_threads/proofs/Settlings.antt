@@ -2,16 +2,16 @@
 use Rattle.std.proofs.Common.{◌≡◌, ℕ, zero, suc, ◌+◌, ◌-◌, ◌<◌, ◌≤◌, List, [], ◌∷◌, length, map, take, drop, get_or, ◌++◌, Some, sym, ap, ◌∙◌, subst, arith, ◌⊎◌}
 use Rattle.std.specs.Prelude.{option_and_then}
 use Rattle.std.proofs.Math.Seq.{take-add}
-use Rattle.pat_model.specs.Steps.{thread_of}
-use Rattle.pat_model.specs.Programs.{Program}
-use Rattle.pat_model.specs.Configs.{Thread}
-use Rattle.pat_reduce_threads.specs.declared.state.Frame.{Frame as CodeFrame}
-use Rattle.pat_reduce_threads.specs.declared.state.ThreadState.{ThreadState as CodeThread}
-use Rattle.pat_reduce_threads.specs.ThreadViews.{control_view, frame_view, thread_view}
-use Rattle.pat_commits.specs.Commits.{IsLocalRun, locally}
-use Rattle.pat_commits.specs.Tops.{top_of, below, over}
-use Rattle.pat_commit_laws.proofs.Locals.{first_local}
-use Rattle.pat_commit_laws.proofs.Tops.{top_runs, any_top_runs, top_keeps_frame, locally_lifts}
+use Rattle.pat_semantics_spec.specs.Steps.{thread_of}
+use Rattle.pat_semantics_spec.specs.Programs.{Program}
+use Rattle.pat_semantics_spec.specs.Configs.{Thread}
+use Rattle.pat_reduce.specs.declared.threads.state.Frame.{Frame as CodeFrame}
+use Rattle.pat_reduce.specs.declared.threads.state.ThreadState.{ThreadState as CodeThread}
+use Rattle.pat_reduce.specs.threads.ThreadViews.{control_view, frame_view, thread_view}
+use Rattle.pat_machine_spec.specs.Commits.{IsLocalRun, locally}
+use Rattle.pat_machine_spec.specs.Tops.{top_of, below, over}
+use Rattle.pat_machine_laws.proofs.Locals.{first_local}
+use Rattle.pat_machine_laws.proofs.CommitsTops.{top_runs, any_top_runs, top_keeps_frame, locally_lifts}
 use Rattle.pat_machine_threads.specs.declared.settling.Settled.{Settled}
 use Rattle.pat_machine_threads.specs.Settling.{IsRunOnTop, IsBegun, IsRunOn, RunsOn, Uncovers}
 

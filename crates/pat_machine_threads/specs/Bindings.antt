@@ -1,6 +1,6 @@
 -- A variable with its value.
 use Rattle.std.specs.Prelude.{ℕ}
-use Rattle.pat_model.specs.Values.{Value}
+use Rattle.pat_semantics_spec.specs.Values.{Value}
 use Rattle.pat_reduce_values.specs.declared.values.Value.{Value as CodeValue}
 use Rattle.pat_reduce_values.specs.ValueViews.{value_view}
 

@@ -1,6 +1,6 @@
 -- What a refusal hands back.
 use Rattle.std.specs.Prelude.{◌≡◌}
-use Rattle.pat_reduce_threads.specs.declared.state.ThreadState.{ThreadState}
+use Rattle.pat_reduce.specs.declared.threads.state.ThreadState.{ThreadState}
 use Rattle.pat_machine_threads.specs.declared.error.LocalError.{LocalError}
 use Rattle.pat_machine_threads.specs.declared.error.LocalError.TheVariants.{NoMemory}
 

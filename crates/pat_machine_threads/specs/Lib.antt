@@ -3,3 +3,5 @@ pub mod Aside
 pub mod Bindings
 pub mod Handed
 pub mod Settling
+pub mod table
+pub mod store

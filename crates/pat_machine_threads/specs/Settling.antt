@@ -1,10 +1,10 @@
 -- A thread after local steps of its top.
 use Rattle.std.specs.Prelude.{◌≡◌, ℕ, ◌+◌, ◌-◌, ◌<◌, ◌≤◌, ◌⊎◌, [], length, take, Some}
-use Rattle.pat_model.specs.Programs.{Program}
-use Rattle.pat_model.specs.Configs.{Thread}
-use Rattle.pat_reduce_threads.specs.ThreadViews.{thread_view}
-use Rattle.pat_commits.specs.Commits.{IsLocalRun, locally}
-use Rattle.pat_commits.specs.Tops.{below, over, top_of}
+use Rattle.pat_semantics_spec.specs.Programs.{Program}
+use Rattle.pat_semantics_spec.specs.Configs.{Thread}
+use Rattle.pat_reduce.specs.threads.ThreadViews.{thread_view}
+use Rattle.pat_machine_spec.specs.Commits.{IsLocalRun, locally}
+use Rattle.pat_machine_spec.specs.Tops.{below, over, top_of}
 use Rattle.pat_machine_threads.specs.declared.settling.Settled.{Settled}
 
 -- the kept thread after the local steps of its top

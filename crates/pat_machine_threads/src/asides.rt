@@ -1,7 +1,7 @@
 // The state of a thread set aside, while another stands in its place.
 ghost use Rattle.std.specs.Prelude.{◌≡◌, map, IfOk, IfErr};
-ghost use Rattle.pat_model.specs.Steps.{thread_of};
-ghost use Rattle.pat_reduce_threads.specs.ThreadViews.{control_view, frame_view, thread_view};
+ghost use Rattle.pat_semantics_spec.specs.Steps.{thread_of};
+ghost use Rattle.pat_reduce.specs.threads.ThreadViews.{control_view, frame_view, thread_view};
 ghost use Rattle.pat_machine_threads.specs.Aside.{aside_view};
 
 use pat_reduce::{Frame, ThreadState};

@@ -1,7 +1,7 @@
 // Copies of the states of threads.
 ghost use Rattle.std.specs.Prelude.{◌≡◌, map, reverse, IfOk};
-ghost use Rattle.pat_commits.specs.Tops.{top_of};
-ghost use Rattle.pat_reduce_threads.specs.ThreadViews.{control_view, frame_view, thread_view};
+ghost use Rattle.pat_machine_spec.specs.Tops.{top_of};
+ghost use Rattle.pat_reduce.specs.threads.ThreadViews.{control_view, frame_view, thread_view};
 
 use crate::tops::top_frames;
 use pat_reduce::{Control, Frame, ThreadState};

@@ -1,8 +1,8 @@
 // Local steps of a thread outside a configuration.
 ghost use Rattle.std.specs.Prelude.{◌≡◌, IfOk, IfErr};
-ghost use Rattle.pat_reduce_threads.specs.Views.{program_view};
-ghost use Rattle.pat_reduce_threads.specs.ThreadViews.{thread_view};
-ghost use Rattle.pat_commits.specs.Commits.{IsLocalRun};
+ghost use Rattle.pat_reduce.specs.threads.Views.{program_view};
+ghost use Rattle.pat_reduce.specs.threads.ThreadViews.{thread_view};
+ghost use Rattle.pat_machine_spec.specs.Commits.{IsLocalRun};
 ghost use Rattle.pat_machine_threads.specs.Handed.{hands_back};
 
 use crate::copies::copy_state;

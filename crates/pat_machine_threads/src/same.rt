@@ -1,8 +1,8 @@
 // Whether a state is the top of another one.
 ghost use Rattle.std.specs.Prelude.{◌≡◌, map, IsTrue, IsFalse};
-ghost use Rattle.pat_commits.specs.Tops.{top_of};
+ghost use Rattle.pat_machine_spec.specs.Tops.{top_of};
 ghost use Rattle.pat_machine_threads.specs.Bindings.{binding_view};
-ghost use Rattle.pat_reduce_threads.specs.ThreadViews.{control_view, frame_view, thread_view};
+ghost use Rattle.pat_reduce.specs.threads.ThreadViews.{control_view, frame_view, thread_view};
 ghost use Rattle.pat_reduce_values.specs.ValueViews.{value_view, env_view};
 
 use crate::tops::top_frames;

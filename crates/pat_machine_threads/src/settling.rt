@@ -1,20 +1,19 @@
 // Local steps of a kept thread, on a copy of its top.
 ghost use Rattle.std.specs.Prelude.{◌≡◌, ◌<◌, ◌≤◌, ◌⊎◌, [], ◌∷◌, length, Some, IfOk, IfSome, OnOk, IsTrue, IsFalse};
-ghost use Rattle.pat_model.specs.Configs.{Running};
-ghost use Rattle.pat_model.specs.Programs.{keep};
-ghost use Rattle.pat_model.specs.Values.{Value as ValueOf};
-ghost use Rattle.pat_model.specs.Steps.{at_node, bind_name, frame_of, local_step, resume, thread_of};
-ghost use Rattle.pat_reduce_threads.specs.Views.{program_view};
-ghost use Rattle.pat_reduce_threads.specs.ThreadViews.{frame_view, thread_view};
+ghost use Rattle.pat_semantics_spec.specs.Configs.{Running};
+ghost use Rattle.pat_semantics_spec.specs.Programs.{keep};
+ghost use Rattle.pat_semantics_spec.specs.Values.{Value as ValueOf};
+ghost use Rattle.pat_semantics_spec.specs.Steps.{at_node, bind_name, frame_of, local_step, resume, thread_of};
+ghost use Rattle.pat_reduce.specs.threads.Views.{program_view};
+ghost use Rattle.pat_reduce.specs.threads.ThreadViews.{frame_view, thread_view};
 ghost use Rattle.pat_reduce_values.specs.ValueViews.{env_view, value_view};
-ghost use Rattle.pat_commits.specs.Tops.{below, top_of};
+ghost use Rattle.pat_machine_spec.specs.Tops.{below, top_of};
 ghost use Rattle.pat_machine_threads.specs.Settling.{IsBegun, IsRunOnTop, RunsOn, Uncovers};
 
 use crate::copies::{copy_frame, copy_top};
 use crate::run::run_locally;
 use crate::tops::{frame_below, has_at_most};
-use pat_reduce::{Control, Frame, StepError, ThreadState, Value};
-use pat_reduce_threads::{Core, core_of, enter, node_with};
+use pat_reduce::{Control, Core, Frame, StepError, ThreadState, Value, core_of, enter, node_with};
 use pat_reduce_values::{Executable, bound, keep_free, kept_but};
 use pat_sequences::Stack;
 use std::alloc::{AllocError, Global};

@@ -1,7 +1,7 @@
 // The frames on top of a thread.
 ghost use Rattle.std.specs.Prelude.{◌≡◌, ◌==◌, ◌<◌, get_or, length, reverse, take};
-ghost use Rattle.pat_reduce_threads.specs.ThreadViews.{thread_view};
-ghost use Rattle.pat_commits.specs.Tops.{below};
+ghost use Rattle.pat_reduce.specs.threads.ThreadViews.{thread_view};
+ghost use Rattle.pat_machine_spec.specs.Tops.{below};
 
 use pat_reduce::{Frame, ThreadState};
 use pat_sequences::Stack;

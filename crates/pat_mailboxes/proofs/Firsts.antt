@@ -2,7 +2,7 @@
 use Rattle.std.proofs.Common.{◌≡◌, ℕ, zero, suc, Bool, true, List, [], ◌∷◌, take, Some, None, slice_get, refl, ap, ◌∙◌}
 use Rattle.std.specs.Prelude.{find}
 use Rattle.std.proofs.lemmas.Bool.{cond-true, cond-false}
-use Rattle.pat_pool.specs.Queues.{NonePasses}
+use Rattle.pat_mailboxes.specs.queues.Queues.{NonePasses}
 
 module _ {X : Type 0} (test : X → Bool) where
   pub none_found : (vs : List X) → NonePasses test vs → find test vs ≡ None

@@ -3,10 +3,10 @@ use Rattle.std.proofs.Common.{◌≡◌, ℕ, zero, suc, ◌+◌, ◌<◌, ◌�
 use Rattle.std.specs.Option.{unwrap_or}
 use Rattle.std.proofs.lemmas.Bool.{cases_eq}
 use Rattle.std.proofs.lemmas.List.{map-append, length-map}
-use Rattle.pat_pool.specs.Nodes.{times}
-use Rattle.pat_pool.specs.Queues.{queue_at, values_at, IsLive as IsLiveQueue, Becomes}
-use Rattle.pat_pool.proofs.NodeLaws.{itself, differs, times-append}
-use Rattle.pat_reduce_threads.specs.declared.state.Message.{Message}
+use Rattle.pat_mailboxes.specs.queues.Nodes.{times}
+use Rattle.pat_mailboxes.specs.queues.Queues.{queue_at, values_at, IsLive as IsLiveQueue, Becomes}
+use Rattle.pat_mailboxes.proofs.NodeLaws.{itself, differs, times-append}
+use Rattle.pat_reduce.specs.declared.threads.state.Message.{Message}
 use Rattle.pat_mailboxes.specs.Mailboxes.{Mailbox, mailbox_at, IsLive, pending_in, pending_at, all_pending, IsInOrder, AreInOrder}
 use Rattle.pat_mailboxes.specs.Kept.{shown, mailboxes_of, counts, times_had, AreKept}
 use Rattle.pat_mailboxes.proofs.Messages.{order_set, order_more, order_none, all-set, all-push, all-part}

@@ -2,7 +2,7 @@
 use Rattle.std.proofs.Common.{◌≡◌, ℕ, zero, suc, ◌+◌, ◌<◌, ◌≤◌, List, [], ◌∷◌, ◌++◌, ⊎_elim, length, remove, slice_set, Option, Some, refl, sym, ap, subst, arith}
 use Rattle.std.specs.List.{AllByRecursion}
 use Rattle.std.proofs.lemmas.Bool.{cases_eq}
-use Rattle.pat_reduce_threads.specs.declared.state.Message.{Message}
+use Rattle.pat_reduce.specs.declared.threads.state.Message.{Message}
 use Rattle.pat_mailboxes.specs.Mailboxes.{Mailbox, mailbox_at, pending_in, pending_at, all_pending, Ascend, IsInOrder, AreInOrder}
 
 all_push : {X : Type 0} (P : X → Type 0) (xs : List X) (x : X) → AllByRecursion P xs → P x → AllByRecursion P (xs ++ x ∷ [])

@@ -1,7 +1,7 @@
 -- Mailboxes as callers see them.
 use Rattle.std.proofs.Common.{◌≡◌, ℕ, List, [], ◌∷◌, ◌++◌, slice_get, slice_set, Option, Some, None, sym, ap, ◌∙◌, subst}
-use Rattle.pat_pool.specs.Queues.{values_at}
-use Rattle.pat_reduce_threads.specs.declared.state.Message.{Message}
+use Rattle.pat_mailboxes.specs.queues.Queues.{values_at}
+use Rattle.pat_reduce.specs.declared.threads.state.Message.{Message}
 use Rattle.pat_mailboxes.specs.Mailboxes.{Mailbox, Contents, IsLive, pending_at}
 use Rattle.pat_mailboxes.specs.Kept.{mailboxes_of}
 use Rattle.pat_mailboxes.proofs.Keeping.{entry_at, pending_is}

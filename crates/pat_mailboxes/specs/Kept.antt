@@ -1,8 +1,8 @@
 -- How mailboxes are kept: each with a queue of its own, some queues ahead.
 use Rattle.std.specs.Prelude.{◌≡◌, ℕ, ◌+◌, ◌<◌, ◌≤◌, cond, nat_eq, List, [], ◌∷◌, map, Option, Some, None}
-use Rattle.pat_pool.specs.Nodes.{times}
-use Rattle.pat_pool.specs.Queues.{queue_at, values_at, IsLive as IsLiveQueue}
-use Rattle.pat_reduce_threads.specs.declared.state.Message.{Message}
+use Rattle.pat_mailboxes.specs.queues.Nodes.{times}
+use Rattle.pat_mailboxes.specs.queues.Queues.{queue_at, values_at, IsLive as IsLiveQueue}
+use Rattle.pat_reduce.specs.declared.threads.state.Message.{Message}
 use Rattle.pat_mailboxes.specs.declared.store.Store.{Store}
 use Rattle.pat_mailboxes.specs.Mailboxes.{Mailbox, all_pending, AreInOrder}
 

@@ -2,7 +2,7 @@
 use Rattle.std.specs.Prelude.{◌≡◌, ℕ, ◌+◌, ◌<◌, List, [], ◌∷◌, length, Option, Some, None, slice_get}
 use Rattle.std.specs.Option.{unwrap_or}
 use Rattle.std.specs.List.{AllByRecursion}
-use Rattle.pat_reduce_threads.specs.declared.state.Message.{Message}
+use Rattle.pat_reduce.specs.declared.threads.state.Message.{Message}
 
 -- the messages that are pending in a mailbox
 pub record Mailbox : Type 0 where

@@ -1,8 +1,10 @@
-//! Pending messages by mailbox.
+//! Pending messages by mailbox, in a pool of queues.
 #![tactic(auto)]
 
 mod mailboxes;
+mod queues;
 mod store;
 
 pub use mailboxes::Mailboxes;
+pub use queues::{Chain, Chains, Mark, Pool, Region, Test};
 pub use store::Store;

@@ -1,12 +1,12 @@
 // Mailboxes over a pool of queues.
 ghost use Rattle.std.specs.Prelude.{◌≡◌, ℕ, ◌+◌, ◌-◌, ◌<◌, ◌≤◌, max, [], ◌∷◌, ◌++◌, length, map, option_map, Some, None, IfOk, OnOk, OnErr, slice_get, slice_set, remove, is_some};
 ghost use Rattle.std.specs.List.{AllByRecursion};
-ghost use Rattle.pat_pool.specs.Queues.{Finds};
+ghost use Rattle.pat_mailboxes.specs.queues.Queues.{Finds};
 ghost use Rattle.pat_mailboxes.specs.Mailboxes.{AreInOrder, IsLive, Mailbox, all_pending, mailbox_at, pending_at};
 
+use crate::queues::Test;
 use crate::store::{Store, queue_of};
-use pat_pool::Test;
-use pat_reduce_threads::Message;
+use pat_reduce::Message;
 use std::alloc::{AllocError, Global};
 use std::marker::Model;
 

@@ -2,8 +2,8 @@
 ghost use Rattle.std.specs.Prelude.{◌≡◌, ℕ, ◌+◌, ◌≤◌, [], length, Some, IfOk, OnOk, is_ok, if◌then◌else◌, slice_get, vec_len, vec_capacity};
 ghost use Rattle.pat_mailboxes.specs.Kept.{IsStore, shown_in};
 
-use pat_pool::Pool;
-use pat_reduce_threads::Message;
+use crate::queues::Pool;
+use pat_reduce::Message;
 use std::alloc::{AllocError, Global};
 
 /// Mailboxes by number, each with a queue of one pool.

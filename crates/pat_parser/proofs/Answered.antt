@@ -1,21 +1,21 @@
 -- From what the machine answers to what the parser claims.
 use Rattle.std.proofs.Common.{◌≤◌, ◌*◌, ℕ, List, map, length, Result, Ok, Err, subst}
 use Rattle.std.specs.Prelude.{MatchResult, IfOk}
-use Rattle.pat_lexical.specs.Tokens.{Spanned}
-use Rattle.pat_grammar.specs.Trees.{Tree as AnyTree}
-use Rattle.pat_grammar.specs.Items.{bound_item}
-use Rattle.pat_grammar.specs.Machine as m
-use Rattle.pat_grammar.specs.Claims.{SpellsTree, IsUnexpected, IsTooDeep, Claimed}
-use Rattle.pat_grammar_laws.specs.Counts.{tree_size}
-use Rattle.pat_grammar_laws.specs.Names.{AreSpelled, TreeNamed}
-use Rattle.pat_grammar_laws.proofs.Exact.{exact_answer}
-use Rattle.pat_grammar_laws.proofs.Counts.{at_most_four}
-use Rattle.pat_grammar_laws.proofs.Names.{tree_named}
+use Rattle.pat_lexer_spec.specs.Tokens.{Spanned}
+use Rattle.pat_parser_spec.specs.Trees.{Tree as AnyTree}
+use Rattle.pat_parser_spec.specs.Items.{bound_item}
+use Rattle.pat_parser_spec.specs.Machine as m
+use Rattle.pat_parser_spec.specs.Claims.{SpellsTree, IsUnexpected, IsTooDeep, Claimed}
+use Rattle.pat_parser_laws.specs.Counts.{tree_size}
+use Rattle.pat_parser_laws.specs.Names.{AreSpelled, TreeNamed}
+use Rattle.pat_parser_laws.proofs.Exact.{exact_answer}
+use Rattle.pat_parser_laws.proofs.Counts.{at_most_four}
+use Rattle.pat_parser_laws.proofs.Names.{tree_named}
 use Rattle.pat_tree.specs.declared.tree.Tree.{Tree}
 use Rattle.pat_tree.specs.Views.{tree_view}
-use Rattle.pat_parser_tokens.specs.declared.fault.ParseError.{ParseError}
-use Rattle.pat_parser_tokens.specs.declared.fault.ParseError.TheVariants as errors
-use Rattle.pat_parser_tokens.specs.Answers.{limits, FailsAt}
+use Rattle.pat_parser_phrases.specs.declared.tokens.fault.ParseError.{ParseError}
+use Rattle.pat_parser_phrases.specs.declared.tokens.fault.ParseError.TheVariants as errors
+use Rattle.pat_parser_phrases.specs.tokens.Answers.{limits, FailsAt}
 use Rattle.pat_parser.specs.Answers.{GivesAt, Explains}
 
 explained : (end : ℕ) (ts : List Spanned) (e : ParseError) (q : Result AnyTree (m.Fault × ℕ)) → FailsAt e q → Claimed limits end ts q → Explains end ts e

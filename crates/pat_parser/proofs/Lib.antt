@@ -1,1 +1,4 @@
 mod Answered
+mod Places
+mod Frames
+mod Names

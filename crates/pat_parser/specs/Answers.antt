@@ -1,11 +1,11 @@
 -- What the parser answers, against what the definitions say.
 use Rattle.std.specs.Prelude.{◌≡◌, ℕ, List, Result, Ok, Err}
-use Rattle.pat_lexical.specs.Tokens.{Spanned}
-use Rattle.pat_grammar.specs.Claims.{IsUnexpected, IsTooDeep}
-use Rattle.pat_grammar.specs.Machine as m
-use Rattle.pat_parser_tokens.specs.declared.fault.ParseError.{ParseError}
-use Rattle.pat_parser_tokens.specs.declared.fault.ParseError.TheVariants as errors
-use Rattle.pat_parser_tokens.specs.Answers.{limits, FailsAt}
+use Rattle.pat_lexer_spec.specs.Tokens.{Spanned}
+use Rattle.pat_parser_spec.specs.Claims.{IsUnexpected, IsTooDeep}
+use Rattle.pat_parser_spec.specs.Machine as m
+use Rattle.pat_parser_phrases.specs.declared.tokens.fault.ParseError.{ParseError}
+use Rattle.pat_parser_phrases.specs.declared.tokens.fault.ParseError.TheVariants as errors
+use Rattle.pat_parser_phrases.specs.tokens.Answers.{limits, FailsAt}
 
 -- what is answered is what the definition says, an error with its offset
 abbrev pub GivesAt : {X Y : Type 0} → (X → Y) → Result X ParseError → Result Y (m.Fault × ℕ) → Type 0

@@ -1,7 +1,10 @@
-//! Tokens to a tree, a phrase at a time, with a stack for what nests without a bound.
+//! Tokens to trees.
 #![tactic(auto)]
 
+mod ends;
 mod parsing;
+mod states;
+mod terms;
 
 pub use parsing::parse;
-pub use pat_parser_tokens::ParseError;
+pub use pat_parser_phrases::ParseError;

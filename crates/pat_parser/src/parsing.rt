@@ -1,21 +1,20 @@
 // A phrase, and all of them.
 ghost use Rattle.std.specs.Prelude.{◌≡◌, ◌≤◌, ◌<◌, ◌*◌, ℕ, [], map, length, Ok, Err, MatchResult, IfOk};
-ghost use Rattle.pat_grammar.specs.Trees as trees;
-ghost use Rattle.pat_grammar.specs.Items as items;
-ghost use Rattle.pat_grammar.specs.Machine as m;
-ghost use Rattle.pat_grammar.specs.Claims.{SpellsTree, IsUnexpected, IsTooDeep};
-ghost use Rattle.pat_grammar_laws.specs.Counts.{tree_size};
-ghost use Rattle.pat_grammar_laws.specs.Names.{AreSpelled, TreeNamed};
+ghost use Rattle.pat_parser_spec.specs.Trees as trees;
+ghost use Rattle.pat_parser_spec.specs.Items as items;
+ghost use Rattle.pat_parser_spec.specs.Machine as m;
+ghost use Rattle.pat_parser_spec.specs.Claims.{SpellsTree, IsUnexpected, IsTooDeep};
+ghost use Rattle.pat_parser_laws.specs.Counts.{tree_size};
+ghost use Rattle.pat_parser_laws.specs.Names.{AreSpelled, TreeNamed};
 ghost use Rattle.pat_syntax.specs.Views.{kind_view, token_view};
 ghost use Rattle.pat_tree.specs.Views.{span_view, decl_view, tree_view};
-ghost use Rattle.pat_parser_tokens.specs.Answers.{limits, answer, after, moved, Parses};
-ghost use Rattle.pat_parser_states.specs.Views.{stack_view, state_view};
+ghost use Rattle.pat_parser_phrases.specs.tokens.Answers.{limits, answer, after, moved, Parses};
+ghost use Rattle.pat_parser.specs.states.Views.{stack_view, state_view};
 ghost use Rattle.pat_parser.specs.Answers.{GivesAt, Explains};
 
-use pat_parser_declarations::{interface, signature};
-use pat_parser_states::{BlockFrame, Defining, Frame, Frames, State, begun};
-use pat_parser_terms::within;
-use pat_parser_tokens::{ParseError, Tokens};
+use crate::states::{BlockFrame, Defining, Frame, Frames, State, begun};
+use crate::terms::within;
+use pat_parser_phrases::{ParseError, Tokens, interface, signature};
 use pat_sequences::Sequence;
 use pat_syntax::{Reserved, Span, Token, TokenKind};
 use pat_tree::{Decl, Tree};

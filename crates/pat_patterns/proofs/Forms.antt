@@ -1,7 +1,7 @@
 -- When a simplified sum is one of its sides.
 use Rattle.std.proofs.Common.{◌≡◌, Bool, true, false, if◌then◌else◌, refl, sym}
 use Rattle.std.proofs.lemmas.Bool.{cond_both}
-use Rattle.pat_words.specs.Patterns.{Pat, Sum, sum_of, is_zero, pat_eq}
+use Rattle.pat_words_spec.specs.Patterns.{Pat, Sum, sum_of, is_zero, pat_eq}
 use Rattle.pat_words_laws.proofs.PatternLaws.{pat_eq_same}
 use Rattle.pat_words_laws.proofs.FormLaws.{same_pat_eq}
 

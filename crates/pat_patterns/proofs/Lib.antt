@@ -1,3 +1,5 @@
 pub mod Crossing
 mod Forms
 mod Meaning
+mod ResidualsMeaning
+pub mod Made

@@ -1,8 +1,8 @@
 -- What a substitution gives, in words.
 use Rattle.std.proofs.Common.{◌≡◌, ℕ, ◌↔◌, sym, subst}
-use Rattle.pat_words.specs.Words.{Word}
-use Rattle.pat_words.specs.Patterns.{Pat, In, subst_of, no_values}
-use Rattle.pat_words.specs.Substitutions.{InWith}
+use Rattle.pat_words_spec.specs.Words.{Word}
+use Rattle.pat_words_spec.specs.Patterns.{Pat, In, subst_of, no_values}
+use Rattle.pat_words_spec.specs.Substitutions.{InWith}
 use Rattle.pat_words_laws.proofs.FormLaws.{subst_to, subst_from}
 
 -- a pattern that the substitution gives has the words under the values

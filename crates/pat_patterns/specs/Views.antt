@@ -1,6 +1,6 @@
 -- Patterns of shared parts, seen as patterns of the definitions.
 use Rattle.std.specs.Prelude.{ℕ, List, [], ◌∷◌, map, slice_index_or}
-use Rattle.pat_words.specs.Patterns.{Pat, Zero, One, Tag, Sum, Prod, Star, Var}
+use Rattle.pat_words_spec.specs.Patterns.{Pat, Zero, One, Tag, Sum, Prod, Star, Var}
 use Rattle.pat_patterns.specs.declared.pattern.Pattern.{Pattern}
 use Rattle.pat_patterns.specs.declared.pattern.Pattern.TheVariants.{Zero as CodeZero, One as CodeOne, Tag as CodeTag, Sum' as CodeSum, Prod' as CodeProd, Star' as CodeStar, Var as CodeVar}
 

@@ -1,6 +1,6 @@
 // The simplifying forms.
 ghost use Rattle.std.specs.Prelude.{◌≡◌, IfOk};
-ghost use Rattle.pat_words.specs.Patterns.{sum_of, prod_of, star_of};
+ghost use Rattle.pat_words_spec.specs.Patterns.{sum_of, prod_of, star_of};
 ghost use Rattle.pat_patterns.specs.Views.{pattern_view};
 
 use crate::pattern::Pattern;

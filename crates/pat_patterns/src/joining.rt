@@ -1,6 +1,6 @@
 // Patterns on a stack: those on top taken, and made one.
 ghost use Rattle.std.specs.Prelude.{◌≡◌, ◌∷◌, ◌≤◌, length, OnOk};
-ghost use Rattle.pat_words.specs.Patterns.{Sum, Prod, Star};
+ghost use Rattle.pat_words_spec.specs.Patterns.{Sum, Prod, Star};
 ghost use Rattle.pat_patterns.specs.Views.{pattern_view, patterns_view, joined, joined_one};
 
 use crate::pattern::Pattern;

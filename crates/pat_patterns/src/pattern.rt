@@ -3,7 +3,7 @@
 // The parts of a pattern are shared: a copy is one more owner of them, and takes no walk. They may
 // have owners in several threads, since a program is lent to threads.
 ghost use Rattle.std.specs.Prelude.{◌≡◌, IfOk, IsTrue, ◌↔◌};
-ghost use Rattle.pat_words.specs.Patterns.{is_zero, is_one};
+ghost use Rattle.pat_words_spec.specs.Patterns.{is_zero, is_one};
 ghost use Rattle.pat_patterns.specs.Views.{pattern_view};
 
 use std::alloc::AllocError;

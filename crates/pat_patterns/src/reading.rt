@@ -1,7 +1,7 @@
 // The sizes of a pattern, and whether its variables have values.
 ghost use Rattle.std.specs.Prelude.{◌≡◌, ◌-◌, ◌^◌, min};
-ghost use Rattle.pat_words.specs.Sizes.{size_of, levels_of};
-ghost use Rattle.pat_words.specs.Substitutions.{has_values as has_values_of};
+ghost use Rattle.pat_words_spec.specs.Sizes.{size_of, levels_of};
+ghost use Rattle.pat_words_spec.specs.Substitutions.{has_values as has_values_of};
 ghost use Rattle.pat_patterns.specs.Views.{pattern_view};
 
 use crate::pattern::Pattern;

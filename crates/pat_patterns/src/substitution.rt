@@ -1,8 +1,8 @@
 // Substitution of patterns for variables.
 ghost use Rattle.std.specs.Prelude.{◌≡◌, ◌∷◌, ◌≤◌, ◌↔◌, length, IfOk, OnOk, IsTrue};
-ghost use Rattle.pat_words.specs.Words.{Word};
-ghost use Rattle.pat_words.specs.Patterns.{In, Pat, sum_of, prod_of, star_of, subst_of};
-ghost use Rattle.pat_words.specs.Substitutions.{InWith, has_values};
+ghost use Rattle.pat_words_spec.specs.Words.{Word};
+ghost use Rattle.pat_words_spec.specs.Patterns.{In, Pat, sum_of, prod_of, star_of, subst_of};
+ghost use Rattle.pat_words_spec.specs.Substitutions.{InWith, has_values};
 ghost use Rattle.pat_patterns.specs.Views.{pattern_view, patterns_view, joined, joined_one, value_at};
 
 use crate::building::{product, star, sum};

@@ -1,6 +1,6 @@
 -- What the definitions see of base types, polarities and operators.
-use Rattle.pat_model.specs.Values as values
-use Rattle.pat_model.specs.Programs as programs
+use Rattle.pat_semantics_spec.specs.Values as values
+use Rattle.pat_semantics_spec.specs.Programs as programs
 use Rattle.pat_primitives.specs.declared.Base.{Base}
 use Rattle.pat_primitives.specs.declared.Base.TheVariants as base
 use Rattle.pat_primitives.specs.declared.Polarity.{Polarity}

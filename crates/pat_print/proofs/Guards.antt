@@ -1,7 +1,7 @@
 -- A guard in the code is that of its list of clauses.
 use Rattle.std.proofs.Common.{◌≡◌, ◌++◌, ◌∷◌, [], ℕ, List, ap, sym, ◌∙◌, rules, map, Vec, Global}
-use Rattle.pat_grammar.specs.Trees as trees
-use Rattle.pat_grammar.specs.Trees.{GuardTerm, listed}
+use Rattle.pat_parser_spec.specs.Trees as trees
+use Rattle.pat_parser_spec.specs.Trees.{GuardTerm, listed}
 use Rattle.pat_tree.specs.declared.pattern.Name.{Name}
 use Rattle.pat_tree.specs.declared.pattern.TreePattern.{TreePattern}
 use Rattle.pat_tree.specs.declared.term.Form.{Guard}
@@ -9,8 +9,8 @@ use Rattle.pat_tree.specs.declared.term.Form.TheViews.{the_lemmas}
 use Rattle.pat_tree.specs.declared.term.TreeClause.{TreeClause}
 use Rattle.pat_tree.specs.Views.{name_view, pattern_view, term_at, clause_view}
 use Rattle.pat_tree.proofs.Rows.{rows_are}
-use Rattle.pat_canonical.specs.Canonical.{term_onto, clauses_onto}
-use Rattle.pat_canonical.specs.Text.{text_of}
+use Rattle.pat_print_spec.specs.Canonical.{term_onto, clauses_onto}
+use Rattle.pat_print_spec.specs.Text.{text_of}
 use Rattle.pat_print.specs.Parts.{guarded_onto}
 use Rattle.pat_print.proofs.Lines.{guard_is}
 

@@ -1,8 +1,8 @@
 -- A part puts its own bytes before those of what follows it, whatever follows.
 use Rattle.std.proofs.Common.{◌≡◌, Bool, true, false, List, [], ◌∷◌, ◌++◌, refl, ap, sym, ◌∙◌, append_assoc, append-nil, Some, None, Option}
-use Rattle.pat_grammar.specs.Trees.{Name, Pattern, ZeroPattern, OnePattern, TagPattern, SumPattern, ProdPattern, StarPattern, WrittenType, BaseType, MailboxType, Message, Param, Expr, VarExpr, UnitExpr, BoolExpr, IntExpr, StrExpr, OpExpr, Term, LetTerm, IfTerm, PrintTerm, NewTerm, SpawnTerm, FreeTerm, GuardTerm, SendTerm, CallTerm, ValueTerm, Clause, FailClause, FreeClause, ReceiveClause, Clauses, no_clauses, with_clause, Decl, InterfaceDecl, DefDecl}
-use Rattle.pat_canonical.specs.Canonical.{Piece, Tok, Blank, Line, Pieces, Onto, name_onto, bracketed, braced, more_onto, list_onto, opens_left, opens_right, expr_onto, opens_factor, opens_sum_pattern, pattern_onto, written_onto, type_onto, opens_simple, args_onto, term_onto, clause_onto, clauses_onto, message_onto, param_onto, decl_onto, tree_onto}
-use Rattle.pat_canonical.specs.Text.{token_bytes, text_of}
+use Rattle.pat_parser_spec.specs.Trees.{Name, Pattern, ZeroPattern, OnePattern, TagPattern, SumPattern, ProdPattern, StarPattern, WrittenType, BaseType, MailboxType, Message, Param, Expr, VarExpr, UnitExpr, BoolExpr, IntExpr, StrExpr, OpExpr, Term, LetTerm, IfTerm, PrintTerm, NewTerm, SpawnTerm, FreeTerm, GuardTerm, SendTerm, CallTerm, ValueTerm, Clause, FailClause, FreeClause, ReceiveClause, Clauses, no_clauses, with_clause, Decl, InterfaceDecl, DefDecl}
+use Rattle.pat_print_spec.specs.Canonical.{Piece, Tok, Blank, Line, Pieces, Onto, name_onto, bracketed, braced, more_onto, list_onto, opens_left, opens_right, expr_onto, opens_factor, opens_sum_pattern, pattern_onto, written_onto, type_onto, opens_simple, args_onto, term_onto, clause_onto, clauses_onto, message_onto, param_onto, decl_onto, tree_onto}
+use Rattle.pat_print_spec.specs.Text.{token_bytes, text_of}
 use Rattle.pat_print.specs.Parts.{binding_onto, test_onto, guarded_onto, names_onto, received_onto, params_onto, payloads_onto}
 
 -- what a part puts before any pieces, it puts before none, and their bytes follow

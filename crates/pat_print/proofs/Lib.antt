@@ -1,3 +1,4 @@
 mod Keeping
-pub mod Lines
+mod Lines
 mod Guards
+mod Numbered

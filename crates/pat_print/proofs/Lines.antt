@@ -2,17 +2,17 @@
 use Rattle.std.proofs.Common.{◌≡◌, ℕ, Bool, true, List, [], ◌∷◌, ◌++◌, map, refl, ap, sym, ◌∙◌, append_assoc, append-nil, Some, None, Option, arith}
 use Rattle.std.specs.Prelude.{pos}
 use Rattle.std.proofs.lemmas.Fmt.{decimal_digit}
-use Rattle.pat_lexical.specs.Words as word
-use Rattle.pat_lexical.specs.Marks as mark
-use Rattle.pat_lexical.specs.Tokens.{Mark, Word, Integer}
-use Rattle.pat_model.specs.Values.{Op}
-use Rattle.pat_model.specs.Programs.{Polarity}
-use Rattle.pat_grammar.specs.Trees as trees
-use Rattle.pat_grammar.specs.Trees.{Span, Expr, Pattern, Term, LetTerm, IfTerm, PrintTerm, NewTerm, SpawnTerm, FreeTerm, SendTerm, CallTerm, GuardTerm, Clause, FreeClause, ReceiveClause, Clauses, WrittenType, MailboxType, Decl, InterfaceDecl, DefDecl}
-use Rattle.pat_canonical.specs.Canonical.{Piece, Pieces, Onto, Tok, Blank, Line, name_onto, bracketed, braced, more_onto, list_onto, op_token, expr_onto, pattern_onto, polarity_mark, written_onto, type_onto, opens_simple, args_onto, term_onto, clause_onto, clauses_onto, message_onto, param_onto, decl_onto, tree_onto}
-use Rattle.pat_canonical.specs.Bare.{nowhere}
-use Rattle.pat_canonical.specs.Text.{token_bytes, text_of}
-use Rattle.pat_lexical.specs.Marks.{mark_bytes}
+use Rattle.pat_lexer_spec.specs.Words as word
+use Rattle.pat_lexer_spec.specs.Marks as mark
+use Rattle.pat_lexer_spec.specs.Tokens.{Mark, Word, Integer}
+use Rattle.pat_semantics_spec.specs.Values.{Op}
+use Rattle.pat_semantics_spec.specs.Programs.{Polarity}
+use Rattle.pat_parser_spec.specs.Trees as trees
+use Rattle.pat_parser_spec.specs.Trees.{Span, Expr, Pattern, Term, LetTerm, IfTerm, PrintTerm, NewTerm, SpawnTerm, FreeTerm, SendTerm, CallTerm, GuardTerm, Clause, FreeClause, ReceiveClause, Clauses, WrittenType, MailboxType, Decl, InterfaceDecl, DefDecl}
+use Rattle.pat_print_spec.specs.Canonical.{Piece, Pieces, Onto, Tok, Blank, Line, name_onto, bracketed, braced, more_onto, list_onto, op_token, expr_onto, pattern_onto, polarity_mark, written_onto, type_onto, opens_simple, args_onto, term_onto, clause_onto, clauses_onto, message_onto, param_onto, decl_onto, tree_onto}
+use Rattle.pat_print_spec.specs.Bare.{nowhere}
+use Rattle.pat_print_spec.specs.Text.{token_bytes, text_of}
+use Rattle.pat_lexer_spec.specs.Marks.{mark_bytes}
 use Rattle.pat_print.specs.Parts.{behind_commas, separated, binding_onto, test_onto, guarded_onto, names_onto, received_onto, params_onto, payloads_onto}
 use Rattle.pat_print.proofs.Keeping.{Keeps, piece, both, in_brackets, in_braces, list_keeps, name_keeps, expr_keeps, pattern_keeps, written_keeps, type_keeps, args_keeps, term_keeps, clause_keeps, clauses_keeps, message_keeps, decl_keeps, tree_keeps, binding_keeps, test_keeps, guarded_keeps, names_keeps, received_keeps, params_keeps, payloads_keeps}
 

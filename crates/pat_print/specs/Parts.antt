@@ -1,10 +1,10 @@
 -- The text of a part of a tree.
 use Rattle.std.specs.Prelude.{ℕ, List, [], ◌∷◌, ◌++◌, Option, Some, None}
-use Rattle.pat_lexical.specs.Words as word
-use Rattle.pat_lexical.specs.Marks as mark
-use Rattle.pat_grammar.specs.Trees.{Name, Pattern, WrittenType, Param, Expr, Term}
-use Rattle.pat_canonical.specs.Canonical.{Onto, Blank, marked, worded, name_onto, braced, list_onto, expr_onto, pattern_onto, type_onto, opens_simple, param_onto, term_onto}
-use Rattle.pat_canonical.specs.Text.{text_of}
+use Rattle.pat_lexer_spec.specs.Words as word
+use Rattle.pat_lexer_spec.specs.Marks as mark
+use Rattle.pat_parser_spec.specs.Trees.{Name, Pattern, WrittenType, Param, Expr, Term}
+use Rattle.pat_print_spec.specs.Canonical.{Onto, Blank, marked, worded, name_onto, braced, list_onto, expr_onto, pattern_onto, type_onto, opens_simple, param_onto, term_onto}
+use Rattle.pat_print_spec.specs.Text.{text_of}
 
 -- the bytes that a part puts before those that follow it
 abbrev pub bytes_of : Onto → List ℕ

@@ -1,8 +1,8 @@
 // Names, integers and strings.
 ghost use Rattle.std.specs.Prelude.{◌≡◌, ◌++◌, ◌∷◌, [], OnOk};
 ghost use Rattle.std.specs.Fmt.{signed_decimal};
-ghost use Rattle.pat_canonical.specs.Canonical.{name_onto};
-ghost use Rattle.pat_canonical.specs.Text.{quoted};
+ghost use Rattle.pat_print_spec.specs.Canonical.{name_onto};
+ghost use Rattle.pat_print_spec.specs.Text.{quoted};
 ghost use Rattle.pat_tree.specs.Views.{name_view};
 ghost use Rattle.pat_print.specs.Parts.{bytes_of};
 

@@ -1,8 +1,8 @@
 // Declarations.
 ghost use Rattle.std.specs.Prelude.{◌≡◌, ◌++◌, map, OnOk};
-ghost use Rattle.pat_canonical.specs.Canonical.{list_onto, message_onto, param_onto, decl_onto};
+ghost use Rattle.pat_print_spec.specs.Canonical.{list_onto, message_onto, param_onto, decl_onto};
 ghost use Rattle.pat_tree.specs.Views.{name_view, type_view, term_view, message_view, param_view, decl_view};
-ghost use Rattle.pat_grammar.specs.Trees.{InterfaceDecl, DefDecl};
+ghost use Rattle.pat_parser_spec.specs.Trees.{InterfaceDecl, DefDecl};
 ghost use Rattle.pat_print.specs.Parts.{bytes_of, params_onto, payloads_onto};
 
 use crate::atoms::put_name;

@@ -1,7 +1,7 @@
 // Expressions.
 ghost use Rattle.std.specs.Prelude.{◌≡◌, ◌++◌, ◌∷◌, [], OnOk};
-ghost use Rattle.pat_canonical.specs.Canonical.{op_token, opens_atom, opens_product, opens_sum, opens_left, opens_right, bracketed, expr_onto};
-ghost use Rattle.pat_canonical.specs.Text.{token_bytes};
+ghost use Rattle.pat_print_spec.specs.Canonical.{op_token, opens_atom, opens_product, opens_sum, opens_left, opens_right, bracketed, expr_onto};
+ghost use Rattle.pat_print_spec.specs.Text.{token_bytes};
 ghost use Rattle.pat_primitives.specs.Views.{op_view};
 ghost use Rattle.pat_tree.specs.Views.{expr_view};
 ghost use Rattle.pat_print.specs.Parts.{bytes_of};

@@ -1,21 +1,23 @@
-//! Trees as text: the canonical text of a tree.
+//! Trees and patterns to their canonical text.
 #![tactic(auto)]
+
+ghost use Rattle.std.specs.Prelude.{◌≡◌, IfOk};
+ghost use Rattle.pat_parser_spec.specs.Items.{Limits};
+ghost use Rattle.pat_print_spec.specs.Text.{canonical_text};
+ghost use Rattle.pat_print_laws.specs.ReadAgain.{CanBeSpelled, ReadsAs};
+ghost use Rattle.pat_tree.specs.Views.{tree_view};
 
 mod atoms;
 mod declaration;
 mod expression;
 mod list;
 mod pattern;
+mod patterns;
 mod term;
-
-ghost use Rattle.std.specs.Prelude.{◌≡◌, IfOk};
-ghost use Rattle.pat_grammar.specs.Items.{Limits};
-ghost use Rattle.pat_canonical.specs.Text.{canonical_text};
-ghost use Rattle.pat_canonical_laws.specs.ReadAgain.{CanBeSpelled, ReadsAs};
-ghost use Rattle.pat_tree.specs.Views.{tree_view};
 
 use declaration::put_declaration;
 use pat_tree::Tree;
+pub use patterns::{pattern_text, pattern_text_law, push_pattern};
 use std::alloc::{AllocError, Global};
 
 /// The canonical text of a tree: a declaration a line. Where the tree is, places aside, one that tokens spell within some

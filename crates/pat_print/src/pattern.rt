@@ -1,8 +1,8 @@
 // Patterns and types as they are written.
 ghost use Rattle.std.specs.Prelude.{◌≡◌, ◌++◌, option_map, OnOk};
-ghost use Rattle.pat_lexical.specs.Words.{word_bytes};
-ghost use Rattle.pat_lexical.specs.Marks.{mark_bytes};
-ghost use Rattle.pat_canonical.specs.Canonical.{bracketed, opens_factor, opens_sum_pattern, pattern_onto, written_onto, type_onto, base_word, polarity_mark};
+ghost use Rattle.pat_lexer_spec.specs.Words.{word_bytes};
+ghost use Rattle.pat_lexer_spec.specs.Marks.{mark_bytes};
+ghost use Rattle.pat_print_spec.specs.Canonical.{bracketed, opens_factor, opens_sum_pattern, pattern_onto, written_onto, type_onto, base_word, polarity_mark};
 ghost use Rattle.pat_primitives.specs.Views.{base_view, polarity_view};
 ghost use Rattle.pat_tree.specs.Views.{pattern_view, type_view};
 ghost use Rattle.pat_print.specs.Parts.{bytes_of};

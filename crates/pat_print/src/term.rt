@@ -1,8 +1,8 @@
 // Terms, and the clauses of guards.
 ghost use Rattle.std.specs.Prelude.{◌≡◌, ◌++◌, true, map, option_map, OnOk};
-ghost use Rattle.pat_grammar.specs.Trees.{PrintTerm, NewTerm, FreeTerm, SendTerm, CallTerm, listed};
-ghost use Rattle.pat_canonical.specs.Bare.{nowhere};
-ghost use Rattle.pat_canonical.specs.Canonical.{name_onto, braced, opens_simple, args_onto, expr_onto, term_onto, clause_onto, clauses_onto};
+ghost use Rattle.pat_parser_spec.specs.Trees.{PrintTerm, NewTerm, FreeTerm, SendTerm, CallTerm, listed};
+ghost use Rattle.pat_print_spec.specs.Bare.{nowhere};
+ghost use Rattle.pat_print_spec.specs.Canonical.{name_onto, braced, opens_simple, args_onto, expr_onto, term_onto, clause_onto, clauses_onto};
 ghost use Rattle.pat_tree.specs.Views.{name_view, pattern_view, expr_view, term_view, clause_view};
 ghost use Rattle.pat_print.specs.Parts.{bytes_of, binding_onto, test_onto, guarded_onto, names_onto, received_onto};
 

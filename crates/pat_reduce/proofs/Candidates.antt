@@ -3,13 +3,13 @@ use Rattle.std.proofs.Common.{◌≡◌, ℕ, Bool, true, false, ◌||◌, ◌&&
 use Rattle.std.specs.Prelude.{option_map, option_and_then, is_some, if◌then◌else◌}
 use Rattle.std.specs.List.{list_any}
 use Rattle.std.proofs.lemmas.Bool.{or_left, or_right}
-use Rattle.pat_model.specs.Patterns.{Pat}
-use Rattle.pat_model.specs.Values.{Value, Const, Mailbox, UnitConst, BoolConst, IntConst, TextConst, Env, value_at, eval, eval_all, line_of}
-use Rattle.pat_model.specs.Programs.{Program, Function, Clause, Val, Let, Call, If, Print, New, Send, Spawn, Guard, function_at}
-use Rattle.pat_model.specs.Configs.{Frame, Thread, Message, Config, thread_at, with_thread}
-use Rattle.pat_model.specs.Steps.{Act, ActLocal, ActNew, ActSend, ActSpawn, ActPrint, ActEnd, ActFree, ActReceive, Redex, At, Done, Nowhere, redex, local_at, enter, choose, new_at, send_at, send_to, spawn_at, print_at, print_line, end_at, free_at, free_mailbox, receive_at, receive_from, receive_message, clause_for, message_at, resume, thread_step, step}
-use Rattle.pat_model.specs.Runs.{acts, can_take, can_step_thread}
-use Rattle.pat_reduce_threads.specs.ThreadActs.{Guarding, guarding, guard_at, message_in, clause_takes, takes_option, first_taken}
+use Rattle.pat_semantics_spec.specs.Patterns.{Pat}
+use Rattle.pat_semantics_spec.specs.Values.{Value, Const, Mailbox, UnitConst, BoolConst, IntConst, TextConst, Env, value_at, eval, eval_all, line_of}
+use Rattle.pat_semantics_spec.specs.Programs.{Program, Function, Clause, Val, Let, Call, If, Print, New, Send, Spawn, Guard, function_at}
+use Rattle.pat_semantics_spec.specs.Configs.{Frame, Thread, Message, Config, thread_at, with_thread}
+use Rattle.pat_semantics_spec.specs.Steps.{Act, ActLocal, ActNew, ActSend, ActSpawn, ActPrint, ActEnd, ActFree, ActReceive, Redex, At, Done, Nowhere, redex, local_at, enter, choose, new_at, send_at, send_to, spawn_at, print_at, print_line, end_at, free_at, free_mailbox, receive_at, receive_from, receive_message, clause_for, message_at, resume, thread_step, step}
+use Rattle.pat_semantics_spec.specs.Runs.{acts, can_take, can_step_thread}
+use Rattle.pat_reduce.specs.threads.ThreadActs.{Guarding, guarding, guard_at, message_in, clause_takes, takes_option, first_taken}
 use Rattle.pat_reduce.specs.Acts.{may_free, act_if, is_truth, is_mailbox_value, candidate, plain_act, free_act, receive_or, act_at, EnabledAct, IsFirst}
 use Rattle.pat_reduce_values.proofs.Finds.{found_passes, found_any, none_found, find_same, any_same, any_map}
 

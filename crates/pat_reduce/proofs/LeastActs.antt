@@ -3,14 +3,14 @@ use Rattle.std.proofs.Common.{◌≡◌, ◌+◌, ◌<◌, ◌≤◌, ℕ, Bool,
 use Rattle.std.specs.Prelude.{option_map, find, is_some}
 use Rattle.std.proofs.lemmas.Bool.{cond-true}
 use Rattle.std.proofs.lemmas.List.{drop_more}
-use Rattle.pat_model.specs.Programs.{Program}
-use Rattle.pat_model.specs.Configs.{Thread, Config, thread_at}
-use Rattle.pat_model.specs.Orders.{IsOrdered}
-use Rattle.pat_model.specs.Steps.{Act, ActLocal, ActNew, ActSend, ActSpawn, ActPrint, ActEnd, ActFree, ActReceive}
-use Rattle.pat_model.specs.Runs.{can_step_thread}
-use Rattle.pat_model_laws.proofs.Leasts.{first_receive, first_thread}
-use Rattle.pat_reduce_threads.specs.declared.state.ThreadState.{ThreadState}
-use Rattle.pat_reduce_threads.specs.ThreadViews.{thread_view}
+use Rattle.pat_semantics_spec.specs.Programs.{Program}
+use Rattle.pat_semantics_spec.specs.Configs.{Thread, Config, thread_at}
+use Rattle.pat_semantics_spec.specs.Orders.{IsOrdered}
+use Rattle.pat_semantics_spec.specs.Steps.{Act, ActLocal, ActNew, ActSend, ActSpawn, ActPrint, ActEnd, ActFree, ActReceive}
+use Rattle.pat_semantics_spec.specs.Runs.{can_step_thread}
+use Rattle.pat_semantics_laws.proofs.Leasts.{first_receive, first_thread}
+use Rattle.pat_reduce.specs.declared.threads.state.ThreadState.{ThreadState}
+use Rattle.pat_reduce.specs.threads.ThreadViews.{thread_view}
 use Rattle.pat_reduce.specs.declared.config.Config.{Config as CodeConfig}
 use Rattle.pat_reduce.specs.declared.history.Act.{Act as CodeAct}
 use Rattle.pat_reduce.specs.Views.{act_view, config_view, threads_view}

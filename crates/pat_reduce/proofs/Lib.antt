@@ -5,3 +5,8 @@ pub mod Shared
 pub mod Candidates
 pub mod LeastActs
 pub mod StepNumbers
+mod Callees
+mod Firsts
+mod FramesReversed
+mod ParametersKept
+mod Refusals

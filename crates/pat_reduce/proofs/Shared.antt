@@ -2,14 +2,14 @@
 use Rattle.std.proofs.Common.{◌≡◌, ℕ, ◌+◌, Bool, true, false, not, nat_eq, List, [], ◌∷◌, ◌++◌, Option, Some, None, Err, refl, sym, ap, ◌∙◌}
 use Rattle.std.specs.Prelude.{option_map, option_and_then, filter, if◌then◌else◌}
 use Rattle.std.proofs.lemmas.Bool.{eqb-true}
-use Rattle.pat_model.specs.Values.{Value, Const, Mailbox, UnitConst, Env, value_at, eval, eval_all, line_of}
-use Rattle.pat_model.specs.Programs.{Program, Clause, Print, New, Send, Spawn, Guard}
-use Rattle.pat_model.specs.Configs.{Control, Returned, Frame, Thread, Message, Config, thread_at, with_thread}
-use Rattle.pat_model.specs.Steps.{Act, ActNew, ActSend, ActSpawn, ActPrint, ActFree, ActReceive, Redex, At, Done, Nowhere, redex, thread_of, new_at, send_at, send_to, spawn_at, print_at, print_line, free_at, free_mailbox, receive_at, receive_from, receive_message, clause_for, without_message, received, at_node, thread_step, step}
+use Rattle.pat_semantics_spec.specs.Values.{Value, Const, Mailbox, UnitConst, Env, value_at, eval, eval_all, line_of}
+use Rattle.pat_semantics_spec.specs.Programs.{Program, Clause, Print, New, Send, Spawn, Guard}
+use Rattle.pat_semantics_spec.specs.Configs.{Control, Returned, Frame, Thread, Message, Config, thread_at, with_thread}
+use Rattle.pat_semantics_spec.specs.Steps.{Act, ActNew, ActSend, ActSpawn, ActPrint, ActFree, ActReceive, Redex, At, Done, Nowhere, redex, thread_of, new_at, send_at, send_to, spawn_at, print_at, print_line, free_at, free_mailbox, receive_at, receive_from, receive_message, clause_for, without_message, received, at_node, thread_step, step}
 use Rattle.pat_reduce_values.specs.declared.error.StepError.{StepError}
 use Rattle.pat_reduce_values.specs.declared.error.StepError.TheVariants.{Disabled, NoMemory}
 use Rattle.pat_reduce_values.specs.Results.{Gives, StepGives}
-use Rattle.pat_reduce_threads.specs.ThreadActs.{Guarding, guarding, clause_takes, received_by, received_of, redex_received, message_in, is_new, message_to, redex_message, redex_line, spawned}
+use Rattle.pat_reduce.specs.threads.ThreadActs.{Guarding, guarding, clause_takes, received_by, received_of, redex_received, message_in, is_new, message_to, redex_message, redex_line, spawned}
 use Rattle.pat_reduce.specs.Acts.{may_free, freed_by, redex_freed}
 use Rattle.pat_reduce_values.proofs.Finds.{found_passes}
 

@@ -1,10 +1,10 @@
 -- A step takes at most one new number of each kind.
 use Rattle.std.proofs.Common.{◌≡◌, ℕ, ◌+◌, ◌≤◌, Bool, true, false, List, [], ◌∷◌, Option, Some, None, sym, subst, arith}
 use Rattle.std.specs.Prelude.{option_map, option_and_then, if◌then◌else◌}
-use Rattle.pat_model.specs.Programs.{Program, Val, Let, Call, If, Print, New, Send, Spawn, Guard}
-use Rattle.pat_model.specs.Configs.{Frame, Thread, Config, thread_at, with_thread}
-use Rattle.pat_model.specs.Steps.{Act, ActLocal, ActNew, ActSend, ActSpawn, ActPrint, ActEnd, ActFree, ActReceive, Step, Redex, At, Done, Nowhere, redex, local_step, end_at, thread_step, step}
-use Rattle.pat_reduce_threads.specs.ThreadActs.{is_new, redex_message, redex_line, redex_received, spawned}
+use Rattle.pat_semantics_spec.specs.Programs.{Program, Val, Let, Call, If, Print, New, Send, Spawn, Guard}
+use Rattle.pat_semantics_spec.specs.Configs.{Frame, Thread, Config, thread_at, with_thread}
+use Rattle.pat_semantics_spec.specs.Steps.{Act, ActLocal, ActNew, ActSend, ActSpawn, ActPrint, ActEnd, ActFree, ActReceive, Step, Redex, At, Done, Nowhere, redex, local_step, end_at, thread_step, step}
+use Rattle.pat_reduce.specs.threads.ThreadActs.{is_new, redex_message, redex_line, redex_received, spawned}
 use Rattle.pat_reduce.specs.Acts.{redex_freed}
 use Rattle.pat_reduce.specs.StepsTaken.{Within}
 use Rattle.pat_reduce.proofs.Shared.{made, sent, begun, said, freed, taken, new_is, send_is, spawn_is, print_is, free_is, receive_is}

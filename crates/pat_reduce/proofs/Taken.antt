@@ -6,22 +6,22 @@ use Rattle.std.specs.Map.{set_value}
 use Rattle.std.proofs.lemmas.Bool.{cond-true}
 use Rattle.std.proofs.lemmas.List.{map-append, set-append_left, length-append}
 use Rattle.std.proofs.lemmas.Option.{slice_get_read}
-use Rattle.pat_model.specs.Programs.{Program}
-use Rattle.pat_model.specs.Configs.{thread_at, control_refers, env_refers}
-use Rattle.pat_model.specs.Steps.{ActNew, ActSend, ActSpawn, ActPrint, ActFree, ActReceive, redex, thread_of, step}
+use Rattle.pat_semantics_spec.specs.Programs.{Program}
+use Rattle.pat_semantics_spec.specs.Configs.{thread_at, control_refers, env_refers}
+use Rattle.pat_semantics_spec.specs.Steps.{ActNew, ActSend, ActSpawn, ActPrint, ActFree, ActReceive, redex, thread_of, step}
 use Rattle.pat_reduce_values.specs.declared.values.Value.TheVariants as value
-use Rattle.pat_reduce_threads.specs.declared.state.Control.{Control as CodeControl}
-use Rattle.pat_reduce_threads.specs.declared.state.Control.TheVariants as control
-use Rattle.pat_reduce_threads.specs.declared.state.Frame.{Frame as CodeFrame}
-use Rattle.pat_reduce_threads.specs.declared.state.ThreadState.{ThreadState}
-use Rattle.pat_reduce_threads.specs.declared.state.Message.{Message as CodeMessage}
+use Rattle.pat_reduce.specs.declared.threads.state.Control.{Control as CodeControl}
+use Rattle.pat_reduce.specs.declared.threads.state.Control.TheVariants as control
+use Rattle.pat_reduce.specs.declared.threads.state.Frame.{Frame as CodeFrame}
+use Rattle.pat_reduce.specs.declared.threads.state.ThreadState.{ThreadState}
+use Rattle.pat_reduce.specs.declared.threads.state.Message.{Message as CodeMessage}
 use Rattle.pat_reduce.specs.declared.config.Config.{Config as CodeConfig}
 use Rattle.pat_reduce_values.specs.declared.error.StepError.{StepError}
 use Rattle.pat_reduce_values.specs.Results.{Gives, StepGives}
-use Rattle.pat_reduce_threads.specs.ThreadViews.{control_view, frame_view, message_view, thread_view}
+use Rattle.pat_reduce.specs.threads.ThreadViews.{control_view, frame_view, message_view, thread_view}
 use Rattle.pat_reduce.specs.Views.{freed_view, threads_view, config_view}
 use Rattle.pat_reduce.specs.Places.{IsPlace}
-use Rattle.pat_reduce_threads.specs.ThreadActs.{is_new, redex_message, redex_line, spawned, redex_received}
+use Rattle.pat_reduce.specs.threads.ThreadActs.{is_new, redex_message, redex_line, spawned, redex_received}
 use Rattle.pat_reduce.specs.Acts.{redex_freed}
 use Rattle.pat_reduce.proofs.Shared.{made, sent, begun, said, freed, taken, new_step, send_step, spawn_step, print_step, free_step, receive_step, refused}
 use Rattle.pat_reduce_values.proofs.Finds.{any_reversed}

@@ -1,12 +1,12 @@
 -- What a free and the enabling of a thread's acts are made of, as the code tests them.
 use Rattle.std.specs.Prelude.{◌≡◌, ◌≤◌, ℕ, Bool, true, false, not, ◌&&◌, if◌then◌else◌, List, [], ◌∷◌, Option, Some, None, option_map, option_and_then, is_some, find, IsTrue, IsFalse}
-use Rattle.pat_model.specs.Values.{Value, Const, Mailbox, BoolConst, Env, value_at, eval, eval_all, line_of}
-use Rattle.pat_model.specs.Programs.{Program, Core, Val, Let, Call, If, Print, New, Send, Spawn, Guard, function_at, is_among}
-use Rattle.pat_model.specs.Configs.{Control, Frame, Message, Config, has_pending, is_reached_by_none_but}
-use Rattle.pat_model.specs.Steps.{Act, ActLocal, ActNew, ActSend, ActSpawn, ActPrint, ActEnd, ActFree, ActReceive, Redex, At, Done, Nowhere, at_node, step}
-use Rattle.pat_model.specs.Runs.{can_step_thread}
-use Rattle.pat_model_laws.specs.Laws.{IsEnabled}
-use Rattle.pat_reduce_threads.specs.ThreadActs.{Guarding, guard_at, first_taken}
+use Rattle.pat_semantics_spec.specs.Values.{Value, Const, Mailbox, BoolConst, Env, value_at, eval, eval_all, line_of}
+use Rattle.pat_semantics_spec.specs.Programs.{Program, Core, Val, Let, Call, If, Print, New, Send, Spawn, Guard, function_at, is_among}
+use Rattle.pat_semantics_spec.specs.Configs.{Control, Frame, Message, Config, has_pending, is_reached_by_none_but}
+use Rattle.pat_semantics_spec.specs.Steps.{Act, ActLocal, ActNew, ActSend, ActSpawn, ActPrint, ActEnd, ActFree, ActReceive, Redex, At, Done, Nowhere, at_node, step}
+use Rattle.pat_semantics_spec.specs.Runs.{can_step_thread}
+use Rattle.pat_semantics_laws.specs.Laws.{IsEnabled}
+use Rattle.pat_reduce.specs.threads.ThreadActs.{Guarding, guard_at, first_taken}
 
 -- whether a mailbox may be freed by a thread: it is live, nothing is pending in it, and nothing else reaches it
 abbrev pub may_free : Config → ℕ → ℕ → Bool

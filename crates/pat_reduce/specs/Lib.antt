@@ -2,3 +2,4 @@ pub mod Views
 pub mod Places
 pub mod Acts
 pub mod StepsTaken
+pub mod threads

@@ -1,8 +1,8 @@
 -- Where a thread stands in the list of threads.
 use Rattle.std.specs.Prelude.{◌≡◌, ℕ, ◌<◌, nat_eq, List, length, Some, slice_get, slice_set, remove}
 use Rattle.std.specs.Map.{lookup, set_value, remove_entry}
-use Rattle.pat_reduce_threads.specs.declared.state.ThreadState.{ThreadState}
-use Rattle.pat_reduce_threads.specs.ThreadViews.{thread_view}
+use Rattle.pat_reduce.specs.declared.threads.state.ThreadState.{ThreadState}
+use Rattle.pat_reduce.specs.threads.ThreadViews.{thread_view}
 use Rattle.pat_reduce.specs.Views.{threads_view}
 
 -- the thread stands at this place, before any other of its number

@@ -1,6 +1,6 @@
 -- How many numbers of threads, mailboxes and messages steps take.
 use Rattle.std.specs.Prelude.{ℕ, ◌+◌, ◌≤◌}
-use Rattle.pat_model.specs.Configs.{Config}
+use Rattle.pat_semantics_spec.specs.Configs.{Config}
 
 -- at most n numbers of each kind were taken from c to d
 pub record Within (c : Config) (n : ℕ) (d : Config) : Type 0 where

@@ -1,11 +1,11 @@
 -- What the code's configurations, steps and entries are in the definitions.
 use Rattle.std.specs.Prelude.{ℕ, List, option_map, map}
-use Rattle.pat_model.specs.Configs.{Control, Thread, Config}
-use Rattle.pat_model.specs.Steps.{Act, ActLocal, ActNew, ActSend, ActSpawn, ActPrint, ActEnd, ActFree, ActReceive, Step}
-use Rattle.pat_model.specs.Runs.{Entry}
-use Rattle.pat_reduce_threads.specs.declared.state.Control.{Control as CodeControl}
-use Rattle.pat_reduce_threads.specs.declared.state.ThreadState.{ThreadState}
-use Rattle.pat_reduce_threads.specs.ThreadViews.{control_view, thread_view, message_view}
+use Rattle.pat_semantics_spec.specs.Configs.{Control, Thread, Config}
+use Rattle.pat_semantics_spec.specs.Steps.{Act, ActLocal, ActNew, ActSend, ActSpawn, ActPrint, ActEnd, ActFree, ActReceive, Step}
+use Rattle.pat_semantics_spec.specs.Runs.{Entry}
+use Rattle.pat_reduce.specs.declared.threads.state.Control.{Control as CodeControl}
+use Rattle.pat_reduce.specs.declared.threads.state.ThreadState.{ThreadState}
+use Rattle.pat_reduce.specs.threads.ThreadViews.{control_view, thread_view, message_view}
 use Rattle.pat_reduce.specs.declared.config.Config.{Config as CodeConfig}
 use Rattle.pat_reduce.specs.declared.history.Act.{Act as CodeAct}
 use Rattle.pat_reduce.specs.declared.history.Act.TheVariants as act

@@ -1,5 +1,5 @@
 // Configurations: threads, pending messages, live mailboxes, and what was printed.
-use pat_reduce_threads::{Message, ThreadState};
+use crate::threads::{Message, ThreadState};
 use pat_sequences::{Sequence, Text};
 
 /// A configuration. Threads, messages and live mailboxes stand in ascending order of number.

@@ -1,23 +1,24 @@
 // Which act of a thread is enabled.
 ghost use Rattle.std.specs.Prelude.{◌≡◌, map, option_map, option_and_then, is_some, IfSome, IfNone, IsTrue, IsFalse};
-ghost use Rattle.pat_model.specs.Values.{line_of};
-ghost use Rattle.pat_model.specs.Steps.{redex};
-ghost use Rattle.pat_model.specs.Orders.{IsOrdered};
-ghost use Rattle.pat_model.specs.Runs.{can_step, can_step_thread};
-ghost use Rattle.pat_reduce_threads.specs.Views.{core_view, program_view};
+ghost use Rattle.pat_semantics_spec.specs.Values.{line_of};
+ghost use Rattle.pat_semantics_spec.specs.Steps.{redex};
+ghost use Rattle.pat_semantics_spec.specs.Orders.{IsOrdered};
+ghost use Rattle.pat_semantics_spec.specs.Runs.{can_step, can_step_thread};
+ghost use Rattle.pat_reduce.specs.threads.Views.{core_view, program_view};
 ghost use Rattle.pat_reduce.specs.Views.{act_view, config_view};
-ghost use Rattle.pat_reduce_threads.specs.ThreadViews.{control_view, frame_view};
+ghost use Rattle.pat_reduce.specs.threads.ThreadViews.{control_view, frame_view};
 ghost use Rattle.pat_reduce_values.specs.ValueViews.{env_view, reference_view};
-ghost use Rattle.pat_reduce_threads.specs.GuardViews.{guard_view};
+ghost use Rattle.pat_reduce.specs.threads.GuardViews.{guard_view};
 ghost use Rattle.pat_reduce.specs.Acts.{act_if, is_truth, is_mailbox_value, term_act, plain_act, free_act, guard_act, act_at, EnabledAct, IsFirst, IsLeast, IsLeastReady};
-ghost use Rattle.pat_reduce_threads.specs.ThreadActs.{guard_at};
+ghost use Rattle.pat_reduce.specs.threads.ThreadActs.{guard_at};
 ghost use Rattle.pat_reduce.specs.Places.{IsPlace};
 
 use crate::steps::{place_of, state_at};
-use crate::{Act, Config};
-use pat_reduce_threads::{
-    Control, Core, GuardRef, ThreadState, core_of, first_message, function_of, guard_of,
+use crate::threads::{
+    Control, GuardRef, ThreadState, core_of, first_message, function_of, guard_of,
 };
+use crate::{Act, Config};
+use pat_core::Core;
 use pat_reduce_values::{Executable, Value, ValueRef, evaluate, have_values, value_of};
 
 impl Config {

@@ -1,13 +1,13 @@
 // Which mailboxes threads and messages refer to, and which may be freed.
 ghost use Rattle.std.specs.Prelude.{◌≡◌, map};
 ghost use Rattle.std.specs.List.{list_any};
-ghost use Rattle.pat_model.specs.Configs.{message_refers, other_refers, has_pending};
+ghost use Rattle.pat_semantics_spec.specs.Configs.{message_refers, other_refers, has_pending};
 ghost use Rattle.pat_reduce.specs.Views.{config_view, threads_view};
-ghost use Rattle.pat_reduce_threads.specs.ThreadViews.{message_view};
+ghost use Rattle.pat_reduce.specs.threads.ThreadViews.{message_view};
 ghost use Rattle.pat_reduce.specs.Acts.{may_free};
 
 use crate::Config;
-use pat_reduce_threads::{Message, ThreadState, message_refers, thread_refers};
+use crate::threads::{Message, ThreadState, message_refers, thread_refers};
 
 impl Config {
     /// Whether the mailbox may be freed by the thread: it is live, nothing is pending in it, and nothing else reaches it.

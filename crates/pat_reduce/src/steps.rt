@@ -1,22 +1,22 @@
 // The start of a program, and the steps of a configuration.
 ghost use Rattle.std.specs.Prelude.{◌≡◌, ◌<◌, ℕ, Some, None, [], ◌∷◌, ◌++◌, length, slice_get, slice_set, nat_eq, not, map, filter, IfOk, OnOk, OnErr, IfSome, IfNone};
 ghost use Rattle.std.specs.Map.{lookup};
-ghost use Rattle.pat_model.specs.Configs.{start};
-ghost use Rattle.pat_model.specs.Steps.{redex, ActLocal, ActNew, ActSend, ActSpawn, ActPrint, ActEnd, ActFree, ActReceive, step as after_step};
-ghost use Rattle.pat_reduce_threads.specs.Views.{program_view};
+ghost use Rattle.pat_semantics_spec.specs.Configs.{start};
+ghost use Rattle.pat_semantics_spec.specs.Steps.{redex, ActLocal, ActNew, ActSend, ActSpawn, ActPrint, ActEnd, ActFree, ActReceive, step as after_step};
+ghost use Rattle.pat_reduce.specs.threads.Views.{program_view};
 ghost use Rattle.pat_reduce.specs.declared.history.Act.TheVariants.{New, Send, Spawn};
 ghost use Rattle.pat_reduce.specs.Views.{config_view, freed_view, step_view, threads_view};
-ghost use Rattle.pat_reduce_threads.specs.ThreadViews.{control_view, message_view};
-ghost use Rattle.pat_reduce_threads.specs.declared.state.ThreadState.{ThreadState as StateOf};
+ghost use Rattle.pat_reduce.specs.threads.ThreadViews.{control_view, message_view};
+ghost use Rattle.pat_reduce.specs.declared.threads.state.ThreadState.{ThreadState as StateOf};
 ghost use Rattle.pat_reduce.specs.Acts.{redex_freed};
 ghost use Rattle.pat_reduce_values.specs.Results.{Gives, StepGives};
 ghost use Rattle.pat_reduce.specs.Places.{IsPlace};
 
-use crate::{Act, Config, Step};
-use pat_reduce_threads::{
+use crate::threads::{
     Control, Message, ThreadState, after_receive, guard_of, is_over, makes_mailbox, next_line,
     next_message, next_thread, node_with,
 };
+use crate::{Act, Config, Step};
 use pat_reduce_values::{Executable, StepError, Value};
 use pat_sequences::{Sequence, Stack};
 use std::alloc::{AllocError, Global};

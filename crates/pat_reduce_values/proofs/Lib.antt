@@ -2,3 +2,5 @@ mod Bindings
 -- for the crates above
 pub mod Finds
 mod Keeping
+mod VariableSets
+mod FreeLists

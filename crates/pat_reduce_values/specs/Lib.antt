@@ -1,3 +1,4 @@
 pub mod ValueViews
 pub mod Environments
 pub mod Results
+pub mod programs

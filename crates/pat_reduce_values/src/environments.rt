@@ -8,7 +8,7 @@ ghost use Rattle.pat_reduce_values.specs.ValueViews.{value_view, env_view};
 ghost use Rattle.pat_reduce_values.specs.Environments.{keep_but, IsPlaceFor, stands_at};
 
 use crate::Value;
-use pat_executable::Executable;
+use crate::programs::Executable;
 use pat_sequences::Sequence;
 use std::alloc::{AllocError, Global};
 

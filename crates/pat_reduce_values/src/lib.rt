@@ -1,13 +1,14 @@
-//! Values, environments, and what expressions come to in them.
+//! Values, environments, what expressions come to, and programs with the free variables of their nodes.
 #![tactic(auto)]
 
 mod environments;
 mod error;
 mod evaluation;
+mod programs;
 mod values;
 
 pub use environments::{bind, bind_all, bound, copied, keep_free, kept, kept_but};
 pub use error::StepError;
 pub use evaluation::{evaluate, have_values, parameters, value_for, value_of, values_of};
-pub use pat_executable::Executable;
+pub use programs::Executable;
 pub use values::{Value, ValueRef};

@@ -2,15 +2,15 @@
 use Rattle.std.proofs.Common.{◌≡◌, ℕ, zero, suc, ◌+◌, ◌-◌, List, [], ◌∷◌, ◌++◌, Option, Some, None, refl, sym, ap, ◌∙◌, subst, arith}
 use Rattle.std.specs.Prelude.{option_and_then, replicate}
 use Rattle.std.proofs.lemmas.List.{replicate-append-replicate}
-use Rattle.pat_model.specs.Programs.{Program}
-use Rattle.pat_model.specs.Configs.{Config}
-use Rattle.pat_model.specs.Steps.{Act, Step, step}
-use Rattle.pat_model.specs.Runs.{Entry, run_from, shared_step, entry_steps, entry_from}
-use Rattle.pat_model_laws.proofs.Inversion.{step_of, local_step_of}
-use Rattle.pat_model_laws.proofs.Replays.{runs_join, first_of}
-use Rattle.pat_commits.specs.Commits.{local_of}
+use Rattle.pat_semantics_spec.specs.Programs.{Program}
+use Rattle.pat_semantics_spec.specs.Configs.{Config}
+use Rattle.pat_semantics_spec.specs.Steps.{Act, Step, step}
+use Rattle.pat_semantics_spec.specs.Runs.{Entry, run_from, shared_step, entry_steps, entry_from}
+use Rattle.pat_semantics_laws.proofs.Inversion.{step_of, local_step_of}
+use Rattle.pat_semantics_laws.proofs.Replays.{runs_join, first_of}
+use Rattle.pat_machine_spec.specs.Commits.{local_of}
 use Rattle.pat_reduce.proofs.StepNumbers.{step_ahead}
-use Rattle.pat_commit_laws.proofs.Runs.{run_then}
+use Rattle.pat_machine_laws.proofs.Runs.{run_then}
 use Rattle.std.specs.Prelude.{Result}
 use Rattle.std.specs.declared.result.Result.TheVariants.{Ok, Err}
 use Rattle.pat_reduce_values.specs.declared.error.StepError.{StepError}

@@ -1,12 +1,12 @@
 -- What a replay answers.
 use Rattle.std.specs.Prelude.{◌≡◌, ℕ, ◌<◌, ◌≤◌, List, Option, Some, None, Result, replicate}
 use Rattle.std.specs.declared.result.Result.TheVariants.{Ok, Err}
-use Rattle.pat_model.specs.Programs.{Program}
-use Rattle.pat_model.specs.Configs.{Config, start}
-use Rattle.pat_model.specs.Steps.{Act, step}
-use Rattle.pat_model.specs.Runs.{Entry, entry_steps, entry_from, run_from, replay, shared_step}
-use Rattle.pat_commits.specs.Commits.{local_of}
-use Rattle.pat_commits.specs.Refusals.{IsRefusedAt}
+use Rattle.pat_semantics_spec.specs.Programs.{Program}
+use Rattle.pat_semantics_spec.specs.Configs.{Config, start}
+use Rattle.pat_semantics_spec.specs.Steps.{Act, step}
+use Rattle.pat_semantics_spec.specs.Runs.{Entry, entry_steps, entry_from, run_from, replay, shared_step}
+use Rattle.pat_machine_spec.specs.Commits.{local_of}
+use Rattle.pat_machine_spec.specs.Refusals.{IsRefusedAt}
 use Rattle.pat_reduce_values.specs.declared.error.StepError.{StepError}
 use Rattle.pat_reduce_values.specs.declared.error.StepError.TheVariants as step_error
 use Rattle.pat_reduce.specs.declared.config.Config.{Config as CodeConfig}

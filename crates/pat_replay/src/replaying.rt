@@ -1,13 +1,13 @@
 // The steps of a history, entry after entry.
 ghost use Rattle.std.specs.Prelude.{◌≡◌, ◌<◌, [], length, map, option_map, IsTrue, IsFalse};
-ghost use Rattle.pat_model.specs.Runs.{entry_steps};
+ghost use Rattle.pat_semantics_spec.specs.Runs.{entry_steps};
 ghost use Rattle.pat_core.specs.Views.{program_view};
 ghost use Rattle.pat_reduce.specs.Views.{act_view, config_view, entry_view};
 ghost use Rattle.pat_replay.specs.Replays.{HasTaken, ReplayGives, EntryGives, LocalsGive, SharedGives};
 
 use crate::error::ReplayError;
-use pat_executable::Executable;
 use pat_reduce::{Act, Config, Entry, Step, StepError};
+use pat_reduce_values::Executable;
 use std::alloc::Global;
 
 /// The configuration that a history leads to, from the start of the program.

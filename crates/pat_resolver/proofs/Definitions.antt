@@ -2,15 +2,15 @@
 use Rattle.std.proofs.Common.{◌≡◌, ◌+◌, ◌≤◌, ℕ, suc, List, [], ◌∷◌, ◌++◌, length, map, Option, None, refl, ap, sym, ◌∙◌, arith, append-nil, append_assoc, length-append}
 use Rattle.std.specs.List.{flat_map}
 use Rattle.std.proofs.lemmas.List.{length-map}
-use Rattle.pat_model.specs.Programs.{Function, Node}
-use Rattle.pat_grammar.specs.Trees as tree
-use Rattle.pat_names.specs.Heads.{InterfaceNames, Definition, definitions_of, Heads}
-use Rattle.pat_names.specs.Findings.{Finding, bodies_findings}
-use Rattle.pat_names.specs.Numbering.{nodes_in, body_scope, functions_from, nodes_from}
-use Rattle.pat_names.specs.Places.{FunctionPlaces, node_places, function_places}
-use Rattle.pat_names_laws.proofs.Binding.{nodes_length}
-use Rattle.pat_resolver_answers.specs.Results.{first_of}
-use Rattle.pat_resolver_answers.proofs.Firsts.{first_behind}
+use Rattle.pat_semantics_spec.specs.Programs.{Function, Node}
+use Rattle.pat_parser_spec.specs.Trees as tree
+use Rattle.pat_resolver_spec.specs.Heads.{InterfaceNames, Definition, definitions_of, Heads}
+use Rattle.pat_resolver_spec.specs.Findings.{Finding, bodies_findings}
+use Rattle.pat_resolver_spec.specs.Numbering.{nodes_in, body_scope, functions_from, nodes_from}
+use Rattle.pat_resolver_spec.specs.Places.{FunctionPlaces, node_places, function_places}
+use Rattle.pat_resolver_laws.proofs.Binding.{nodes_length}
+use Rattle.pat_resolver_heads.specs.results.Results.{first_of}
+use Rattle.pat_resolver_heads.proofs.Firsts.{first_behind}
 use Rattle.pat_resolver.specs.Steps.{nodes_in_all, result_kind, body_findings, function_nodes}
 
 -- what one more makes, where the rest is still to come

@@ -1,6 +1,6 @@
 -- The first function called main, declaration by declaration.
 use Rattle.std.proofs.Common.{ℕ, ◌+◌, Option, Some, None}
-use Rattle.pat_names.specs.Heads.{Definition}
+use Rattle.pat_resolver_spec.specs.Heads.{Definition}
 
 -- what was found behind so many functions
 abbrev pub behind : ℕ → Option (ℕ × Definition) → Option (ℕ × Definition)

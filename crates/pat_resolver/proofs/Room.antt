@@ -1,11 +1,11 @@
 -- Numbers are left for the parts of a tree of bounded size.
 use Rattle.std.proofs.Common.{◌≡◌, ◌+◌, ◌<◌, ◌≤◌, ℕ, zero, suc, List, [], ◌∷◌, length, drop, map, ap, arith}
 use Rattle.std.proofs.lemmas.List.{length-map}
-use Rattle.pat_grammar.specs.Trees as tree
-use Rattle.pat_grammar_laws.specs.Counts.{sum_of, param_size, decl_size, tree_size}
-use Rattle.pat_names.specs.Heads.{definitions_of}
-use Rattle.pat_names.specs.Findings.{binders_in}
-use Rattle.pat_resolver_numbering.proofs.Sizes.{binders_within, nodes_within}
+use Rattle.pat_parser_spec.specs.Trees as tree
+use Rattle.pat_parser_laws.specs.Counts.{sum_of, param_size, decl_size, tree_size}
+use Rattle.pat_resolver_spec.specs.Heads.{definitions_of}
+use Rattle.pat_resolver_spec.specs.Findings.{binders_in}
+use Rattle.pat_resolver.proofs.Sizes.{binders_within, nodes_within}
 use Rattle.pat_resolver.specs.Steps.{nodes_in_all}
 use Rattle.pat_tree.specs.declared.tree.Param.{Param}
 use Rattle.pat_tree.specs.declared.tree.Decl.{Decl}

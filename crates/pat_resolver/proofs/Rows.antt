@@ -1,14 +1,14 @@
 -- Parameters one after the other.
 use Rattle.std.proofs.Common.{◌≡◌, ℕ, ◌+◌, List, [], ◌∷◌, ◌++◌, map, refl, append_assoc, add-one}
 use Rattle.std.proofs.lemmas.List.{map-append}
-use Rattle.pat_model.specs.Programs.{kind_of}
-use Rattle.pat_names.specs.Scopes.{bind_names}
+use Rattle.pat_semantics_spec.specs.Programs.{kind_of}
+use Rattle.pat_resolver_spec.specs.Scopes.{bind_names}
 use Rattle.pat_syntax.specs.declared.span.Span.{Span}
 use Rattle.pat_core.specs.declared.program.Kind.{Kind}
 use Rattle.pat_core.specs.declared.program.Sort.{Sort}
 use Rattle.pat_core.specs.Views.{kind_view, sort_view}
-use Rattle.pat_resolver_tables.specs.declared.scope.Variable.{Variable}
-use Rattle.pat_resolver_tables.specs.Views.{scope_view}
+use Rattle.pat_resolver_heads.specs.declared.tables.scope.Variable.{Variable}
+use Rattle.pat_resolver_heads.specs.tables.Views.{scope_view}
 use Rattle.pat_tree.specs.declared.tree.Param.{Param}
 use Rattle.pat_tree.specs.Views.{param_view, span_view}
 

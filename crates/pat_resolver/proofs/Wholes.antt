@@ -1,22 +1,22 @@
 -- What a program that was made says of its tree.
 use Rattle.std.proofs.Common.{◌≡◌, ◌++◌, ℕ, List, [], map, Result, Ok, Err, None, sym, subst}
 use Rattle.std.specs.Prelude.{IfOk}
-use Rattle.pat_grammar.specs.Trees.{Tree}
-use Rattle.pat_names.specs.Heads.{InterfaceNames, Heads, interface_names, heads_of, definitions_of}
-use Rattle.pat_names.specs.Findings.{heads_findings, main_findings, main_of, bodies_findings, findings}
-use Rattle.pat_names.specs.Numbering.{numbered}
-use Rattle.pat_names.specs.Places.{places}
-use Rattle.pat_names.specs.Claims.{IsWritten}
-use Rattle.pat_names.specs.Resolved.{IsResolved}
-use Rattle.pat_names_laws.proofs.Resolved.{resolved}
+use Rattle.pat_parser_spec.specs.Trees.{Tree}
+use Rattle.pat_resolver_spec.specs.Heads.{InterfaceNames, Heads, interface_names, heads_of, definitions_of}
+use Rattle.pat_resolver_spec.specs.Findings.{heads_findings, main_findings, main_of, bodies_findings, findings}
+use Rattle.pat_resolver_spec.specs.Numbering.{numbered}
+use Rattle.pat_resolver_spec.specs.Places.{places}
+use Rattle.pat_resolver_spec.specs.Claims.{IsWritten}
+use Rattle.pat_resolver_spec.specs.Resolved.{IsResolved}
+use Rattle.pat_resolver_laws.proofs.Resolved.{resolved}
 use Rattle.pat_core.specs.Views.{program_view}
 use Rattle.pat_core.specs.declared.program.Program.{Program}
 use Rattle.pat_tree.specs.Views.{decl_view}
 use Rattle.pat_tree.specs.declared.tree.Decl.{Decl}
-use Rattle.pat_resolver_answers.specs.Views.{places_view}
-use Rattle.pat_resolver_answers.specs.Results.{first_of, Meets}
-use Rattle.pat_resolver_answers.specs.declared.error.ResolveError.{ResolveError}
-use Rattle.pat_resolver_answers.proofs.Firsts.{first_none, meets_behind}
+use Rattle.pat_resolver_heads.specs.results.Views.{places_view}
+use Rattle.pat_resolver_heads.specs.results.Results.{first_of, Meets}
+use Rattle.pat_resolver_heads.specs.declared.results.error.ResolveError.{ResolveError}
+use Rattle.pat_resolver_heads.proofs.Firsts.{first_none, meets_behind}
 
 -- it is all that later calls ask of a program
 pub is_resolved : (end : ℕ) (t : Tree) (r : Result Program ResolveError) → IsWritten t → Meets r (findings end t) → IfOk r (λ p. program_view p ≡ numbered t) → IfOk r (λ p. places_view p ≡ places t) → IfOk r (λ p. IsResolved (program_view p) (places_view p))

@@ -1,3 +1,4 @@
 pub mod Entry
 pub mod Steps
 pub mod Answers
+pub mod numbering

@@ -1,10 +1,10 @@
 -- What is found in the bodies of functions one after another, and what they resolve to.
 use Rattle.std.specs.Prelude.{ℕ, ◌+◌, List, [], ◌∷◌, ◌++◌, length, map}
-use Rattle.pat_model.specs.Values.{Kind}
-use Rattle.pat_model.specs.Programs.{Function, Node, kind_of}
-use Rattle.pat_names.specs.Heads.{InterfaceNames, Definition, Heads, signature_of}
-use Rattle.pat_names.specs.Findings.{Finding, term_findings}
-use Rattle.pat_names.specs.Numbering.{nodes_in, nodes_of, vars_of, body_scope}
+use Rattle.pat_semantics_spec.specs.Values.{Kind}
+use Rattle.pat_semantics_spec.specs.Programs.{Function, Node, kind_of}
+use Rattle.pat_resolver_spec.specs.Heads.{InterfaceNames, Definition, Heads, signature_of}
+use Rattle.pat_resolver_spec.specs.Findings.{Finding, term_findings}
+use Rattle.pat_resolver_spec.specs.Numbering.{nodes_in, nodes_of, vars_of, body_scope}
 use Rattle.pat_tree.specs.Views.{name_view, param_view, type_view, term_view}
 use Rattle.pat_tree.specs.declared.pattern.Name.{Name}
 use Rattle.pat_tree.specs.declared.term.Term.{Term}

@@ -1,14 +1,14 @@
 // The function that a run starts with.
 ghost use Rattle.std.specs.Prelude.{◌≡◌, ◌+◌, ◌<◌, ◌^◌, ◌∷◌, [], map, length, is_some, true, IfOk};
-ghost use Rattle.pat_names.specs.Scopes.{number_found};
-ghost use Rattle.pat_names.specs.Heads.{definitions_of};
-ghost use Rattle.pat_names.specs.Findings.{main_findings, main_of};
+ghost use Rattle.pat_resolver_spec.specs.Scopes.{number_found};
+ghost use Rattle.pat_resolver_spec.specs.Heads.{definitions_of};
+ghost use Rattle.pat_resolver_spec.specs.Findings.{main_findings, main_of};
 ghost use Rattle.pat_tree.specs.Views.{decl_view};
-ghost use Rattle.pat_resolver_answers.specs.Results.{Meets};
+ghost use Rattle.pat_resolver_heads.specs.results.Results.{Meets};
 ghost use Rattle.pat_resolver.specs.Entry.{main_in};
 
 use pat_primitives::Base;
-use pat_resolver_answers::{ResolveError, ResolveKind};
+use pat_resolver_heads::{ResolveError, ResolveKind};
 use pat_syntax::Span;
 use pat_tree::{Decl, TreeType};
 

@@ -1,18 +1,17 @@
 // The head of a function: its written types, and its parameters in scope.
 ghost use Rattle.std.specs.Prelude.{◌≡◌, ◌<◌, ◌^◌, [], map, length, IfOk, OnOk};
-ghost use Rattle.pat_model.specs.Programs.{kind_of};
-ghost use Rattle.pat_names.specs.Heads.{sort_of, params_scope};
-ghost use Rattle.pat_names.specs.Places.{type_place};
+ghost use Rattle.pat_semantics_spec.specs.Programs.{kind_of};
+ghost use Rattle.pat_resolver_spec.specs.Heads.{sort_of, params_scope};
+ghost use Rattle.pat_resolver_spec.specs.Places.{type_place};
 ghost use Rattle.pat_core.specs.Views.{kind_view, sort_view};
 ghost use Rattle.pat_tree.specs.Views.{span_view, param_view, type_view};
-ghost use Rattle.pat_resolver_tables.specs.Views.{scope_view};
-ghost use Rattle.pat_resolver_answers.specs.Views.{sort_place};
+ghost use Rattle.pat_resolver_heads.specs.tables.Views.{scope_view};
+ghost use Rattle.pat_resolver_heads.specs.results.Views.{sort_place};
 ghost use Rattle.pat_resolver_heads.specs.Names.{names_view};
 
 use pat_core::Sort;
 use pat_resolver_bodies::{Variables, bind, kind_of_sort};
-use pat_resolver_heads::{Heads, number_params, number_type};
-use pat_resolver_tables::ScopeTable;
+use pat_resolver_heads::{Heads, ScopeTable, number_params, number_type};
 use pat_sequences::Sequence;
 use pat_tree::{Param, TreeType};
 use std::alloc::{AllocError, Global};

@@ -1,9 +1,10 @@
-//! Trees to programs: the first rule of names and kinds that a tree breaks, or its program with the places of its parts.
+//! Trees to programs.
 #![tactic(auto)]
 
 mod entry;
 mod functions;
 mod heads;
+mod numbering;
 mod whole;
 
 pub use whole::{examine, resolve};

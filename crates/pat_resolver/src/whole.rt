@@ -1,17 +1,17 @@
 // Whole trees.
 ghost use Rattle.std.specs.Prelude.{◌≡◌, ◌<◌, ◌++◌, [], map, OnOk, IfOk, IfErr};
-ghost use Rattle.pat_names.specs.Scopes.{number_found};
-ghost use Rattle.pat_names.specs.Heads.{interface_names, heads_of};
-ghost use Rattle.pat_names.specs.Findings.{heads_findings, main_findings, main_of, findings};
-ghost use Rattle.pat_names.specs.Numbering.{numbered};
-ghost use Rattle.pat_names.specs.Places.{payload_places, places};
-ghost use Rattle.pat_names.specs.Claims.{Resolves, IsWritten};
-ghost use Rattle.pat_names.specs.Resolved.{IsResolved};
-ghost use Rattle.pat_grammar_laws.specs.Counts.{tree_size};
+ghost use Rattle.pat_resolver_spec.specs.Scopes.{number_found};
+ghost use Rattle.pat_resolver_spec.specs.Heads.{interface_names, heads_of};
+ghost use Rattle.pat_resolver_spec.specs.Findings.{heads_findings, main_findings, main_of, findings};
+ghost use Rattle.pat_resolver_spec.specs.Numbering.{numbered};
+ghost use Rattle.pat_resolver_spec.specs.Places.{payload_places, places};
+ghost use Rattle.pat_resolver_spec.specs.Claims.{Resolves, IsWritten};
+ghost use Rattle.pat_resolver_spec.specs.Resolved.{IsResolved};
+ghost use Rattle.pat_parser_laws.specs.Counts.{tree_size};
 ghost use Rattle.pat_core.specs.Views.{program_view};
 ghost use Rattle.pat_tree.specs.Views.{tree_view};
-ghost use Rattle.pat_resolver_answers.specs.Results.{Meets};
-ghost use Rattle.pat_resolver_answers.specs.Views.{places_view};
+ghost use Rattle.pat_resolver_heads.specs.results.Results.{Meets};
+ghost use Rattle.pat_resolver_heads.specs.results.Views.{places_view};
 ghost use Rattle.pat_resolver_heads.specs.Names.{names_view};
 ghost use Rattle.pat_resolver_heads.specs.Views.{heads_view};
 ghost use Rattle.pat_resolver_heads.specs.HeadPlaces.{interface_places};
@@ -20,8 +20,7 @@ ghost use Rattle.pat_resolver.specs.Answers.{Explains};
 use crate::entry::find_main;
 use crate::functions::{Resolution, check_functions, resolve_functions};
 use pat_core::Program;
-use pat_resolver_answers::ResolveError;
-use pat_resolver_heads::{Heads, read_heads};
+use pat_resolver_heads::{Heads, ResolveError, read_heads};
 use pat_tree::Tree;
 use std::alloc::Global;
 

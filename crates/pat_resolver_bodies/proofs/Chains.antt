@@ -1,14 +1,14 @@
 -- What is left of a chain of lets.
 use Rattle.std.proofs.Common.{◌≡◌, ℕ, ◌+◌, List, ◌++◌, Option, None, ap, sym, ◌∙◌, append_assoc, arith}
-use Rattle.pat_model.specs.Values.{Kind}
-use Rattle.pat_grammar.specs.Trees as tree
-use Rattle.pat_names.specs.Scopes.{Scope}
-use Rattle.pat_names.specs.Heads.{Heads}
-use Rattle.pat_names.specs.Findings.{Finding, term_findings, binders_in, kind_of_term}
-use Rattle.pat_names.specs.Numbering.{vars_of}
-use Rattle.pat_names.specs.Places.{var_places}
-use Rattle.pat_resolver_answers.specs.Results.{first_of}
-use Rattle.pat_resolver_answers.proofs.Firsts.{first_behind}
+use Rattle.pat_semantics_spec.specs.Values.{Kind}
+use Rattle.pat_parser_spec.specs.Trees as tree
+use Rattle.pat_resolver_spec.specs.Scopes.{Scope}
+use Rattle.pat_resolver_spec.specs.Heads.{Heads}
+use Rattle.pat_resolver_spec.specs.Findings.{Finding, term_findings, binders_in, kind_of_term}
+use Rattle.pat_resolver_spec.specs.Numbering.{vars_of}
+use Rattle.pat_resolver_spec.specs.Places.{var_places}
+use Rattle.pat_resolver_heads.specs.results.Results.{first_of}
+use Rattle.pat_resolver_heads.proofs.Firsts.{first_behind}
 use Rattle.pat_resolver_bodies.specs.Steps.{bound_findings, bound_scope, bound_binders, bound_vars, bound_places}
 use Rattle.pat_resolver_bodies.proofs.Steps.{let_found, let_kind, let_vars, let_places, let_binders}
 

@@ -1,9 +1,9 @@
 -- Terms that are no lets, by their parts.
 use Rattle.std.proofs.Common.{◌≡◌, ℕ, suc, ◌+◌, Bool, true, false, List, [], ◌∷◌, ◌++◌, length, map, slice_set, Option, Some, None, option_map, Ok, Err, OnOk, IfOk, IfNone, IfSome, Vec, Box, Global, rules, refl, ap, sym, ◌∙◌, subst}
 use Rattle.std.specs.Prelude.{Result}
-use Rattle.pat_model.specs.Values.{Kind, Plain, BaseBool}
-use Rattle.pat_grammar.specs.Trees as tree
-use Rattle.pat_grammar.specs.Trees.{listed}
+use Rattle.pat_semantics_spec.specs.Values.{Kind, Plain, BaseBool}
+use Rattle.pat_parser_spec.specs.Trees as tree
+use Rattle.pat_parser_spec.specs.Trees.{listed}
 use Rattle.pat_tree.specs.declared.pattern.Name.{Name}
 use Rattle.pat_tree.specs.declared.pattern.TreePattern.{TreePattern}
 use Rattle.pat_tree.specs.declared.term.Form.{Form, Guard, Let, Let', If', Print, New, Spawn', Free, Guard', Send, Call, Value}
@@ -12,12 +12,12 @@ use Rattle.pat_tree.specs.declared.term.Term.{Term}
 use Rattle.pat_tree.specs.declared.term.TreeClause.{TreeClause}
 use Rattle.pat_tree.specs.Views.{name_view, pattern_view, term_at, clause_view}
 use Rattle.pat_tree.proofs.Rows.{rows_are}
-use Rattle.pat_names.specs.Scopes.{Scope, variable_of, unit_kind}
-use Rattle.pat_names.specs.Heads.{Heads, tag_names, tag_named, clause_scope}
-use Rattle.pat_names.specs.Findings.{Finding, own_kind, pattern_findings, tag_findings, names_findings, expr_findings, term_findings, binders_in, kind_of_clauses, clauses_findings, no_earlier, has_body, bodiless, guarded, on_mailbox}
-use Rattle.pat_resolver_answers.specs.Results.{first_of, Refuses, Meets}
-use Rattle.pat_resolver_answers.specs.declared.error.ResolveError.{ResolveError}
-use Rattle.pat_resolver_answers.proofs.Firsts.{nothing_found, refuses_front, refuses_behind, meets_behind}
+use Rattle.pat_resolver_spec.specs.Scopes.{Scope, variable_of, unit_kind}
+use Rattle.pat_resolver_spec.specs.Heads.{Heads, tag_names, tag_named, clause_scope}
+use Rattle.pat_resolver_spec.specs.Findings.{Finding, own_kind, pattern_findings, tag_findings, names_findings, expr_findings, term_findings, binders_in, kind_of_clauses, clauses_findings, no_earlier, has_body, bodiless, guarded, on_mailbox}
+use Rattle.pat_resolver_heads.specs.results.Results.{first_of, Refuses, Meets}
+use Rattle.pat_resolver_heads.specs.declared.results.error.ResolveError.{ResolveError}
+use Rattle.pat_resolver_heads.proofs.Firsts.{nothing_found, refuses_front, refuses_behind, meets_behind}
 use Rattle.pat_core.specs.declared.program.Kind.{Kind as CodeKind}
 use Rattle.pat_core.specs.Views.{kind_view}
 use Rattle.pat_resolver_bodies.specs.Needs.{needed, term_need, clause_need, clauses_need, of_bodies, is_let}

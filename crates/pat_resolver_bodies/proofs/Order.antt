@@ -2,11 +2,11 @@
 use Rattle.std.proofs.Common.{◌≡◌, List, ◌++◌, None, IsErrAnd, sym, ◌∙◌}
 use Rattle.std.specs.Prelude.{Result}
 use Rattle.std.proofs.lemmas.Result.{err_from_is_err_and}
-use Rattle.pat_names.specs.Findings.{Finding}
-use Rattle.pat_resolver_answers.specs.Results.{first_of, Refuses, Meets}
-use Rattle.pat_resolver_answers.specs.declared.error.ResolveError.{ResolveError}
-use Rattle.pat_resolver_answers.specs.declared.error.ResolveError.TheVariants.{Broken, NoMemory}
-use Rattle.pat_resolver_answers.proofs.Firsts.{first_front, first_behind, refuses_front}
+use Rattle.pat_resolver_spec.specs.Findings.{Finding}
+use Rattle.pat_resolver_heads.specs.results.Results.{first_of, Refuses, Meets}
+use Rattle.pat_resolver_heads.specs.declared.results.error.ResolveError.{ResolveError}
+use Rattle.pat_resolver_heads.specs.declared.results.error.ResolveError.TheVariants.{Broken, NoMemory}
+use Rattle.pat_resolver_heads.proofs.Firsts.{first_front, first_behind, refuses_front}
 use Rattle.pat_resolver_bodies.proofs.Places.{place_is}
 
 pub ruleset in_order = (first_front, first_behind, place_is)

@@ -1,7 +1,7 @@
 -- Where expressions stand.
 use Rattle.std.proofs.Common.{◌≡◌, refl}
-use Rattle.pat_grammar.specs.Trees as tree
-use Rattle.pat_names.specs.Scopes.{expr_at}
+use Rattle.pat_parser_spec.specs.Trees as tree
+use Rattle.pat_resolver_spec.specs.Scopes.{expr_at}
 use Rattle.pat_tree.specs.declared.expression.ExprForm.{ExprForm, Var, Unit as UnitForm, Bool as BoolForm, Int as IntForm, Str as StrForm, Op'}
 use Rattle.pat_tree.specs.Views.{expr_at as written}
 

@@ -1,14 +1,14 @@
 -- What is left of the clauses of a guard.
 use Rattle.std.proofs.Common.{◌≡◌, ℕ, ◌+◌, Bool, ◌||◌, List, ◌++◌, Option, None, is_some, option_map, ap, sym, ◌∙◌, append_assoc, arith}
-use Rattle.pat_model.specs.Values.{Kind}
-use Rattle.pat_grammar.specs.Trees as tree
-use Rattle.pat_names.specs.Scopes.{Scope}
-use Rattle.pat_names.specs.Heads.{Heads}
-use Rattle.pat_names.specs.Findings.{Finding, Earlier, clauses_findings, clauses_binders_in, has_body}
-use Rattle.pat_names.specs.Numbering.{clauses_vars_of}
-use Rattle.pat_names.specs.Places.{clauses_var_places}
-use Rattle.pat_resolver_answers.specs.Results.{first_of}
-use Rattle.pat_resolver_answers.proofs.Firsts.{first_behind}
+use Rattle.pat_semantics_spec.specs.Values.{Kind}
+use Rattle.pat_parser_spec.specs.Trees as tree
+use Rattle.pat_resolver_spec.specs.Scopes.{Scope}
+use Rattle.pat_resolver_spec.specs.Heads.{Heads}
+use Rattle.pat_resolver_spec.specs.Findings.{Finding, Earlier, clauses_findings, clauses_binders_in, has_body}
+use Rattle.pat_resolver_spec.specs.Numbering.{clauses_vars_of}
+use Rattle.pat_resolver_spec.specs.Places.{clauses_var_places}
+use Rattle.pat_resolver_heads.specs.results.Results.{first_of}
+use Rattle.pat_resolver_heads.proofs.Firsts.{first_behind}
 use Rattle.pat_resolver_bodies.specs.Needs.{needed, first_known, clause_need, clauses_need}
 use Rattle.pat_resolver_bodies.specs.Steps.{twice_findings, with_earlier, clause_findings, clause_kind, clause_binders, clause_vars, clause_places}
 use Rattle.pat_resolver_bodies.proofs.Steps.{clauses_found, clauses_kind, clauses_vars, clauses_places, clauses_binders, clauses_body, clause_same, needs_more, bodies_more}

@@ -1,15 +1,15 @@
 -- Items one after the other.
 use Rattle.std.proofs.Common.{◌≡◌, ℕ, ◌+◌, ◌<◌, List, [], ◌∷◌, ◌++◌, drop, length, get_or, map, refl, ap, sym, ◌∙◌, append_assoc, add-one}
 use Rattle.std.proofs.lemmas.List.{at_drop_more, map-append}
-use Rattle.pat_model.specs.Programs.{kind_of}
-use Rattle.pat_names.specs.Scopes.{bind_names}
-use Rattle.pat_names.specs.Numbering.{kinds_for}
+use Rattle.pat_semantics_spec.specs.Programs.{kind_of}
+use Rattle.pat_resolver_spec.specs.Scopes.{bind_names}
+use Rattle.pat_resolver_spec.specs.Numbering.{kinds_for}
 use Rattle.pat_syntax.specs.declared.span.Span.{Span}
 use Rattle.pat_core.specs.declared.program.Kind.{Kind}
 use Rattle.pat_core.specs.declared.program.Sort.{Sort}
 use Rattle.pat_core.specs.Views.{kind_view, sort_view}
-use Rattle.pat_resolver_tables.specs.declared.scope.Variable.{Variable}
-use Rattle.pat_resolver_tables.specs.Views.{scope_view}
+use Rattle.pat_resolver_heads.specs.declared.tables.scope.Variable.{Variable}
+use Rattle.pat_resolver_heads.specs.tables.Views.{scope_view}
 use Rattle.pat_tree.specs.declared.pattern.Name.{Name}
 use Rattle.pat_tree.specs.Views.{name_view, span_view}
 

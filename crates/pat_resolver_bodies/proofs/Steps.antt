@@ -1,12 +1,12 @@
 -- A let before its body, and a clause before those behind it.
 use Rattle.std.proofs.Common.{◌≡◌, ℕ, suc, ◌+◌, Bool, ◌||◌, ◌++◌, length, Option, Some, None, is_some, option_map, refl, append_assoc, append-nil, add-zero, arith}
-use Rattle.pat_model.specs.Values.{Kind}
-use Rattle.pat_grammar.specs.Trees as tree
-use Rattle.pat_names.specs.Scopes.{Scope}
-use Rattle.pat_names.specs.Heads.{Heads}
-use Rattle.pat_names.specs.Findings.{Earlier, term_findings, binders_in, kind_of_term, clauses_findings, clauses_binders_in, kind_of_clauses, has_body}
-use Rattle.pat_names.specs.Numbering.{vars_of, clauses_vars_of}
-use Rattle.pat_names.specs.Places.{var_places, clauses_var_places}
+use Rattle.pat_semantics_spec.specs.Values.{Kind}
+use Rattle.pat_parser_spec.specs.Trees as tree
+use Rattle.pat_resolver_spec.specs.Scopes.{Scope}
+use Rattle.pat_resolver_spec.specs.Heads.{Heads}
+use Rattle.pat_resolver_spec.specs.Findings.{Earlier, term_findings, binders_in, kind_of_term, clauses_findings, clauses_binders_in, kind_of_clauses, has_body}
+use Rattle.pat_resolver_spec.specs.Numbering.{vars_of, clauses_vars_of}
+use Rattle.pat_resolver_spec.specs.Places.{var_places, clauses_var_places}
 use Rattle.pat_resolver_bodies.specs.Needs.{needed, first_known, clause_need, clauses_need}
 use Rattle.pat_resolver_bodies.specs.Steps.{bound_findings, bound_scope, bound_binders, bound_vars, bound_places, twice_findings, with_earlier, clause_findings, clause_kind, clause_binders, clause_vars, clause_places}
 

@@ -2,7 +2,7 @@
 use Rattle.std.proofs.Common.{◌≡◌, ℕ, ◌-◌, ◌≤◌, List, [], ◌∷◌, refl, ◌++◌, take, drop, length, ap, sym, ◌∙◌, append_assoc, arith, length-append}
 use Rattle.std.proofs.lemmas.List.{take-append-drop}
 use Rattle.std.proofs.Math.Seq.{drop-append_seam}
-use Rattle.pat_resolver_tables.specs.declared.scope.Variable.{Variable}
+use Rattle.pat_resolver_heads.specs.declared.tables.scope.Variable.{Variable}
 use Rattle.pat_resolver_bodies.specs.Above.{IsAbove}
 
 -- with names in a row, and one more

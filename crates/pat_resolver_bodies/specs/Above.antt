@@ -1,6 +1,6 @@
 -- Scopes within one another.
 use Rattle.std.specs.Prelude.{◌≡◌, List, ◌++◌}
-use Rattle.pat_resolver_tables.specs.declared.scope.Variable.{Variable}
+use Rattle.pat_resolver_heads.specs.declared.tables.scope.Variable.{Variable}
 
 -- the inner scope has variables before those of the outer one
 pub record IsAbove (outer inner : List Variable) : Type 0 where

@@ -1,10 +1,10 @@
 -- A kind that is needed, or one that is not known yet.
 use Rattle.std.specs.Prelude.{ℕ, Bool, true, false, Option, Some, None}
-use Rattle.pat_model.specs.Values.{Kind}
-use Rattle.pat_grammar.specs.Trees as tree
-use Rattle.pat_names.specs.Scopes.{Scope, unit_kind}
-use Rattle.pat_names.specs.Heads.{Heads}
-use Rattle.pat_names.specs.Findings.{kind_of_term, kind_of_clauses}
+use Rattle.pat_semantics_spec.specs.Values.{Kind}
+use Rattle.pat_parser_spec.specs.Trees as tree
+use Rattle.pat_resolver_spec.specs.Scopes.{Scope, unit_kind}
+use Rattle.pat_resolver_spec.specs.Heads.{Heads}
+use Rattle.pat_resolver_spec.specs.Findings.{kind_of_term, kind_of_clauses}
 use Rattle.pat_resolver_bodies.specs.Steps.{clause_kind}
 
 -- the kind that is needed; where none is, the one that is there

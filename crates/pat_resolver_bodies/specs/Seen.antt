@@ -1,5 +1,5 @@
 -- What the definitions see of the clauses so far.
-use Rattle.pat_names.specs.Findings.{Earlier}
+use Rattle.pat_resolver_spec.specs.Findings.{Earlier}
 use Rattle.pat_resolver_bodies.specs.declared.names.Seen.{Seen}
 
 abbrev pub seen_view : Seen → Earlier

@@ -1,12 +1,12 @@
 -- What a let and a clause of a guard give by themselves, so that the rest is examined behind them.
 use Rattle.std.specs.Prelude.{ℕ, zero, suc, ◌+◌, true, not, List, [], ◌∷◌, ◌++◌, length, map, Option, Some, None}
-use Rattle.pat_model.specs.Values.{Kind, MailboxOf}
-use Rattle.pat_grammar.specs.Trees as tree
-use Rattle.pat_names.specs.Scopes.{Scope, variable, is_one_of, unit_kind}
-use Rattle.pat_names.specs.Heads.{Heads, tag_named, payload_kinds, clause_scope}
-use Rattle.pat_names.specs.Findings.{Finding, Twice, unless, Earlier, tag_findings, names_findings, binders_in, kind_of_term, term_findings}
-use Rattle.pat_names.specs.Numbering.{kinds_for, vars_of}
-use Rattle.pat_names.specs.Places.{var_places}
+use Rattle.pat_semantics_spec.specs.Values.{Kind, MailboxOf}
+use Rattle.pat_parser_spec.specs.Trees as tree
+use Rattle.pat_resolver_spec.specs.Scopes.{Scope, variable, is_one_of, unit_kind}
+use Rattle.pat_resolver_spec.specs.Heads.{Heads, tag_named, payload_kinds, clause_scope}
+use Rattle.pat_resolver_spec.specs.Findings.{Finding, Twice, unless, Earlier, tag_findings, names_findings, binders_in, kind_of_term, term_findings}
+use Rattle.pat_resolver_spec.specs.Numbering.{kinds_for, vars_of}
+use Rattle.pat_resolver_spec.specs.Places.{var_places}
 
 -- ---- lets
 

@@ -1,13 +1,13 @@
 // The bodies of functions: terms, and the clauses of guards.
 ghost use Rattle.std.specs.Prelude.{◌≡◌, ◌+◌, ◌<◌, ◌++◌, Some, false, length, map, OnOk, IfOk, option_map};
-ghost use Rattle.pat_grammar.specs.Trees.{listed};
-ghost use Rattle.pat_names.specs.Findings.{term_findings, binders_in, clauses_findings, clauses_binders_in, no_earlier, has_body};
-ghost use Rattle.pat_names.specs.Numbering.{vars_of, clauses_vars_of};
-ghost use Rattle.pat_names.specs.Places.{var_places, clauses_var_places};
+ghost use Rattle.pat_parser_spec.specs.Trees.{listed};
+ghost use Rattle.pat_resolver_spec.specs.Findings.{term_findings, binders_in, clauses_findings, clauses_binders_in, no_earlier, has_body};
+ghost use Rattle.pat_resolver_spec.specs.Numbering.{vars_of, clauses_vars_of};
+ghost use Rattle.pat_resolver_spec.specs.Places.{var_places, clauses_var_places};
 ghost use Rattle.pat_core.specs.Views.{kind_view};
-ghost use Rattle.pat_resolver_tables.specs.Views.{scope_view};
+ghost use Rattle.pat_resolver_heads.specs.tables.Views.{scope_view};
 ghost use Rattle.pat_tree.specs.Views.{span_view, name_view, term_view, clause_view};
-ghost use Rattle.pat_resolver_answers.specs.Results.{Meets};
+ghost use Rattle.pat_resolver_heads.specs.results.Results.{Meets};
 ghost use Rattle.pat_resolver_heads.specs.Views.{heads_view};
 ghost use Rattle.pat_resolver_bodies.specs.Needs.{needed, term_need, clause_need, clauses_need, of_bodies, is_let};
 ghost use Rattle.pat_resolver_bodies.specs.Above.{IsAbove};
@@ -20,9 +20,7 @@ use crate::lookups::{check_call, check_new, check_send, mailbox_named};
 use crate::names::Seen;
 use crate::variables::{Variables, leave};
 use pat_core::Kind;
-use pat_resolver_answers::ResolveError;
-use pat_resolver_heads::Heads;
-use pat_resolver_tables::ScopeTable;
+use pat_resolver_heads::{Heads, ResolveError, ScopeTable};
 use pat_tree::{Form, Name, Term, TreeClause};
 use std::alloc::Global;
 

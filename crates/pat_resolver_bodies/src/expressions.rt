@@ -1,19 +1,18 @@
 // Expressions: their names, and the kinds of their parts.
 ghost use Rattle.std.specs.Prelude.{◌≡◌, length, map, IfOk};
-ghost use Rattle.pat_model.specs.Programs.{kind_of};
-ghost use Rattle.pat_names.specs.Scopes.{kind_of_expr};
-ghost use Rattle.pat_names.specs.Findings.{parts_findings, expr_findings, shown_findings, args_findings};
+ghost use Rattle.pat_semantics_spec.specs.Programs.{kind_of};
+ghost use Rattle.pat_resolver_spec.specs.Scopes.{kind_of_expr};
+ghost use Rattle.pat_resolver_spec.specs.Findings.{parts_findings, expr_findings, shown_findings, args_findings};
 ghost use Rattle.pat_core.specs.Views.{kind_view, sort_view};
-ghost use Rattle.pat_resolver_tables.specs.Views.{scope_view};
+ghost use Rattle.pat_resolver_heads.specs.tables.Views.{scope_view};
 ghost use Rattle.pat_tree.specs.Views.{expr_view};
-ghost use Rattle.pat_resolver_answers.specs.Results.{Meets};
+ghost use Rattle.pat_resolver_heads.specs.results.Results.{Meets};
 
 use crate::kinds::{
     broken, check_left, exact_kind, is_shown, kind_given, kind_of_sort, right_need,
 };
 use pat_core::{Kind, Sort};
-use pat_resolver_answers::{ResolveError, ResolveKind};
-use pat_resolver_tables::ScopeTable;
+use pat_resolver_heads::{ResolveError, ResolveKind, ScopeTable};
 use pat_tree::{ExprForm, TreeExpr};
 
 /// Examines the parts of an expression: names, and what operators need of their sides. Answers its kind.

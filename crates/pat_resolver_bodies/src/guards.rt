@@ -1,15 +1,15 @@
 // What a guard and its clauses look up and bind.
 ghost use Rattle.std.specs.Prelude.{◌≡◌, ◌+◌, ◌<◌, [], ◌∷◌, ◌++◌, List, ℕ, suc, length, map, Ok, OnOk, IfOk, IfErr, IfSome, IfNone, option_map};
-ghost use Rattle.pat_model.specs.Values.{MailboxOf};
-ghost use Rattle.pat_names.specs.Scopes.{variable_of, unit_kind};
-ghost use Rattle.pat_names.specs.Heads.{tag_named, tag_names, payload_kinds, clause_scope};
-ghost use Rattle.pat_names.specs.Findings.{Finding, own_kind, guarded, on_mailbox, pattern_findings, tag_findings, names_findings};
-ghost use Rattle.pat_names.specs.Numbering.{kinds_for};
+ghost use Rattle.pat_semantics_spec.specs.Values.{MailboxOf};
+ghost use Rattle.pat_resolver_spec.specs.Scopes.{variable_of, unit_kind};
+ghost use Rattle.pat_resolver_spec.specs.Heads.{tag_named, tag_names, payload_kinds, clause_scope};
+ghost use Rattle.pat_resolver_spec.specs.Findings.{Finding, own_kind, guarded, on_mailbox, pattern_findings, tag_findings, names_findings};
+ghost use Rattle.pat_resolver_spec.specs.Numbering.{kinds_for};
 ghost use Rattle.pat_core.specs.Views.{kind_view};
-ghost use Rattle.pat_resolver_tables.specs.Views.{scope_view};
+ghost use Rattle.pat_resolver_heads.specs.tables.Views.{scope_view};
 ghost use Rattle.pat_tree.specs.Views.{span_view, name_view, pattern_view};
 ghost use Rattle.pat_resolver_heads.specs.Views.{heads_view};
-ghost use Rattle.pat_resolver_answers.specs.Results.{Meets, Refuses, first_of};
+ghost use Rattle.pat_resolver_heads.specs.results.Results.{Meets, Refuses, first_of};
 ghost use Rattle.pat_resolver_bodies.specs.Above.{IsAbove};
 ghost use Rattle.pat_resolver_bodies.specs.Needs.{needed};
 
@@ -18,9 +18,7 @@ use crate::lookups::{check_tag, mailbox_named};
 use crate::names::check_names;
 use crate::variables::{Variables, bind, bind_names};
 use pat_core::Kind;
-use pat_resolver_answers::ResolveError;
-use pat_resolver_heads::Heads;
-use pat_resolver_tables::ScopeTable;
+use pat_resolver_heads::{Heads, ResolveError, ScopeTable};
 use pat_syntax::Span;
 use pat_tree::{Name, TreePattern};
 use std::alloc::Global;

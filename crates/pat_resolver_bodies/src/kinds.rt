@@ -1,19 +1,19 @@
 // Kinds, and what needs them.
 ghost use Rattle.std.specs.Prelude.{◌≡◌, option_map, IfOk};
-ghost use Rattle.pat_model.specs.Values.{Plain};
-ghost use Rattle.pat_model.specs.Programs.{kind_of};
-ghost use Rattle.pat_names.specs.Scopes.{kind_eq, is_shown as is_shown_kind, op_gives};
-ghost use Rattle.pat_names.specs.Findings.{UnknownName, own_kind, right_needs, left_findings, unless, found};
+ghost use Rattle.pat_semantics_spec.specs.Values.{Plain};
+ghost use Rattle.pat_semantics_spec.specs.Programs.{kind_of};
+ghost use Rattle.pat_resolver_spec.specs.Scopes.{kind_eq, is_shown as is_shown_kind, op_gives};
+ghost use Rattle.pat_resolver_spec.specs.Findings.{UnknownName, own_kind, right_needs, left_findings, unless, found};
 ghost use Rattle.pat_core.specs.Views.{kind_view, sort_view};
 ghost use Rattle.pat_primitives.specs.Views.{op_view};
 ghost use Rattle.pat_tree.specs.Views.{span_view};
-ghost use Rattle.pat_resolver_answers.specs.Results.{Meets};
-ghost use Rattle.pat_resolver_answers.specs.Views.{rule_view};
+ghost use Rattle.pat_resolver_heads.specs.results.Results.{Meets};
+ghost use Rattle.pat_resolver_heads.specs.results.Views.{rule_view};
 ghost use Rattle.pat_resolver_bodies.specs.Needs.{needed, first_known as known_of};
 
 use pat_core::{Kind, Sort};
 use pat_primitives::{Base, Op};
-use pat_resolver_answers::{ResolveError, ResolveKind};
+use pat_resolver_heads::{ResolveError, ResolveKind};
 use pat_syntax::Span;
 
 /// The refusal of a broken rule at a place.

@@ -1,22 +1,20 @@
 // What names of mailboxes, tags and functions stand for.
 ghost use Rattle.std.specs.Prelude.{◌≡◌, ◌++◌, List, ℕ, length, map, Ok, IfOk, IfErr, IfSome, IfNone, option_map};
-ghost use Rattle.pat_model.specs.Programs.{kind_of};
-ghost use Rattle.pat_names.specs.Scopes.{variable_of, unit_kind};
-ghost use Rattle.pat_names.specs.Heads.{tag_named, tag_names, payload_kinds, function_named};
-ghost use Rattle.pat_names.specs.Findings.{Finding, own_kind, guarded, on_mailbox, pattern_findings, args_findings, tag_findings, call_findings, new_findings, interface_called, call_kind, new_kind};
+ghost use Rattle.pat_semantics_spec.specs.Programs.{kind_of};
+ghost use Rattle.pat_resolver_spec.specs.Scopes.{variable_of, unit_kind};
+ghost use Rattle.pat_resolver_spec.specs.Heads.{tag_named, tag_names, payload_kinds, function_named};
+ghost use Rattle.pat_resolver_spec.specs.Findings.{Finding, own_kind, guarded, on_mailbox, pattern_findings, args_findings, tag_findings, call_findings, new_findings, interface_called, call_kind, new_kind};
 ghost use Rattle.pat_core.specs.Views.{kind_view, sort_view};
-ghost use Rattle.pat_resolver_tables.specs.Views.{scope_view};
+ghost use Rattle.pat_resolver_heads.specs.tables.Views.{scope_view};
 ghost use Rattle.pat_tree.specs.Views.{span_view, name_view, expr_view, pattern_view};
 ghost use Rattle.pat_resolver_heads.specs.Views.{heads_view};
-ghost use Rattle.pat_resolver_answers.specs.Results.{Meets, Refuses, first_of};
+ghost use Rattle.pat_resolver_heads.specs.results.Results.{Meets, Refuses, first_of};
 ghost use Rattle.pat_resolver_bodies.specs.Needs.{needed};
 
 use crate::expressions::check_args;
 use crate::kinds::{broken, kind_of_sort, need_kind};
 use pat_core::{Kind, TagDecl};
-use pat_resolver_answers::{ResolveError, ResolveKind};
-use pat_resolver_heads::Heads;
-use pat_resolver_tables::ScopeTable;
+use pat_resolver_heads::{Heads, ResolveError, ResolveKind, ScopeTable};
 use pat_syntax::Span;
 use pat_tree::{Name, TreeExpr, TreePattern};
 

@@ -1,15 +1,14 @@
 // Names that must not repeat, and the clauses of a guard so far.
 ghost use Rattle.std.specs.Prelude.{◌≡◌, [], ◌∷◌, ◌++◌, true, not, map, OnOk};
-ghost use Rattle.pat_names.specs.Scopes.{is_one_of};
-ghost use Rattle.pat_names.specs.Findings.{Twice, unless, no_earlier, names_findings};
+ghost use Rattle.pat_resolver_spec.specs.Scopes.{is_one_of};
+ghost use Rattle.pat_resolver_spec.specs.Findings.{Twice, unless, no_earlier, names_findings};
 ghost use Rattle.pat_tree.specs.Views.{span_view, name_view, clause_view};
-ghost use Rattle.pat_resolver_answers.specs.Results.{Meets};
+ghost use Rattle.pat_resolver_heads.specs.results.Results.{Meets};
 ghost use Rattle.pat_resolver_bodies.specs.Seen.{seen_view};
 ghost use Rattle.pat_resolver_bodies.specs.Steps.{twice_findings, with_earlier};
 
 use crate::kinds::broken;
-use pat_resolver_answers::{ResolveError, ResolveKind};
-use pat_resolver_tables::EarlierNames;
+use pat_resolver_heads::{EarlierNames, ResolveError, ResolveKind};
 use pat_sequences::Text;
 use pat_syntax::Span;
 use pat_tree::{Name, TreeClause};

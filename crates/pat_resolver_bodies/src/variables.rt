@@ -1,15 +1,15 @@
 // The variables that a function binds.
 ghost use Rattle.std.specs.Prelude.{◌≡◌, ◌+◌, ◌<◌, ◌-◌, ◌≤◌, [], ◌∷◌, ◌++◌, length, map, drop, OnOk};
-ghost use Rattle.pat_model.specs.Programs.{kind_of};
-ghost use Rattle.pat_names.specs.Scopes.{bind_names as names_bound};
-ghost use Rattle.pat_names.specs.Numbering.{kinds_for};
+ghost use Rattle.pat_semantics_spec.specs.Programs.{kind_of};
+ghost use Rattle.pat_resolver_spec.specs.Scopes.{bind_names as names_bound};
+ghost use Rattle.pat_resolver_spec.specs.Numbering.{kinds_for};
 ghost use Rattle.pat_core.specs.Views.{kind_view, sort_view};
-ghost use Rattle.pat_resolver_tables.specs.Views.{scope_view};
+ghost use Rattle.pat_resolver_heads.specs.tables.Views.{scope_view};
 ghost use Rattle.pat_tree.specs.Views.{span_view, name_view};
 
 use crate::kinds::kind_of_sort;
 use pat_core::{Kind, Sort};
-use pat_resolver_tables::ScopeTable;
+use pat_resolver_heads::ScopeTable;
 use pat_sequences::Sequence;
 use pat_syntax::Span;
 use pat_tree::Name;

@@ -1,8 +1,8 @@
 -- Findings declaration by declaration.
 use Rattle.std.proofs.Common.{◌≡◌, ℕ, List, ◌∷◌, ◌++◌, refl}
-use Rattle.pat_grammar.specs.Trees as tree
-use Rattle.pat_names.specs.Findings.{heads_findings}
-use Rattle.pat_names.specs.Heads.{InterfaceNames}
+use Rattle.pat_parser_spec.specs.Trees as tree
+use Rattle.pat_resolver_spec.specs.Findings.{heads_findings}
+use Rattle.pat_resolver_spec.specs.Heads.{InterfaceNames}
 use Rattle.pat_resolver_heads.specs.Examined.{decl_findings, interfaces_with, functions_with}
 
 -- what is found in declarations is found in the first, and then in the others

@@ -1,7 +1,7 @@
 -- What a table of names finds, in the list that the names are of.
 use Rattle.std.proofs.Common.{◌≡◌, ℕ, zero, suc, Bool, true, false, cond, List, [], ◌∷◌, map, get_or, Option, Some, None, option_map, refl, ap, sym, ◌∙◌, subst}
 use Rattle.std.specs.Prelude.{bytes_eq}
-use Rattle.pat_names.specs.Scopes.{first_named, itself}
+use Rattle.pat_resolver_spec.specs.Scopes.{first_named, itself}
 
 some_is : {A : Type 0} {a b : A} → Some a ≡ Some b → a ≡ b
 some_is e = cc

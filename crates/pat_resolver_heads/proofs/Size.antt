@@ -3,12 +3,12 @@ use Rattle.std.proofs.Common.{◌≡◌, ◌≢◌, ℕ, suc, zero, ◌+◌, ◌
 use Rattle.std.specs.Prelude.{not, nat_eq}
 use Rattle.std.specs.List.{All, AllByRecursion, flat_map}
 use Rattle.std.proofs.lemmas.List.{length-map}
-use Rattle.pat_grammar.specs.Trees as tree
-use Rattle.pat_grammar_laws.specs.Counts.{tree_size}
-use Rattle.pat_names.specs.Heads.{InterfaceNames, interface_names}
-use Rattle.pat_names.specs.Findings.{Finding, TooManyTags, unless, repeated, type_findings, params_findings, messages_findings, heads_findings}
-use Rattle.pat_resolver_answers.specs.Results.{first_of}
-use Rattle.pat_resolver_answers.proofs.Firsts.{first_none}
+use Rattle.pat_parser_spec.specs.Trees as tree
+use Rattle.pat_parser_laws.specs.Counts.{tree_size}
+use Rattle.pat_resolver_spec.specs.Heads.{InterfaceNames, interface_names}
+use Rattle.pat_resolver_spec.specs.Findings.{Finding, TooManyTags, unless, repeated, type_findings, params_findings, messages_findings, heads_findings}
+use Rattle.pat_resolver_heads.specs.results.Results.{first_of}
+use Rattle.pat_resolver_heads.proofs.Firsts.{first_none}
 use Rattle.pat_resolver_heads.specs.Names.{table_view}
 use Rattle.pat_resolver_heads.specs.declared.names.InterfaceTable.{InterfaceTable}
 

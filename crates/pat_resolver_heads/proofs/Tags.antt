@@ -4,9 +4,9 @@ use Rattle.std.specs.Prelude.{slice_get, option_map}
 use Rattle.pat_core.specs.Views.{tag_view, interface_view}
 use Rattle.pat_core.specs.declared.program.Interface.{Interface}
 use Rattle.pat_core.specs.declared.program.TagDecl.{TagDecl}
-use Rattle.pat_model.specs.Programs.{TagDecl as Seen}
-use Rattle.pat_names.specs.Scopes.{first_named, itself}
-use Rattle.pat_names.specs.Heads.{tags_of}
+use Rattle.pat_semantics_spec.specs.Programs.{TagDecl as Seen}
+use Rattle.pat_resolver_spec.specs.Scopes.{first_named, itself}
+use Rattle.pat_resolver_spec.specs.Heads.{tags_of}
 use Rattle.std.specs.List.{All}
 use Rattle.std.proofs.lemmas.Option.{slice_get_within}
 use Rattle.std.proofs.lemmas.List.Elements.{All-get_or}

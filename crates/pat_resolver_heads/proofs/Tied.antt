@@ -1,9 +1,9 @@
 -- The tables and the numbered interfaces have the same names; a signature that is made.
 use Rattle.std.proofs.Common.{◌≡◌, ℕ, List, [], ◌∷◌, ◌++◌, map, refl, ap, sym, ◌∙◌}
 use Rattle.std.proofs.lemmas.List.{map-append}
-use Rattle.pat_grammar.specs.Trees as tree
-use Rattle.pat_names.specs.Heads.{InterfaceNames, interface_names, interfaces_of, tag_of, sort_of, signature_of, definitions_of}
-use Rattle.pat_model.specs.Programs as seen
+use Rattle.pat_parser_spec.specs.Trees as tree
+use Rattle.pat_resolver_spec.specs.Heads.{InterfaceNames, interface_names, interfaces_of, tag_of, sort_of, signature_of, definitions_of}
+use Rattle.pat_semantics_spec.specs.Programs as seen
 use Rattle.pat_core.specs.Views.{interface_view, sort_view}
 use Rattle.pat_core.specs.declared.program.Interface.{Interface}
 use Rattle.pat_tree.specs.Views.{type_view, param_view, decl_view}

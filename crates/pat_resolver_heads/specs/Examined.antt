@@ -1,9 +1,9 @@
 -- What is found in one part of a head.
 use Rattle.std.specs.Prelude.{ℕ, true, false, not, nat_eq, List, [], ◌∷◌, ◌++◌, length}
 use Rattle.std.specs.List.{flat_map}
-use Rattle.pat_grammar.specs.Trees as tree
-use Rattle.pat_names.specs.Heads.{InterfaceNames}
-use Rattle.pat_names.specs.Findings.{Finding, TooManyTags, unless, repeated, type_findings, messages_findings, params_findings}
+use Rattle.pat_parser_spec.specs.Trees as tree
+use Rattle.pat_resolver_spec.specs.Heads.{InterfaceNames}
+use Rattle.pat_resolver_spec.specs.Findings.{Finding, TooManyTags, unless, repeated, type_findings, messages_findings, params_findings}
 
 -- a message behind those of the earlier names
 abbrev pub message_findings : List InterfaceNames → List (List ℕ) → tree.Message → List Finding

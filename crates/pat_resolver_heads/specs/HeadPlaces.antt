@@ -1,10 +1,10 @@
 -- Where the mailbox types of heads stand in the text.
 use Rattle.std.specs.Prelude.{List, map, Option}
-use Rattle.pat_grammar.specs.Trees as tree
+use Rattle.pat_parser_spec.specs.Trees as tree
 use Rattle.pat_core.specs.declared.program.Interface.{Interface}
-use Rattle.pat_names.specs.Heads.{Definition}
-use Rattle.pat_names.specs.Places.{type_place}
-use Rattle.pat_resolver_answers.specs.Views.{sort_place}
+use Rattle.pat_resolver_spec.specs.Heads.{Definition}
+use Rattle.pat_resolver_spec.specs.Places.{type_place}
+use Rattle.pat_resolver_heads.specs.results.Views.{sort_place}
 use Rattle.pat_resolver_heads.specs.declared.heads.Signature.{Signature}
 
 -- the payloads of an interface, by tag

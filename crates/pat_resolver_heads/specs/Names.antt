@@ -1,6 +1,6 @@
 -- What the definitions see of the names of interfaces.
 use Rattle.std.specs.Prelude.{List, map}
-use Rattle.pat_names.specs.Heads.{InterfaceNames}
+use Rattle.pat_resolver_spec.specs.Heads.{InterfaceNames}
 use Rattle.pat_resolver_heads.specs.declared.names.InterfaceTable.{InterfaceTable}
 use Rattle.pat_resolver_heads.specs.declared.names.Names.{Names}
 

@@ -2,7 +2,7 @@
 pub use Rattle.pat_resolver_heads.specs.Signatures.{signature_view}
 use Rattle.std.specs.Prelude.{map}
 use Rattle.pat_core.specs.Views.{interface_view}
-use Rattle.pat_names.specs.Heads as names
+use Rattle.pat_resolver_spec.specs.Heads as names
 use Rattle.pat_resolver_heads.specs.declared.heads.Heads.{Heads}
 
 abbrev pub heads_view : Heads → names.Heads

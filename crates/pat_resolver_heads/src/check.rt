@@ -1,20 +1,20 @@
 // The rules of heads, declaration by declaration.
 ghost use Rattle.std.specs.Prelude.{◌≡◌, ◌∷◌, ◌++◌, [], map, option_map, OnOk, true, false};
 ghost use Rattle.std.specs.List.{flat_map};
-ghost use Rattle.pat_words.specs.Patterns.{is_inhabited};
-ghost use Rattle.pat_names.specs.Heads.{pattern_of};
-ghost use Rattle.pat_names.specs.Findings.{repeated, empty_sending, written_pattern_findings, type_findings, messages_findings, params_findings, heads_findings};
+ghost use Rattle.pat_words_spec.specs.Patterns.{is_inhabited};
+ghost use Rattle.pat_resolver_spec.specs.Heads.{pattern_of};
+ghost use Rattle.pat_resolver_spec.specs.Findings.{repeated, empty_sending, written_pattern_findings, type_findings, messages_findings, params_findings, heads_findings};
 ghost use Rattle.pat_primitives.specs.Views.{polarity_view};
 ghost use Rattle.pat_tree.specs.Views.{span_view, name_view, pattern_view, type_view, message_view, param_view, decl_view};
-ghost use Rattle.pat_resolver_answers.specs.Results.{Meets};
+ghost use Rattle.pat_resolver_heads.specs.results.Results.{Meets};
 ghost use Rattle.pat_resolver_heads.specs.Names.{names_view};
 ghost use Rattle.pat_resolver_heads.specs.Examined.{message_findings, param_findings, decl_findings, interfaces_with, functions_with};
 
 use crate::names::Names;
 use crate::patterns::check_pattern;
+use crate::results::{ResolveError, ResolveKind};
+use crate::tables::{EarlierNames, NameTable};
 use pat_primitives::Polarity;
-use pat_resolver_answers::{ResolveError, ResolveKind};
-use pat_resolver_tables::{EarlierNames, NameTable};
 use pat_syntax::Span;
 use pat_tree::{Decl, Name, Param, TreeMessage, TreePattern, TreeType};
 use std::alloc::Global;

@@ -1,11 +1,11 @@
 // The names of all interfaces and their tags: types may name interfaces that are declared further down.
 ghost use Rattle.std.specs.Prelude.{◌≡◌, ◌<◌, ◌≤◌, ◌+◌, ◌^◌, ◌∷◌, ◌++◌, [], ℕ, length, map, IfOk, OnOk};
-ghost use Rattle.pat_names.specs.Heads.{interface_names};
+ghost use Rattle.pat_resolver_spec.specs.Heads.{interface_names};
 ghost use Rattle.pat_tree.specs.Views.{message_view, decl_view};
 ghost use Rattle.pat_resolver_heads.specs.Names.{names_view, table_view};
 
 use crate::names::{InterfaceTable, Names};
-use pat_resolver_tables::NameTable;
+use crate::tables::NameTable;
 use pat_sequences::Sequence;
 use pat_tree::{Decl, Name, TreeMessage};
 use std::alloc::{AllocError, Global};

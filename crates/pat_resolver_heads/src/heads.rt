@@ -3,10 +3,10 @@ ghost use Rattle.std.specs.Prelude.{◌≡◌, ◌<◌, ◌≤◌, ◌^◌, [], 
 
 use crate::names::Names;
 use crate::patterns::{check_pattern, number_pattern};
+use crate::results::ResolveError;
+use crate::tables::NameTable;
 use pat_core::{Interface, Sort, TagDecl};
 use pat_patterns::Pattern;
-use pat_resolver_answers::ResolveError;
-use pat_resolver_tables::NameTable;
 use pat_sequences::{Sequence, Text};
 use pat_tree::TreePattern;
 use std::alloc::{AllocError, Global};
@@ -38,12 +38,12 @@ pub struct Heads<'a> {
 
 impl<'a> Heads<'a> {
     ghost use Rattle.std.specs.Prelude.{option_map, IfOk};
-    ghost use Rattle.pat_names.specs.Heads.{function_named, tag_named, tag_names, pattern_of};
-    ghost use Rattle.pat_names.specs.Findings.{interface_called, pattern_findings};
+    ghost use Rattle.pat_resolver_spec.specs.Heads.{function_named, tag_named, tag_names, pattern_of};
+    ghost use Rattle.pat_resolver_spec.specs.Findings.{interface_called, pattern_findings};
     ghost use Rattle.pat_core.specs.Views.{tag_view};
     ghost use Rattle.pat_patterns.specs.Views.{pattern_view};
     ghost use Rattle.pat_tree.specs.Views.{pattern_view as written_view};
-    ghost use Rattle.pat_resolver_answers.specs.Results.{Meets};
+    ghost use Rattle.pat_resolver_heads.specs.results.Results.{Meets};
     ghost use Rattle.pat_resolver_heads.specs.Views.{heads_view, signature_view};
 
     /// The number of the interface of a name.

@@ -1,7 +1,7 @@
 // The names of interfaces and of their tags.
 ghost use Rattle.std.specs.Prelude.{◌≡◌, ◌<◌, ◌^◌, ℕ, length, map};
 
-use pat_resolver_tables::NameTable;
+use crate::tables::NameTable;
 use pat_sequences::{Sequence, Text};
 
 /// The name of an interface, and those of its tags in order.
@@ -22,7 +22,7 @@ pub struct Names<'a> {
 
 impl<'a> Names<'a> {
     ghost use Rattle.std.specs.Prelude.{option_map, slice_get, IfSome, Some};
-    ghost use Rattle.pat_names.specs.Heads.{interface_named};
+    ghost use Rattle.pat_resolver_spec.specs.Heads.{interface_named};
     ghost use Rattle.pat_resolver_heads.specs.Names.{names_view, table_view};
 
     /// The interface of a name, with its number.

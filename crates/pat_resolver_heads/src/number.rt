@@ -1,11 +1,11 @@
 // Heads by numbers: interfaces by their places, tags by their places in their interface.
 ghost use Rattle.std.specs.Prelude.{◌≡◌, ◌≤◌, ◌+◌, ◌∷◌, ◌++◌, [], length, map, option_map, All, IfOk, OnOk};
-ghost use Rattle.pat_names.specs.Heads.{pattern_of, sort_of, tag_of, interfaces_of, signature_of, definitions_of};
-ghost use Rattle.pat_names.specs.Places.{type_place, payload_places};
+ghost use Rattle.pat_resolver_spec.specs.Heads.{pattern_of, sort_of, tag_of, interfaces_of, signature_of, definitions_of};
+ghost use Rattle.pat_resolver_spec.specs.Places.{type_place, payload_places};
 ghost use Rattle.pat_core.specs.Views.{sort_view, tag_view, interface_view};
 ghost use Rattle.pat_patterns.specs.Views.{pattern_view};
 ghost use Rattle.pat_tree.specs.Views.{pattern_view as written_view, type_view, message_view, param_view, decl_view};
-ghost use Rattle.pat_resolver_answers.specs.Views.{sort_place};
+ghost use Rattle.pat_resolver_heads.specs.results.Views.{sort_place};
 ghost use Rattle.pat_resolver_heads.specs.Names.{names_view};
 ghost use Rattle.pat_resolver_heads.specs.HeadPlaces.{interface_places, param_places, result_place, written_params, written_result};
 ghost use Rattle.pat_resolver_heads.specs.Signatures.{signature_view};
@@ -13,9 +13,9 @@ ghost use Rattle.pat_resolver_heads.specs.Signatures.{signature_view};
 use crate::heads::Signature;
 use crate::names::Names;
 use crate::patterns::number_pattern;
+use crate::tables::NameTable;
 use pat_core::{Interface, MailboxSort, Sort, TagDecl};
 use pat_patterns::Pattern;
-use pat_resolver_tables::NameTable;
 use pat_sequences::Sequence;
 use pat_tree::{Decl, Param, TreeMessage, TreePattern, TreeType};
 use std::alloc::{AllocError, Global};

@@ -1,15 +1,15 @@
 // Written patterns: whether each tag is there, and the numbers of tags.
 ghost use Rattle.std.specs.Prelude.{◌≡◌, ◌≤◌, length, IfOk};
-ghost use Rattle.pat_names.specs.Heads.{pattern_of};
-ghost use Rattle.pat_names.specs.Findings.{pattern_findings};
+ghost use Rattle.pat_resolver_spec.specs.Heads.{pattern_of};
+ghost use Rattle.pat_resolver_spec.specs.Findings.{pattern_findings};
 ghost use Rattle.pat_patterns.specs.Views.{pattern_view};
 ghost use Rattle.pat_tree.specs.Views.{pattern_view as written_view};
-ghost use Rattle.pat_resolver_answers.specs.Results.{Meets};
-ghost use Rattle.pat_names.specs.Scopes.{first_named, itself, number_found};
+ghost use Rattle.pat_resolver_heads.specs.results.Results.{Meets};
+ghost use Rattle.pat_resolver_spec.specs.Scopes.{first_named, itself, number_found};
 
+use crate::results::{ResolveError, ResolveKind};
+use crate::tables::NameTable;
 use pat_patterns::Pattern;
-use pat_resolver_answers::{ResolveError, ResolveKind};
-use pat_resolver_tables::NameTable;
 use pat_sequences::Text;
 use pat_tree::TreePattern;
 use std::alloc::{AllocError, Global};

@@ -1,12 +1,12 @@
 // The heads of a tree's declarations, examined and numbered.
 ghost use Rattle.std.specs.Prelude.{◌≡◌, ◌<◌, ◌≤◌, ◌^◌, [], map, length, All, IfOk};
-ghost use Rattle.pat_names.specs.Heads.{interface_names, heads_of, definitions_of};
-ghost use Rattle.pat_names.specs.Findings.{heads_findings};
-ghost use Rattle.pat_names.specs.Places.{payload_places};
-ghost use Rattle.pat_grammar_laws.specs.Counts.{tree_size};
+ghost use Rattle.pat_resolver_spec.specs.Heads.{interface_names, heads_of, definitions_of};
+ghost use Rattle.pat_resolver_spec.specs.Findings.{heads_findings};
+ghost use Rattle.pat_resolver_spec.specs.Places.{payload_places};
+ghost use Rattle.pat_parser_laws.specs.Counts.{tree_size};
 ghost use Rattle.pat_tree.specs.Views.{tree_view, decl_view};
 ghost use Rattle.pat_resolver_heads.specs.Names.{names_view};
-ghost use Rattle.pat_resolver_answers.specs.Results.{Meets};
+ghost use Rattle.pat_resolver_heads.specs.results.Results.{Meets};
 ghost use Rattle.pat_resolver_heads.specs.Views.{heads_view};
 ghost use Rattle.pat_resolver_heads.specs.HeadPlaces.{interface_places, param_places, result_place, written_params, written_result};
 
@@ -15,8 +15,8 @@ use crate::gather::gather_names;
 use crate::heads::{Heads, Signature};
 use crate::names::Names;
 use crate::number::{number_interfaces, number_signatures};
-use pat_resolver_answers::ResolveError;
-use pat_resolver_tables::NameTable;
+use crate::results::ResolveError;
+use crate::tables::NameTable;
 use pat_tree::{Decl, Tree};
 use std::alloc::{AllocError, Global};
 

@@ -1,1 +1,3 @@
+mod Choosing
 mod Serving
+mod Given

@@ -2,18 +2,18 @@
 use Rattle.std.proofs.Common.{◌≡◌, ℕ, zero, suc, ◌+◌, ◌-◌, ◌<◌, ◌≤◌, ◌⊎◌, min, List, [], ◌∷◌, ◌++◌, length, map, Option, Some, None, refl, sym, ap, ◌∙◌, subst, arith, ⊎_elim, slice_set}
 use Rattle.std.specs.Prelude.{option_map}
 use Rattle.std.specs.List.{AllByRecursion}
-use Rattle.pat_model.specs.Programs.{Program}
-use Rattle.pat_model.specs.Configs.{Config, start}
-use Rattle.pat_model.specs.Runs.{Entry, entry_steps, step_count, outcome}
+use Rattle.pat_semantics_spec.specs.Programs.{Program}
+use Rattle.pat_semantics_spec.specs.Configs.{Config, start}
+use Rattle.pat_semantics_spec.specs.Runs.{Entry, entry_steps, step_count, outcome}
 use Rattle.pat_core.specs.declared.program.Program.{Program as CodeProgram}
 use Rattle.pat_core.specs.Views.{program_view}
 use Rattle.pat_reduce.specs.Views.{act_view, entry_view}
-use Rattle.pat_commits.specs.Commits.{IsCommit}
-use Rattle.pat_commits.specs.Lendings.{Out, allowance_of, allowances, committed_out, NoneOut, SomeOut}
-use Rattle.pat_commits.specs.Turns.{IsReady, IsTurn}
-use Rattle.pat_commit_laws.proofs.Runs.{commit_within}
-use Rattle.pat_commit_laws.proofs.Tables.{set_elsewhere, committed_still_out}
-use Rattle.pat_commit_laws.proofs.Takings.{none_in}
+use Rattle.pat_machine_spec.specs.Commits.{IsCommit}
+use Rattle.pat_machine_spec.specs.Lendings.{Out, allowance_of, allowances, committed_out, NoneOut, SomeOut}
+use Rattle.pat_machine_spec.specs.Turns.{IsReady, IsTurn}
+use Rattle.pat_machine_laws.proofs.Runs.{commit_within}
+use Rattle.pat_machine_laws.proofs.Tables.{set_elsewhere, committed_still_out}
+use Rattle.pat_machine_laws.proofs.Takings.{none_in}
 use Rattle.pat_machine.specs.declared.job.Named.{Named}
 use Rattle.pat_machine.specs.declared.job.Job.{Job}
 use Rattle.pat_machine.specs.declared.job.Receipt.{Receipt}
@@ -21,8 +21,8 @@ use Rattle.pat_machine.specs.declared.job.Outcome.{Outcome as CodeOutcome}
 use Rattle.pat_machine.specs.Shown.{Shown, IsNew, program_of, entries_of, steps_in}
 use Rattle.pat_machine.specs.Gives.{IsOver, Lends, MayTake, Rests, HasTurn, TakeGives, Committed, OutcomeGives, outcome_view, all_back}
 use Rattle.pat_machine.specs.Driving.{IsRound, Rounds, AreInOrder, IsDriven}
-use Rattle.pat_run.specs.declared.running.Finished.{Finished}
-use Rattle.pat_run.specs.Runs.{Served, IsRun, RunGives}
+use Rattle.pat_run.specs.declared.single.running.Finished.{Finished}
+use Rattle.pat_run.specs.single.Runs.{Served, IsRun, RunGives}
 
 -- ---- nobody is out
 

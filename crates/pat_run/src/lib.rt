@@ -1,7 +1,10 @@
-//! The run of an accepted program by one worker, from its start to an outcome.
+//! A run with options: the words that choose them, and the run by one worker on the calling thread, or by several in threads.
 #![tactic(auto)]
 
-mod running;
+mod dispatch;
+mod options;
+mod single;
 
-pub use pat_machine::Outcome;
-pub use running::{Finished, run};
+pub use dispatch::{run_alone, run_in_threads};
+pub use options::{RunOptions, number_of, options_of};
+pub use single::{Finished, Outcome};

@@ -3,17 +3,17 @@ use Rattle.std.proofs.Common.{◌≡◌, ℕ, suc, ◌+◌, Bool, true, false, �
 use Rattle.std.specs.Prelude.{slice_get, option_and_then}
 use Rattle.std.specs.List.{AllByRecursion, list_any}
 use Rattle.std.proofs.lemmas.Bool.{or_cases, or_left, or_right, or_parts, cases_Bool}
-use Rattle.pat_model.specs.Values.{Value, Mailbox, Kind, Plain, MailboxOf, Env, ValueFits}
-use Rattle.pat_model.specs.Programs.{Program, Sending, Receiving, Sort, BaseSort, MailboxSort, TagDecl, tag_at, is_among, KindAt, option_list, is_receiving}
-use Rattle.pat_model.specs.Configs.{Control, Running, Returned, Frame, Thread, Message, Config, is_mailbox, has_pending, some_thread_refers, some_message_refers}
-use Rattle.pat_model.specs.Faults.{VariablesAgree, ControlAgrees, ThreadAgrees, MessageAgrees, is_received_as, payloads_of, message_delegates, is_delegated, AccountsFor, LeftBehind, unreached, dead}
-use Rattle.pat_typing.specs.Types.{TypeEnv}
-use Rattle.pat_typing.specs.Typings.{Typing, payload_sort, payload_type}
-use Rattle.pat_typing.specs.Holdings.{threads_held, payload_held, declared_types, message_held, holdings, receives, receivers}
-use Rattle.pat_typing.specs.Typed.{IsTyped, ThreadFits, ControlFits, PartFits, FramesFit, MessageFits}
-use Rattle.pat_preservation_laws.proofs.Balance.{receivers-append}
-use Rattle.pat_preservation_laws.proofs.Refers.{threads_none, none_receivers}
-use Rattle.pat_model_laws.proofs.Lists.{clash}
+use Rattle.pat_semantics_spec.specs.Values.{Value, Mailbox, Kind, Plain, MailboxOf, Env, ValueFits}
+use Rattle.pat_semantics_spec.specs.Programs.{Program, Sending, Receiving, Sort, BaseSort, MailboxSort, TagDecl, tag_at, is_among, KindAt, option_list, is_receiving}
+use Rattle.pat_semantics_spec.specs.Configs.{Control, Running, Returned, Frame, Thread, Message, Config, is_mailbox, has_pending, some_thread_refers, some_message_refers}
+use Rattle.pat_semantics_spec.specs.Faults.{VariablesAgree, ControlAgrees, ThreadAgrees, MessageAgrees, is_received_as, payloads_of, message_delegates, is_delegated, AccountsFor, LeftBehind, unreached, dead}
+use Rattle.pat_type_system_spec.specs.Types.{TypeEnv}
+use Rattle.pat_type_system_spec.specs.Typings.{Typing, payload_sort, payload_type}
+use Rattle.pat_type_system_spec.specs.Holdings.{threads_held, payload_held, declared_types, message_held, holdings, receives, receivers}
+use Rattle.pat_type_system_spec.specs.Typed.{IsTyped, ThreadFits, ControlFits, PartFits, FramesFit, MessageFits}
+use Rattle.pat_safety_laws.proofs.Balance.{receivers-append}
+use Rattle.pat_safety_laws.proofs.Refers.{threads_none, none_receivers}
+use Rattle.pat_semantics_laws.proofs.Lists.{clash}
 
 -- ---- a message that hands over nothing has no receiving holding
 

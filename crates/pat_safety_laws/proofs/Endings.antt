@@ -3,19 +3,19 @@ use Rattle.std.proofs.Common.{◌≡◌, ℕ, zero, suc, Bool, true, false, ◌&
 use Rattle.std.specs.Prelude.{slice_get, option_and_then}
 use Rattle.std.specs.List.{list_any}
 use Rattle.std.proofs.lemmas.Bool.{or_cases, or_left, or_right, or_parts, and_parts, cases_Bool}
-use Rattle.pat_model.specs.Values.{Value}
-use Rattle.pat_model.specs.Programs.{Program, Interface, TagDecl, Sort, tag_at, is_among, is_receiving, delegates}
-use Rattle.pat_model.specs.Configs.{Message, Config, is_mailbox, message_refers, has_pending, some_thread_refers, some_message_refers, thread_refers, start}
-use Rattle.pat_model.specs.WellFormed.{WellFormed}
-use Rattle.pat_model.specs.Steps.{Step}
-use Rattle.pat_model.specs.Runs.{run}
-use Rattle.pat_model.specs.Faults.{AccountsFor, is_received_as, payloads_of, message_delegates, is_delegated, left, unreached, IsSafe}
-use Rattle.pat_typing.specs.Typings.{IsTypable}
-use Rattle.pat_model_laws.proofs.Lists.{clash, among_head}
-use Rattle.pat_preservation_laws.proofs.Preserved.{run_typed}
+use Rattle.pat_semantics_spec.specs.Values.{Value}
+use Rattle.pat_semantics_spec.specs.Programs.{Program, Interface, TagDecl, Sort, tag_at, is_among, is_receiving, delegates}
+use Rattle.pat_semantics_spec.specs.Configs.{Message, Config, is_mailbox, message_refers, has_pending, some_thread_refers, some_message_refers, thread_refers, start}
+use Rattle.pat_semantics_spec.specs.WellFormed.{WellFormed}
+use Rattle.pat_semantics_spec.specs.Steps.{Step}
+use Rattle.pat_semantics_spec.specs.Runs.{run}
+use Rattle.pat_semantics_spec.specs.Faults.{AccountsFor, is_received_as, payloads_of, message_delegates, is_delegated, left, unreached, IsSafe}
+use Rattle.pat_type_system_spec.specs.Typings.{IsTypable}
+use Rattle.pat_semantics_laws.proofs.Lists.{clash, among_head}
+use Rattle.pat_safety_laws.proofs.Preserved.{run_typed}
 use Rattle.pat_safety_laws.specs.Laws.{JustDelegated}
 use Rattle.pat_safety_laws.proofs.Accounts.{accounts}
-use Rattle.pat_typing.specs.Interfaces.{interfaces_along}
+use Rattle.pat_type_system_spec.specs.Interfaces.{interfaces_along}
 
 -- ---- a program that declares no receiving payload
 

@@ -4,26 +4,26 @@ use Rattle.std.specs.Prelude.{slice_get, option_and_then}
 use Rattle.std.specs.List.{AllByRecursion, IsDistinct, list_any}
 use Rattle.std.specs.Map.{lookup, keys_of}
 use Rattle.std.proofs.lemmas.Bool.{or_left, or_parts, eq-eqb, eqb-true, eqb-false, ne_eqb, and_cases, cond-true, false_from_ne_true}
-use Rattle.pat_words.specs.Words.{Word, no_word, one, plus}
-use Rattle.pat_words.specs.Patterns.{Pat}
+use Rattle.pat_words_spec.specs.Words.{Word, no_word, one, plus}
+use Rattle.pat_words_spec.specs.Patterns.{Pat}
 use Rattle.pat_words_laws.proofs.WordLaws.{plus_none}
-use Rattle.pat_model.specs.Values.{Value, Env}
-use Rattle.pat_model.specs.Programs.{Program, Polarity, Sending, Receiving, Sort, BaseSort, MailboxSort, TagDecl, Clause, Let, is_among, option_list}
-use Rattle.pat_model.specs.WellFormed.{WellFormed, IsPayload}
-use Rattle.pat_model.specs.Configs.{Control, Running, Returned, Frame, Thread, Message, Config, is_mailbox, thread_refers, has_pending, other_refers, pending_in}
-use Rattle.pat_model.specs.Steps.{clause_for}
-use Rattle.pat_model.specs.Faults.{IsIn}
-use Rattle.pat_typing.specs.Types.{MailboxType, TypeOf, BaseTerm, MailboxTerm, TypeEnv}
-use Rattle.pat_typing.specs.Typings.{Typing, IsTyping, HasWord, TypeHasWord, payload_sort, payload_type, is_received}
-use Rattle.pat_typing.specs.Holdings.{Holding, held, as_holding, type_at, control_held, frame_held, thread_held, threads_held, payload_held, declared_types, message_held, wanted, holdings, SendsBy, Sends, Choice}
-use Rattle.pat_typing.specs.Typed.{IsTyped, ThreadFits, ControlFits, PartFits, FramesFit, MessageFits}
-use Rattle.pat_typing_laws.proofs.Nodes.{node_facts, part_core}
-use Rattle.pat_preservation_laws.proofs.Envs.{held_all}
-use Rattle.pat_preservation_laws.proofs.Refers.{AllNone, none-append, thread_none, threads_none}
-use Rattle.pat_typing_laws.proofs.Named.{tag_payloads}
-use Rattle.pat_preservation_laws.proofs.Bound.{body_bound}
-use Rattle.pat_model_laws.proofs.Lists.{clash, distinct_parts, all_join, all_at}
-use Rattle.pat_model_laws.proofs.Threads.{apart_any}
+use Rattle.pat_semantics_spec.specs.Values.{Value, Env}
+use Rattle.pat_semantics_spec.specs.Programs.{Program, Polarity, Sending, Receiving, Sort, BaseSort, MailboxSort, TagDecl, Clause, Let, is_among, option_list}
+use Rattle.pat_semantics_spec.specs.WellFormed.{WellFormed, IsPayload}
+use Rattle.pat_semantics_spec.specs.Configs.{Control, Running, Returned, Frame, Thread, Message, Config, is_mailbox, thread_refers, has_pending, other_refers, pending_in}
+use Rattle.pat_semantics_spec.specs.Steps.{clause_for}
+use Rattle.pat_semantics_spec.specs.Faults.{IsIn}
+use Rattle.pat_type_system_spec.specs.Types.{MailboxType, TypeOf, BaseTerm, MailboxTerm, TypeEnv}
+use Rattle.pat_type_system_spec.specs.Typings.{Typing, IsTyping, HasWord, TypeHasWord, payload_sort, payload_type, is_received}
+use Rattle.pat_type_system_spec.specs.Holdings.{Holding, held, as_holding, type_at, control_held, frame_held, thread_held, threads_held, payload_held, declared_types, message_held, wanted, holdings, SendsBy, Sends, Choice}
+use Rattle.pat_type_system_spec.specs.Typed.{IsTyped, ThreadFits, ControlFits, PartFits, FramesFit, MessageFits}
+use Rattle.pat_type_system_laws.proofs.Nodes.{node_facts, part_core}
+use Rattle.pat_safety_laws.proofs.Envs.{held_all}
+use Rattle.pat_safety_laws.proofs.Refers.{AllNone, none-append, thread_none, threads_none}
+use Rattle.pat_type_system_laws.proofs.Named.{tag_payloads}
+use Rattle.pat_safety_laws.proofs.Bound.{body_bound}
+use Rattle.pat_semantics_laws.proofs.Lists.{clash, distinct_parts, all_join, all_at}
+use Rattle.pat_semantics_laws.proofs.Threads.{apart_any}
 
 -- ---- a word of each sending holding
 

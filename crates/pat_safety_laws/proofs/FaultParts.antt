@@ -2,20 +2,20 @@
 use Rattle.std.proofs.Common.{◌≡◌, ℕ, true, false, nat_eq, List, [], ◌∷◌, map, Some, refl, sym, ap, ◌∙◌, subst, ⊎_elim}
 use Rattle.std.specs.Prelude.{slice_get}
 use Rattle.std.proofs.lemmas.Bool.{or_left, eq-eqb}
-use Rattle.pat_model.specs.Values.{Value, Const, Mailbox, Kind, Plain, MailboxOf, Env, value_at, ValueHasKind, ValuesHaveKinds, ValueFits, ValuesFit}
-use Rattle.pat_model.specs.Programs.{Program, Let, Node, function_at, tag_at, kind_of, is_free, is_among, option_list, KindAt, Function}
-use Rattle.pat_model.specs.WellFormed.{WellFormed}
-use Rattle.pat_model.specs.Configs.{Returned, Frame, Message}
-use Rattle.pat_model.specs.Steps.{thread_of}
-use Rattle.pat_model.specs.Faults.{IsIn, HasValue, IsAsDeclared}
-use Rattle.pat_typing.specs.Types.{kind_of_type}
-use Rattle.pat_typing.specs.Typings.{Typing, IsTyping}
-use Rattle.pat_typing.specs.Holdings.{wanted, type_at}
-use Rattle.pat_typing.specs.Typed.{ThreadFits, PartFits, FramesFit, MessageFits}
-use Rattle.pat_typing_laws.proofs.Nodes.{node_facts}
-use Rattle.pat_typing_laws.proofs.Named.{part_kind}
-use Rattle.pat_preservation_laws.proofs.Bound.{body_bound, body_among}
-use Rattle.pat_preservation_laws.proofs.Frames.{name_kind}
+use Rattle.pat_semantics_spec.specs.Values.{Value, Const, Mailbox, Kind, Plain, MailboxOf, Env, value_at, ValueHasKind, ValuesHaveKinds, ValueFits, ValuesFit}
+use Rattle.pat_semantics_spec.specs.Programs.{Program, Let, Node, function_at, tag_at, kind_of, is_free, is_among, option_list, KindAt, Function}
+use Rattle.pat_semantics_spec.specs.WellFormed.{WellFormed}
+use Rattle.pat_semantics_spec.specs.Configs.{Returned, Frame, Message}
+use Rattle.pat_semantics_spec.specs.Steps.{thread_of}
+use Rattle.pat_semantics_spec.specs.Faults.{IsIn, HasValue, IsAsDeclared}
+use Rattle.pat_type_system_spec.specs.Types.{kind_of_type}
+use Rattle.pat_type_system_spec.specs.Typings.{Typing, IsTyping}
+use Rattle.pat_type_system_spec.specs.Holdings.{wanted, type_at}
+use Rattle.pat_type_system_spec.specs.Typed.{ThreadFits, PartFits, FramesFit, MessageFits}
+use Rattle.pat_type_system_laws.proofs.Nodes.{node_facts}
+use Rattle.pat_type_system_laws.proofs.Named.{part_kind}
+use Rattle.pat_safety_laws.proofs.Bound.{body_bound, body_among}
+use Rattle.pat_safety_laws.proofs.Frames.{name_kind}
 
 -- ---- values
 

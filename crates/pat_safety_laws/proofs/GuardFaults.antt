@@ -3,36 +3,36 @@ use Rattle.std.proofs.Common.{◌≡◌, ℕ, suc, ◌≤◌, true, ◌||◌, �
 use Rattle.std.specs.Prelude.{is_some, option_and_then}
 use Rattle.std.specs.List.{list_any}
 use Rattle.std.proofs.lemmas.Bool.{or_left, eq-eqb, eqb-true, and_from, and_parts, cond-true}
-use Rattle.pat_words.specs.Words.{Word, no_word, plus, LiesIn}
-use Rattle.pat_words.specs.Patterns.{Pat, In}
+use Rattle.pat_words_spec.specs.Words.{Word, no_word, plus, LiesIn}
+use Rattle.pat_words_spec.specs.Patterns.{Pat, In}
 use Rattle.pat_words_laws.proofs.WordLaws.{plus_none}
-use Rattle.pat_model.specs.Values.{Value, Const, Mailbox, Kind, MailboxOf, value_at, ValueFits, ValuesFit}
-use Rattle.pat_model.specs.Programs.{Program, Polarity, Sending, Receiving, TagDecl, Clause, Core, Guard, core_at, tag_at, kind_of, is_among, is_free, option_list, clause_uses, KindAt}
-use Rattle.pat_model.specs.WellFormed.{WellFormed, VarsHaveKinds, ClauseKinds}
-use Rattle.pat_model.specs.Configs.{Running, Thread, Message, Config, with_thread, env_refers, thread_refers, message_refers, has_pending, other_refers, is_reached_by_none_but, pending}
-use Rattle.pat_model.specs.Steps.{Act, ActFree, ActReceive, redex_at, step, thread_step, thread_of, at_node, received, free_at, free_mailbox, receive_at, receive_from, receive_message, clause_for, message_at, without_message}
-use Rattle.pat_model.specs.Faults.{IsIn, GuardAt, IsDisabled, IsAsDeclared, FailingGuard, no_clause, starved, UnexpectedMessage, too_many, undeclared}
-use Rattle.pat_model_laws.proofs.FreeVars.{free_unfolds}
-use Rattle.pat_typing.specs.Types.{Returnable, MailboxType, kind_of_type}
-use Rattle.pat_typing.specs.Typings.{Typing, GuardTyped, ClauseTyped, is_received}
-use Rattle.pat_typing.specs.Holdings.{Holding, held, frame_held, message_held, holdings, receives_by, receivers, SendsBy, Choice, Balanced}
-use Rattle.pat_typing.specs.Typed.{IsTyped, ThreadFits, PartFits, MessageFits}
-use Rattle.pat_preservation_laws.proofs.Balance.{balance_front}
-use Rattle.pat_model_laws.proofs.Threads.{lookup_all, lookup_any}
-use Rattle.pat_preservation_laws.proofs.ThreadHoldings.{split_thread}
-use Rattle.pat_typing_laws.proofs.Nodes.{NodeFacts, node_facts}
-use Rattle.pat_preservation_laws.proofs.Refers.{AllNone, none-append, frames_none, messages_none, value_refers}
-use Rattle.pat_preservation_laws.proofs.Envs.{held_cases, HeldCases, by_variable, by_none}
-use Rattle.pat_preservation_laws.proofs.Narrow.{usage_back}
-use Rattle.pat_preservation_laws.proofs.Received.{found_clause}
+use Rattle.pat_semantics_spec.specs.Values.{Value, Const, Mailbox, Kind, MailboxOf, value_at, ValueFits, ValuesFit}
+use Rattle.pat_semantics_spec.specs.Programs.{Program, Polarity, Sending, Receiving, TagDecl, Clause, Core, Guard, core_at, tag_at, kind_of, is_among, is_free, option_list, clause_uses, KindAt}
+use Rattle.pat_semantics_spec.specs.WellFormed.{WellFormed, VarsHaveKinds, ClauseKinds}
+use Rattle.pat_semantics_spec.specs.Configs.{Running, Thread, Message, Config, with_thread, env_refers, thread_refers, message_refers, has_pending, other_refers, is_reached_by_none_but, pending}
+use Rattle.pat_semantics_spec.specs.Steps.{Act, ActFree, ActReceive, redex_at, step, thread_step, thread_of, at_node, received, free_at, free_mailbox, receive_at, receive_from, receive_message, clause_for, message_at, without_message}
+use Rattle.pat_semantics_spec.specs.Faults.{IsIn, GuardAt, IsDisabled, IsAsDeclared, FailingGuard, no_clause, starved, UnexpectedMessage, too_many, undeclared}
+use Rattle.pat_semantics_laws.proofs.FreeVars.{free_unfolds}
+use Rattle.pat_type_system_spec.specs.Types.{Returnable, MailboxType, kind_of_type}
+use Rattle.pat_type_system_spec.specs.Typings.{Typing, GuardTyped, ClauseTyped, is_received}
+use Rattle.pat_type_system_spec.specs.Holdings.{Holding, held, frame_held, message_held, holdings, receives_by, receivers, SendsBy, Choice, Balanced}
+use Rattle.pat_type_system_spec.specs.Typed.{IsTyped, ThreadFits, PartFits, MessageFits}
+use Rattle.pat_safety_laws.proofs.Balance.{balance_front}
+use Rattle.pat_semantics_laws.proofs.Threads.{lookup_all, lookup_any}
+use Rattle.pat_safety_laws.proofs.ThreadHoldings.{split_thread}
+use Rattle.pat_type_system_laws.proofs.Nodes.{NodeFacts, node_facts}
+use Rattle.pat_safety_laws.proofs.Refers.{AllNone, none-append, frames_none, messages_none, value_refers}
+use Rattle.pat_safety_laws.proofs.Envs.{held_cases, HeldCases, by_variable, by_none}
+use Rattle.pat_safety_laws.proofs.Narrow.{usage_back}
+use Rattle.pat_safety_laws.proofs.Received.{found_clause}
 use Rattle.pat_safety_laws.proofs.FaultParts.{part_interface, message_declared}
 use Rattle.pat_safety_laws.proofs.FaultGuard.{AllHaveWords, HoldingHasWord, some_choice, all_words, none_chosen, split_alone, pending_message, nothing_pending, found_by_tag}
-use Rattle.pat_model_laws.proofs.Lists.{clash, not_true, all_front, is_in_all, only_first}
-use Rattle.pat_preservation_laws.proofs.Envs.{env_fits}
-use Rattle.pat_model_laws.proofs.Inversion.{after_free}
+use Rattle.pat_semantics_laws.proofs.Lists.{clash, not_true, all_front, is_in_all, only_first}
+use Rattle.pat_safety_laws.proofs.Envs.{env_fits}
+use Rattle.pat_semantics_laws.proofs.Inversion.{after_free}
 use Rattle.std.specs.Map.{keys_of}
-use Rattle.pat_model_laws.proofs.Ascending.{ascends_distinct}
-use Rattle.pat_model_laws.proofs.Leasts.{message_is_found}
+use Rattle.pat_semantics_laws.proofs.Ascending.{ascends_distinct}
+use Rattle.pat_semantics_laws.proofs.Leasts.{message_is_found}
 
 vars_length : (vars : List Kind) (xs : List ℕ) (ks : List Kind) → VarsHaveKinds vars xs ks → length xs ≡ length ks
 vars_length vars [] [] h = refl

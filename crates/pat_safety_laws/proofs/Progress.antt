@@ -4,29 +4,29 @@ use Rattle.std.specs.Prelude.{is_some, slice_get, option_map, option_and_then, c
 use Rattle.std.specs.List.{list_any}
 use Rattle.std.specs.Int.{w64, int_wrapping_add, int_wrapping_sub, int_wrapping_mul}
 use Rattle.std.proofs.lemmas.Bool.{or_left, or_right, eq-eqb}
-use Rattle.pat_model.specs.Values.{BaseBool, BaseInt, BaseText, Value, Const, Mailbox, Constant, UnitConst, BoolConst, IntConst, TextConst, Kind, Plain, MailboxOf, Op, Add, Sub, Mul, Equal, Less, Expr, VarExpr, Literal, OpExpr, Env, value_at, occurs, apply, apply_values, eval, eval_all, both_values, line_of, ValueFits}
-use Rattle.pat_model.specs.Programs.{Program, Core, Val, Let, Call, If, Print, New, Send, Spawn, Guard, core_at, is_free, core_uses, kind_of, option_list}
-use Rattle.pat_model.specs.WellFormed.{WellFormed, op_kind, expr_kind, HaveKinds, IsPrintable}
-use Rattle.pat_model.specs.Configs.{Control, Running, Returned, Frame, Thread, Config, thread_at, with_thread}
-use Rattle.pat_model.specs.Steps.{Act, ActLocal, ActNew, ActSend, ActSpawn, ActPrint, ActEnd, At, redex, redex_at, step, thread_step, thread_of, resume, local_at, enter, choose, new_at, send_at, send_to, spawn_at, print_at, print_line, end_at, without_thread, frame_of, returned_unit, at_node, numbered}
-use Rattle.pat_model.specs.Runs.{acts, can_step_thread}
-use Rattle.pat_model.specs.Faults.{GuardAt, WrongValue, in_control, in_frame, in_return, stuck, Fault, failing, unexpected, wrong, left}
-use Rattle.pat_model_laws.proofs.FreeVars.{free_unfolds}
-use Rattle.pat_typing.specs.Typings.{Typing}
-use Rattle.pat_typing.specs.Typed.{IsTyped, ThreadFits, ControlFits, PartFits}
-use Rattle.pat_model_laws.proofs.Threads.{lookup_all}
-use Rattle.pat_typing_laws.proofs.Nodes.{NodeFacts, node_facts}
-use Rattle.pat_typing_laws.proofs.Named.{op_parts}
-use Rattle.pat_preservation_laws.proofs.Envs.{env_fits}
-use Rattle.pat_preservation_laws.proofs.Args.{eval_fits}
+use Rattle.pat_semantics_spec.specs.Values.{BaseBool, BaseInt, BaseText, Value, Const, Mailbox, Constant, UnitConst, BoolConst, IntConst, TextConst, Kind, Plain, MailboxOf, Op, Add, Sub, Mul, Equal, Less, Expr, VarExpr, Literal, OpExpr, Env, value_at, occurs, apply, apply_values, eval, eval_all, both_values, line_of, ValueFits}
+use Rattle.pat_semantics_spec.specs.Programs.{Program, Core, Val, Let, Call, If, Print, New, Send, Spawn, Guard, core_at, is_free, core_uses, kind_of, option_list}
+use Rattle.pat_semantics_spec.specs.WellFormed.{WellFormed, op_kind, expr_kind, HaveKinds, IsPrintable}
+use Rattle.pat_semantics_spec.specs.Configs.{Control, Running, Returned, Frame, Thread, Config, thread_at, with_thread}
+use Rattle.pat_semantics_spec.specs.Steps.{Act, ActLocal, ActNew, ActSend, ActSpawn, ActPrint, ActEnd, At, redex, redex_at, step, thread_step, thread_of, resume, local_at, enter, choose, new_at, send_at, send_to, spawn_at, print_at, print_line, end_at, without_thread, frame_of, returned_unit, at_node, numbered}
+use Rattle.pat_semantics_spec.specs.Runs.{acts, can_step_thread}
+use Rattle.pat_semantics_spec.specs.Faults.{GuardAt, WrongValue, in_control, in_frame, in_return, stuck, Fault, failing, unexpected, wrong, left}
+use Rattle.pat_semantics_laws.proofs.FreeVars.{free_unfolds}
+use Rattle.pat_type_system_spec.specs.Typings.{Typing}
+use Rattle.pat_type_system_spec.specs.Typed.{IsTyped, ThreadFits, ControlFits, PartFits}
+use Rattle.pat_semantics_laws.proofs.Threads.{lookup_all}
+use Rattle.pat_type_system_laws.proofs.Nodes.{NodeFacts, node_facts}
+use Rattle.pat_type_system_laws.proofs.Named.{op_parts}
+use Rattle.pat_safety_laws.proofs.Envs.{env_fits}
+use Rattle.pat_safety_laws.proofs.Args.{eval_fits}
 use Rattle.pat_safety_laws.proofs.Accounts.{not_left}
 use Rattle.pat_safety_laws.proofs.FaultParts.{part_has, frame_has, returned_has}
 use Rattle.pat_safety_laws.proofs.GuardFaults.{not_failing, not_unexpected}
-use Rattle.pat_model_laws.proofs.Lists.{clash, any_at}
+use Rattle.pat_semantics_laws.proofs.Lists.{clash, any_at}
 use Rattle.std.specs.Bool.{beq}
-use Rattle.pat_typing.specs.Types.{kind_of_type}
+use Rattle.pat_type_system_spec.specs.Types.{kind_of_type}
 use Rattle.std.specs.Fmt.{signed_decimal}
-use Rattle.pat_model_laws.proofs.Inversion.{after_spawn}
+use Rattle.pat_semantics_laws.proofs.Inversion.{after_spawn}
 
 -- ---- a well-kinded expression has a value
 

@@ -1,15 +1,15 @@
 -- Steps from a typed configuration reach no fault, and a well-formed program that can be typed is safe.
 use Rattle.std.proofs.Common.{◌≡◌, ℕ, List, Some}
-use Rattle.pat_model.specs.Programs.{Program}
-use Rattle.pat_model.specs.Configs.{Config, start}
-use Rattle.pat_typing.specs.Interfaces.{interfaces_along}
-use Rattle.pat_model.specs.Steps.{Step}
-use Rattle.pat_model.specs.Runs.{run_from}
-use Rattle.pat_typing.specs.Typed.{IsTyped}
-use Rattle.pat_model.specs.WellFormed.{WellFormed}
-use Rattle.pat_model.specs.Faults.{Fault, IsSafe}
-use Rattle.pat_typing.specs.Typings.{Typing, IsTypable}
-use Rattle.pat_preservation_laws.proofs.Preserved.{run_keeps, run_typed}
+use Rattle.pat_semantics_spec.specs.Programs.{Program}
+use Rattle.pat_semantics_spec.specs.Configs.{Config, start}
+use Rattle.pat_type_system_spec.specs.Interfaces.{interfaces_along}
+use Rattle.pat_semantics_spec.specs.Steps.{Step}
+use Rattle.pat_semantics_spec.specs.Runs.{run_from}
+use Rattle.pat_type_system_spec.specs.Typed.{IsTyped}
+use Rattle.pat_semantics_spec.specs.WellFormed.{WellFormed}
+use Rattle.pat_semantics_spec.specs.Faults.{Fault, IsSafe}
+use Rattle.pat_type_system_spec.specs.Typings.{Typing, IsTypable}
+use Rattle.pat_safety_laws.proofs.Preserved.{run_keeps, run_typed}
 use Rattle.pat_safety_laws.proofs.Progress.{no_fault}
 
 pub typable_safe : (p : Program) → WellFormed p → IsTypable p → IsSafe p

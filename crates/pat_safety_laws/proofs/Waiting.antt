@@ -1,21 +1,21 @@
 -- Where no step of a typed configuration is enabled, each thread waits at a guard.
 use Rattle.std.proofs.Common.{◌≡◌, ℕ, false, List, Option, Some, None, refl, sym, ap, ◌∙◌, subst}
 use Rattle.std.proofs.lemmas.Bool.{false_from_ne_true}
-use Rattle.pat_model.specs.Values.{Env}
-use Rattle.pat_model.specs.Programs.{Program, Core, Val, Let, Call, If, Print, New, Send, Spawn, Guard, core_at, Clause}
-use Rattle.pat_model.specs.Configs.{Control, Running, Returned, Thread, Config, thread_at}
-use Rattle.pat_model.specs.WellFormed.{WellFormed}
-use Rattle.pat_model.specs.Steps.{Step, step, thread_of}
-use Rattle.pat_model.specs.Runs.{can_step_thread, can_step, run}
-use Rattle.pat_model.specs.Faults.{GuardAt}
-use Rattle.pat_typing.specs.Typings.{Typing, IsTypable}
-use Rattle.pat_typing.specs.Typed.{IsTyped, ThreadFits, ControlFits}
-use Rattle.pat_model_laws.proofs.Lists.{clash}
-use Rattle.pat_model_laws.proofs.Enabled.{some_key, found_step}
-use Rattle.pat_model_laws.proofs.Threads.{lookup_all}
-use Rattle.pat_preservation_laws.proofs.Preserved.{run_typed}
+use Rattle.pat_semantics_spec.specs.Values.{Env}
+use Rattle.pat_semantics_spec.specs.Programs.{Program, Core, Val, Let, Call, If, Print, New, Send, Spawn, Guard, core_at, Clause}
+use Rattle.pat_semantics_spec.specs.Configs.{Control, Running, Returned, Thread, Config, thread_at}
+use Rattle.pat_semantics_spec.specs.WellFormed.{WellFormed}
+use Rattle.pat_semantics_spec.specs.Steps.{Step, step, thread_of}
+use Rattle.pat_semantics_spec.specs.Runs.{can_step_thread, can_step, run}
+use Rattle.pat_semantics_spec.specs.Faults.{GuardAt}
+use Rattle.pat_type_system_spec.specs.Typings.{Typing, IsTypable}
+use Rattle.pat_type_system_spec.specs.Typed.{IsTyped, ThreadFits, ControlFits}
+use Rattle.pat_semantics_laws.proofs.Lists.{clash}
+use Rattle.pat_semantics_laws.proofs.Enabled.{some_key, found_step}
+use Rattle.pat_semantics_laws.proofs.Threads.{lookup_all}
+use Rattle.pat_safety_laws.proofs.Preserved.{run_typed}
 use Rattle.pat_safety_laws.proofs.Progress.{thread_goes}
-use Rattle.pat_words.specs.Patterns.{Pat}
+use Rattle.pat_words_spec.specs.Patterns.{Pat}
 
 -- a thread that doesn't stand at a guard has an enabled step
 others_go : (p : Program) (y : Typing) (interfaces : ℕ → ℕ) (c : Config) → WellFormed p → IsTyped p y interfaces c → can_step p c ≡ false → (t : ℕ) (s : Thread) → thread_at c t ≡ Some s → (GuardAt p c t → ⊥) → ⊥

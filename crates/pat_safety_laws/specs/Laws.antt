@@ -1,13 +1,13 @@
 -- Safety: nothing goes wrong in a typed configuration, so a typable program is safe.
 use Rattle.std.specs.Prelude.{◌≡◌, ℕ, List, [], Some, None, IsTrue, IsFalse, ◌↔◌}
-use Rattle.pat_model.specs.Programs.{Program, is_among, delegates}
-use Rattle.pat_model.specs.Configs.{Thread, Config, thread_at, some_thread_refers}
-use Rattle.pat_model.specs.WellFormed.{WellFormed}
-use Rattle.pat_model.specs.Steps.{Step, step}
-use Rattle.pat_model.specs.Runs.{run_from, run}
-use Rattle.pat_model.specs.Faults.{GuardAt, AccountsFor, is_delegated, Fault, IsSafe}
-use Rattle.pat_typing.specs.Typings.{Typing, IsTypable}
-use Rattle.pat_typing.specs.Typed.{IsTyped}
+use Rattle.pat_semantics_spec.specs.Programs.{Program, is_among, delegates}
+use Rattle.pat_semantics_spec.specs.Configs.{Thread, Config, thread_at, some_thread_refers}
+use Rattle.pat_semantics_spec.specs.WellFormed.{WellFormed}
+use Rattle.pat_semantics_spec.specs.Steps.{Step, step}
+use Rattle.pat_semantics_spec.specs.Runs.{run_from, run}
+use Rattle.pat_semantics_spec.specs.Faults.{GuardAt, AccountsFor, is_delegated, Fault, IsSafe}
+use Rattle.pat_type_system_spec.specs.Typings.{Typing, IsTypable}
+use Rattle.pat_type_system_spec.specs.Typed.{IsTyped}
 
 -- nothing has gone wrong in a typed configuration
 abbrev pub TypedHasNoFault : Type 0

@@ -1,7 +1,11 @@
-// Safety: nothing goes wrong in a typed configuration, so a typable program is safe. No code of the product.
+//! Laws of typed configurations: a step keeps the typing, and no typed configuration has a fault. No code of the product.
 #![tactic(auto)]
 
 ghost use Rattle.pat_safety_laws.specs.Laws.{TypedHasNoFault, TypedStaysSafe, TypableIsSafe, LiveIsReferredTo, DoneLeavesNone, DoneLeavesDelegated, WaitsAtGuards};
+
+mod preservation;
+
+pub use preservation::{interface_laws, preservation_laws};
 
 /// A typed configuration has no fault, so no run from one and none of a well-formed typable program reaches one.
 pub fn safety_laws()

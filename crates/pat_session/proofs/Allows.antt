@@ -7,22 +7,22 @@ use Rattle.pat_input.specs.Inputs.{IsInput, limit, whole_limit}
 use Rattle.pat_load.specs.LoadText.{load_text}
 use Rattle.pat_front.specs.declared.verdict.Verdict.{Verdict}
 use Rattle.pat_front.specs.declared.verdict.Verdict.TheVariants.{TooLong, Syntax, NumberTooWide, TooDeep, Resolve, BadText, Rejected, RefusedAt, TooManyEntries, Unaccepted}
-use Rattle.pat_answers.specs.declared.status.Status.{Status}
-use Rattle.pat_answers.specs.declared.status.Status.TheVariants.{Ok, Refused, Usage, ReadFault, WriteFault, NoMemory, Budget, Waiting, Full}
+use Rattle.pat_front.specs.declared.exit_answers.status.Status.{Status}
+use Rattle.pat_front.specs.declared.exit_answers.status.Status.TheVariants.{Ok, Refused, Usage, ReadFault, WriteFault, NoMemory, Budget, Waiting, Full}
 use Rattle.pat_session.specs.declared.words.Command.{Command}
 use Rattle.pat_session.specs.declared.words.Command.TheVariants.{Check, Derive, Print, Run, Replay, Order, Verify, Load, Help}
 use Rattle.pat_session.specs.Ports.{IsCutShort, Written}
-use Rattle.pat_answers.specs.Answers.{IsStatusWithin}
+use Rattle.pat_front.specs.exit_answers.Answers.{IsStatusWithin}
 use Rattle.pat_command_print.specs.Allowed.{AllowedPrint}
 use Rattle.pat_command_print.proofs.Statuses.{print_status}
-use Rattle.pat_options.specs.declared.options.RunOptions.{RunOptions}
+use Rattle.pat_run.specs.declared.options.options.RunOptions.{RunOptions}
 use Rattle.pat_command_check.specs.Inputs.{IsAcceptedText}
 use Rattle.pat_command_check.specs.Allowed.{AllowedCheck}
 use Rattle.pat_command_check.proofs.Statuses.{check_status}
 use Rattle.pat_command_derive.specs.Allowed.{AllowedDerive}
 use Rattle.pat_command_derive.proofs.Statuses.{derive_status}
-use Rattle.pat_command_load.specs.Allowed.{Whole, Summary, RunShows, ShowsOne, AllowedRun, AllowedLoad}
-use Rattle.pat_command_load.proofs.Statuses.{load_status, run_status}
+use Rattle.pat_command_run.specs.load.Allowed.{Whole, Summary, RunShows, ShowsOne, AllowedRun, AllowedLoad}
+use Rattle.pat_command_run.proofs.LoadStatuses.{load_status, run_status}
 use Rattle.pat_command_replay.specs.Allowed.{AllowedReplay}
 use Rattle.pat_command_replay.proofs.Statuses.{replay_status}
 use Rattle.pat_command_order.specs.Allowed.{AllowedOrder}

@@ -7,13 +7,13 @@ use Rattle.pat_ports.specs.Ends.{EndsThere}
 use Rattle.pat_input.specs.declared.reading.Input.{Input}
 use Rattle.pat_input.specs.declared.reading.Input.TheVariants.{TooLong}
 use Rattle.pat_input.specs.Inputs.{IsInput, IsRead, limit}
-use Rattle.pat_answers.specs.declared.answer.Answer.{Answer}
+use Rattle.pat_front.specs.declared.exit_answers.answer.Answer.{Answer}
 use Rattle.pat_command_check.specs.Allowed.{AllowedCheck}
 use Rattle.pat_command_derive.specs.Allowed.{AllowedDerive}
 use Rattle.pat_command_print.specs.Allowed.{AllowedPrint}
-use Rattle.pat_options.specs.declared.options.RunOptions.{RunOptions}
-use Rattle.pat_options.specs.Options.{IsWithin}
-use Rattle.pat_command_load.specs.Allowed.{AllowedLoad, Whole, AllowedRun}
+use Rattle.pat_run.specs.declared.options.options.RunOptions.{RunOptions}
+use Rattle.pat_run.specs.options.Options.{IsWithin}
+use Rattle.pat_command_run.specs.load.Allowed.{AllowedLoad, Whole, AllowedRun}
 use Rattle.pat_command_replay.specs.Allowed.{AllowedReplay}
 use Rattle.pat_command_order.specs.Allowed.{AllowedOrder}
 use Rattle.pat_command_verify.specs.Allowed.{AllowedVerify}

@@ -6,8 +6,8 @@ use Rattle.std.specs.Io.KnownBytes.{Appends, Keeps}
 use Rattle.pat_ports.specs.Causes.{Raised}
 use Rattle.pat_ports.specs.Ends.{EndsOnce, EndsThere}
 use Rattle.pat_ports.specs.declared.reach.Reach.{Reach}
-use Rattle.pat_answers.specs.declared.status.Status.{Status}
-use Rattle.pat_answers.specs.declared.status.Status.TheVariants.{Ok, Refused, Usage, ReadFault, WriteFault, NoMemory}
+use Rattle.pat_front.specs.declared.exit_answers.status.Status.{Status}
+use Rattle.pat_front.specs.declared.exit_answers.status.Status.TheVariants.{Ok, Refused, Usage, ReadFault, WriteFault, NoMemory}
 use Rattle.pat_front.specs.declared.verdict.Verdict.TheVariants.{TooLong}
 use Rattle.pat_session.specs.declared.words.Command.{Command}
 use Rattle.pat_session.specs.declared.words.Command.TheVariants.{Help}

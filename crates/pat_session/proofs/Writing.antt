@@ -5,8 +5,8 @@ use Rattle.std.specs.Io.KnownBytes.{Appends}
 use Rattle.std.proofs.lemmas.List.{length-take, length-drop}
 use Rattle.pat_ports.specs.Causes.{Raised}
 use Rattle.pat_ports.specs.Bytes.{AppendsFront}
-use Rattle.pat_answers.specs.declared.status.Status.{Status}
-use Rattle.pat_answers.specs.declared.status.Status.TheVariants.{WriteFault}
+use Rattle.pat_front.specs.declared.exit_answers.status.Status.{Status}
+use Rattle.pat_front.specs.declared.exit_answers.status.Status.TheVariants.{WriteFault}
 use Rattle.pat_session.specs.Ports.{SinkState, IsCutShort, Writes}
 use Rattle.pat_session.proofs.Fronts.{front_more}
 

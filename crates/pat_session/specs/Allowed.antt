@@ -1,16 +1,16 @@
 -- Which text and which status words and an input allow.
 use Rattle.std.specs.Prelude.{◌≡◌, ◌≤◌, ◌&&◌, nat_le, if◌then◌else◌, ℕ, List, [], ◌∷◌, ◌++◌, Option, Some, None, codes}
-use Rattle.pat_answers.specs.declared.status.Status.{Status}
-use Rattle.pat_answers.specs.declared.status.Status.TheVariants.{Ok, Usage}
+use Rattle.pat_front.specs.declared.exit_answers.status.Status.{Status}
+use Rattle.pat_front.specs.declared.exit_answers.status.Status.TheVariants.{Ok, Usage}
 use Rattle.pat_command_check.specs.Allowed.{AllowedCheck}
 use Rattle.pat_command_derive.specs.Allowed.{AllowedDerive}
 use Rattle.pat_command_print.specs.Allowed.{AllowedPrint}
-use Rattle.pat_command_load.specs.Allowed.{AllowedLoad, Whole, AllowedRun}
+use Rattle.pat_command_run.specs.load.Allowed.{AllowedLoad, Whole, AllowedRun}
 use Rattle.pat_command_replay.specs.Allowed.{AllowedReplay}
 use Rattle.pat_command_order.specs.Allowed.{AllowedOrder}
 use Rattle.pat_command_verify.specs.Allowed.{AllowedVerify}
-use Rattle.pat_options.specs.declared.options.RunOptions.{RunOptions}
-use Rattle.pat_options.specs.Options.{IsWithin, number_of, options_of}
+use Rattle.pat_run.specs.declared.options.options.RunOptions.{RunOptions}
+use Rattle.pat_run.specs.options.Options.{IsWithin, number_of, options_of}
 use Rattle.pat_input.specs.Inputs.{IsInputWithin, limit, whole_limit}
 use Rattle.pat_session.specs.declared.words.Command.{Command}
 use Rattle.pat_session.specs.declared.words.Command.TheVariants.{Check, Derive, Print, Run, Replay, Order, Verify, Load, Help}

@@ -2,25 +2,25 @@
 use Rattle.std.specs.Prelude.{◌≡◌, ◌⊎◌, ℕ, List}
 use Rattle.std.specs.declared.option.Option.{Option}
 use Rattle.std.specs.Io.KnownBytes.{IsAtEnd, Appends, Keeps}
-use Rattle.pat_model.specs.Programs.{Program}
-use Rattle.pat_model.specs.Faults.{IsSafe}
-use Rattle.pat_grammar.specs.Trees.{Tree}
-use Rattle.pat_canonical.specs.Text.{canonical_text}
+use Rattle.pat_semantics_spec.specs.Programs.{Program}
+use Rattle.pat_semantics_spec.specs.Faults.{IsSafe}
+use Rattle.pat_parser_spec.specs.Trees.{Tree}
+use Rattle.pat_print_spec.specs.Text.{canonical_text}
 use Rattle.pat_ports.specs.Bytes.{AppendsFront}
 use Rattle.pat_input.specs.Inputs.{IsInput, IsInputWithin, whole_limit}
 use Rattle.pat_front.specs.Texts.{IsProgramText}
 use Rattle.pat_front.specs.declared.verdict.Verdict.{Verdict}
-use Rattle.pat_answers.specs.declared.status.Status.{Status}
-use Rattle.pat_answers.specs.declared.status.Status.TheVariants.{Ok, Refused, Usage, ReadFault, WriteFault, NoMemory, Budget, Waiting, Full}
-use Rattle.pat_options.specs.declared.options.RunOptions.{RunOptions}
-use Rattle.pat_command_load.specs.Allowed.{Whole, Summary, RunShows}
+use Rattle.pat_front.specs.declared.exit_answers.status.Status.{Status}
+use Rattle.pat_front.specs.declared.exit_answers.status.Status.TheVariants.{Ok, Refused, Usage, ReadFault, WriteFault, NoMemory, Budget, Waiting, Full}
+use Rattle.pat_run.specs.declared.options.options.RunOptions.{RunOptions}
+use Rattle.pat_command_run.specs.load.Allowed.{Whole, Summary, RunShows}
 use Rattle.pat_load.specs.LoadText.{load_text}
 use Rattle.pat_command_replay.specs.Allowed.{IsReplayed}
 use Rattle.pat_command_order.specs.Allowed.{IsOrdered}
 use Rattle.pat_command_verify.specs.Allowed.{IsVerified}
-use Rattle.pat_derivation_text.specs.DerivationText.{derivation_text}
+use Rattle.pat_derivation_text_spec.specs.DerivationText.{derivation_text}
 use Rattle.pat_command_check.specs.Inputs.{IsAcceptedText}
-use Rattle.pat_answers.specs.Answers.{accepted_line}
+use Rattle.pat_front.specs.exit_answers.Answers.{accepted_line}
 use Rattle.pat_session.specs.declared.words.Command.{Command}
 use Rattle.pat_session.specs.Ports.{IsCutShort}
 use Rattle.pat_session.specs.Allowed.{IsCommand, Takes, AllowedTo, Allowed, usage_line}

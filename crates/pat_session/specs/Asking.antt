@@ -1,6 +1,6 @@
 -- What there is to answer, once a command's input is read.
 use Rattle.std.specs.Prelude.{◌≡◌, ◌≤◌, ℕ, List, []}
-use Rattle.pat_options.specs.Options.{IsWithin}
+use Rattle.pat_run.specs.options.Options.{IsWithin}
 use Rattle.pat_input.specs.Inputs.{IsRead}
 use Rattle.pat_session.specs.declared.commands.Asked.{Asked}
 use Rattle.pat_session.specs.declared.commands.Asked.TheVariants as asked

@@ -3,8 +3,8 @@ use Rattle.std.specs.Prelude.{◌≡◌, ◌≢◌, ◌⊎◌, ℕ, ⊤, List}
 use Rattle.std.specs.declared.option.Option.{Option}
 use Rattle.pat_ports.specs.Ends.{EndsOnce, EndsThere}
 use Rattle.pat_front.specs.declared.verdict.Verdict.TheVariants.{TooLong}
-use Rattle.pat_answers.specs.declared.status.Status.{Status}
-use Rattle.pat_answers.specs.declared.status.Status.TheVariants.{Ok, Refused, Usage, ReadFault, WriteFault, NoMemory, Budget, Waiting, Full}
+use Rattle.pat_front.specs.declared.exit_answers.status.Status.{Status}
+use Rattle.pat_front.specs.declared.exit_answers.status.Status.TheVariants.{Ok, Refused, Usage, ReadFault, WriteFault, NoMemory, Budget, Waiting, Full}
 use Rattle.pat_ports.specs.declared.reach.Reach.{Reach}
 use Rattle.pat_session.specs.Ports.{SourceState, SinkState, Answered, IsCutShort}
 use Rattle.pat_session.specs.Allowed.{AsksInput, Allowed}

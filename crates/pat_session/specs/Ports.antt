@@ -5,8 +5,8 @@ use Rattle.std.specs.Io.KnownBytes.{Appends}
 use Rattle.pat_ports.specs.Causes.{Raised}
 use Rattle.pat_ports.specs.Bytes.{AppendsFront}
 use Rattle.pat_ports.specs.declared.reach.Reach.{Reach}
-use Rattle.pat_answers.specs.declared.status.Status.{Status}
-use Rattle.pat_answers.specs.declared.status.Status.TheVariants.{WriteFault}
+use Rattle.pat_front.specs.declared.exit_answers.status.Status.{Status}
+use Rattle.pat_front.specs.declared.exit_answers.status.Status.TheVariants.{WriteFault}
 
 -- what a source tells: the bytes left, how often it failed, and how far it was read
 pub record SourceState : Type 0 where

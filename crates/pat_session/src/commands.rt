@@ -2,23 +2,23 @@
 ghost use Rattle.std.specs.Prelude.{◌≡◌, ◌≤◌, ℕ, List, IfOk, length};
 ghost use Rattle.pat_ports.specs.Ends.{EndsOnce, EndsThere};
 ghost use Rattle.pat_input.specs.Inputs.{IsRead, IsInputWithin, FaultsAfter};
-ghost use Rattle.pat_command_load.specs.Runners.{IsRunner};
+ghost use Rattle.pat_command_run.specs.Runners.{IsRunner};
 ghost use Rattle.pat_session.specs.Allowed.{AllowedTo, HasBounds, HasInput, Takes, limit_of};
 ghost use Rattle.pat_session.specs.Asking.{Asks, IsAsked, IsAsking, IsOfProgram, IsOfTwoParts};
 
 use crate::Command;
-use pat_accepted::Accepted;
-use pat_answers::Answer;
 use pat_command_check::answer_check;
 use pat_command_derive::answer_derive;
-use pat_command_load::{Detail, Finished, answer_load, answer_run};
 use pat_command_order::answer_order;
 use pat_command_print::answer_print;
 use pat_command_replay::answer_replay;
+use pat_command_run::{Detail, Finished, answer_load, answer_run};
 use pat_command_verify::answer_verify;
+use pat_front::Answer;
 use pat_input::{Input, InputError, read_bytes, read_tokens};
-use pat_options::RunOptions;
 use pat_ports::Source;
+use pat_run::RunOptions;
+use pat_typed_program::Accepted;
 use std::alloc::{AllocError, Global};
 
 /// What there is to answer.

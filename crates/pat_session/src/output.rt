@@ -4,7 +4,7 @@ ghost use Rattle.std.specs.Io.KnownBytes.{Appends};
 ghost use Rattle.pat_ports.specs.Causes.{Counted};
 ghost use Rattle.pat_session.specs.Ports.{IsCutShort, HandsAll, Writes, sink_state};
 
-use pat_answers::Status;
+use pat_front::Status;
 use pat_ports::{Failed, Sink};
 
 /// The status, where the whole text could be written, and else that of a write that failed.

@@ -3,7 +3,7 @@ ghost use Rattle.std.specs.Prelude.{◌≡◌, ◌≤◌, ◌∷◌, [], map, st
 ghost use Rattle.pat_session.specs.Allowed as allowed;
 ghost use Rattle.pat_session.specs.Allowed.{IsCommand, HasCommand, HasBounds};
 
-use pat_options::{RunOptions, number_of, options_of};
+use pat_run::{RunOptions, number_of, options_of};
 
 /// What a call is asked to do.
 #[derive(Clone, Copy, Debug, PartialEq, Eq)]

@@ -2,28 +2,28 @@
 use Rattle.std.proofs.Common.{◌≡◌, ℕ, suc, true, false, ◌<◌, [], length, map, Option, Some, None, Result, Ok, Err, slice_get, refl, sym, ap, subst, arith}
 use Rattle.std.specs.Prelude.{IfErr}
 use Rattle.std.proofs.lemmas.List.{length-map}
-use Rattle.pat_model.specs.Programs.{Program}
-use Rattle.pat_model.specs.WellFormed.{WellFormed}
+use Rattle.pat_semantics_spec.specs.Programs.{Program}
+use Rattle.pat_semantics_spec.specs.WellFormed.{WellFormed}
 use Rattle.pat_bags.specs.Views.{word_of}
-use Rattle.pat_certs_trees.specs.Views.{bound_view}
-use Rattle.pat_certs_trees.specs.declared.search.Refutation.{Refutation}
+use Rattle.pat_witnesses.specs.Views.{bound_view}
+use Rattle.pat_witnesses.specs.declared.search.Refutation.{Refutation}
 use Rattle.pat_core.specs.declared.program.Program.{Program as CodeProgram}
 use Rattle.pat_core.specs.Views.{program_view}
 use Rattle.pat_derivations.specs.Views.{vars_view, var_view}
-use Rattle.pat_inference.specs.Constraints.{Constraint}
-use Rattle.pat_inference.specs.Walk.{inferred, all_vars}
+use Rattle.pat_infer_spec.specs.Constraints.{Constraint}
+use Rattle.pat_infer_spec.specs.Walk.{inferred, all_vars}
 use Rattle.pat_infer_problems.specs.Views.{placed_variable, placed_variable_of}
 use Rattle.pat_infer_problems.specs.declared.problem.Problem.{Problem}
 use Rattle.pat_infer_problems.specs.Problems.{IsProblemOf}
-use Rattle.pat_solving.specs.Answers as answers
-use Rattle.pat_solving.specs.Answers.{AllUsable, NoneTooLarge, NoneOpen, IsConstraint, IsRefuted, IsUndecided, IsRight, solution, values_from}
-use Rattle.pat_solving.specs.Laws.{AreThere, RefutedIsUntypable, LargeIsUntypable, SolvedExactly}
-use Rattle.pat_solve_answers.specs.Views.{forms_of, IsSolution, IsRefusal, IsAnswer, IsUntypable, IsComplete}
-use Rattle.pat_solve_answers.specs.declared.solution.Solution.{Solution}
-use Rattle.pat_solve_answers.specs.declared.error.SolveError.{SolveError}
-use Rattle.pat_solve_answers.specs.declared.error.SolveError.TheVariants as error
-use Rattle.pat_solve_forms.specs.Found.{IsShut, IsUnshownBy}
-use Rattle.pat_solve_forms.specs.declared.forms.Unshown.{Unshown}
+use Rattle.pat_solve_spec.specs.Answers as answers
+use Rattle.pat_solve_spec.specs.Answers.{AllUsable, NoneTooLarge, NoneOpen, IsConstraint, IsRefuted, IsUndecided, IsRight, solution, values_from}
+use Rattle.pat_solve_spec.specs.Laws.{AreThere, RefutedIsUntypable, LargeIsUntypable, SolvedExactly}
+use Rattle.pat_solve_bounds.specs.results.Views.{forms_of, IsSolution, IsRefusal, IsAnswer, IsUntypable, IsComplete}
+use Rattle.pat_solve_bounds.specs.declared.results.solution.Solution.{Solution}
+use Rattle.pat_solve_bounds.specs.declared.results.error.SolveError.{SolveError}
+use Rattle.pat_solve_bounds.specs.declared.results.error.SolveError.TheVariants as error
+use Rattle.pat_solve.specs.interface.Found.{IsShut, IsUnshownBy}
+use Rattle.pat_solve.specs.declared.interface.forms.Unshown.{Unshown}
 use Rattle.pat_solve.specs.declared.states.State.{State}
 use Rattle.pat_solve.specs.Steps.{IsBegun, IsErrorBy, FinishesBy, Finishes}
 use Rattle.pat_solve.specs.States.{FirstIs, AreSolved, Stands}

@@ -2,12 +2,12 @@
 use Rattle.std.proofs.Common.{◌≡◌, ℕ, zero, suc, ◌+◌, ◌-◌, ◌<◌, ◌≤◌, Bool, true, false, nat_eq, if◌then◌else◌, List, [], ◌∷◌, length, map, Option, Some, slice_get, slice_set, refl, sym, ap, ◌∙◌, subst, arith}
 use Rattle.std.proofs.lemmas.Option.{none-some, same_Some}
 use Rattle.std.proofs.lemmas.Bool.{eq-eqb, ne_eqb}
-use Rattle.pat_model.specs.Programs.{Program}
-use Rattle.pat_inclusions.specs.Values.{VarValue, VarLine}
-use Rattle.pat_open_types.specs.Signatures.{Variable}
-use Rattle.pat_solving.specs.Assignments.{vars_in}
-use Rattle.pat_solving.specs.Derived.{Form}
-use Rattle.pat_solving.specs.Answers.{value_by, values_from}
+use Rattle.pat_semantics_spec.specs.Programs.{Program}
+use Rattle.pat_inclusion_spec.specs.Values.{VarValue, VarLine}
+use Rattle.pat_type_schemes_spec.specs.Signatures.{Variable}
+use Rattle.pat_solve_spec.specs.Assignments.{vars_in}
+use Rattle.pat_solve_spec.specs.Derived.{Form}
+use Rattle.pat_solve_spec.specs.Answers.{value_by, values_from}
 use Rattle.pat_solve.specs.Steps.{put_lines}
 
 -- ---- a place that is set

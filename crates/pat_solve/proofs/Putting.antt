@@ -2,7 +2,7 @@
 use Rattle.std.proofs.Common.{◌≡◌, ℕ, zero, suc, ◌-◌, ◌<◌, List, [], ◌∷◌, ◌++◌, length, drop, get_or, map, slice_set, refl, sym, ap, ◌∙◌, arith}
 use Rattle.std.proofs.lemmas.List.{append-nil, append_assoc, length-append}
 use lib.Seq.{drop-cons}
-use Rattle.pat_inclusions.specs.Values.{VarLine}
+use Rattle.pat_inclusion_spec.specs.Values.{VarLine}
 use Rattle.pat_derivations.specs.declared.data.VarValue.{VarValue as CodeValue}
 use Rattle.pat_derivations.specs.Views.{value_view, var_view}
 use Rattle.pat_solve.specs.Steps.{put_lines, IsPut}

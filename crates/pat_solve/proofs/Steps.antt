@@ -3,25 +3,25 @@ use Rattle.std.proofs.Common.{◌≡◌, ℕ, zero, suc, ◌+◌, ◌<◌, ◌�
 use Rattle.std.specs.Prelude.{IfOk, IfErr}
 use Rattle.std.proofs.lemmas.List.{length-map}
 use Rattle.std.proofs.lemmas.Bool.{eq-eqb, ne_eqb}
-use Rattle.pat_model.specs.Programs.{Program}
-use Rattle.pat_inclusions.specs.Values.{VarValue}
-use Rattle.pat_bounds.specs.LeastGrids.{AreLeastPoints}
+use Rattle.pat_semantics_spec.specs.Programs.{Program}
+use Rattle.pat_inclusion_spec.specs.Values.{VarValue}
+use Rattle.pat_inclusion_spec.specs.bounds.LeastGrids.{AreLeastPoints}
 use Rattle.pat_derivations.specs.declared.data.VarValue.{VarValue as CodeValue}
 use Rattle.pat_derivations.specs.Views.{value_view, var_view, vars_view}
-use Rattle.pat_open_types.specs.Signatures.{Variable}
-use Rattle.pat_inference.specs.Constraints.{Constraint}
-use Rattle.pat_inference.specs.Walk.{all_vars}
-use Rattle.pat_solving.specs.LowerBounds.{lowers_in}
-use Rattle.pat_solving.specs.Assignments.{vars_in}
-use Rattle.pat_solving.specs.Derived.{Form, Patterns, Grids}
-use Rattle.pat_solving.specs.Answers.{AllUsable, IsConstraint, IsTooLarge, NoneTooLarge, FormIs, value_by, grid_bound, tags_of}
-use Rattle.pat_solve_answers.specs.Views.{form_of, forms_of, IsRefusal}
-use Rattle.pat_solve_answers.specs.declared.error.SolveError.{SolveError}
-use Rattle.pat_solve_answers.specs.declared.error.SolveError.TheVariants as error
-use Rattle.pat_solve_forms.specs.Found.{IsShut, AreFormOf, IsFirstUnshown, FormGives}
-use Rattle.pat_solve_forms.specs.declared.forms.Unshown.{Unshown}
-use Rattle.pat_solve_forms.specs.declared.forms.InterfaceForm.{InterfaceForm}
-use Rattle.pat_solve_forms.specs.declared.forms.InterfaceForm.TheVariants.{Solved, TooLarge, Unsolved}
+use Rattle.pat_type_schemes_spec.specs.Signatures.{Variable}
+use Rattle.pat_infer_spec.specs.Constraints.{Constraint}
+use Rattle.pat_infer_spec.specs.Walk.{all_vars}
+use Rattle.pat_solve_spec.specs.LowerBounds.{lowers_in}
+use Rattle.pat_solve_spec.specs.Assignments.{vars_in}
+use Rattle.pat_solve_spec.specs.Derived.{Form, Patterns, Grids}
+use Rattle.pat_solve_spec.specs.Answers.{AllUsable, IsConstraint, IsTooLarge, NoneTooLarge, FormIs, value_by, grid_bound, tags_of}
+use Rattle.pat_solve_bounds.specs.results.Views.{form_of, forms_of, IsRefusal}
+use Rattle.pat_solve_bounds.specs.declared.results.error.SolveError.{SolveError}
+use Rattle.pat_solve_bounds.specs.declared.results.error.SolveError.TheVariants as error
+use Rattle.pat_solve.specs.interface.Found.{IsShut, AreFormOf, IsFirstUnshown, FormGives}
+use Rattle.pat_solve.specs.declared.interface.forms.Unshown.{Unshown}
+use Rattle.pat_solve.specs.declared.interface.forms.InterfaceForm.{InterfaceForm}
+use Rattle.pat_solve.specs.declared.interface.forms.InterfaceForm.TheVariants.{Solved, TooLarge, Unsolved}
 use Rattle.pat_solve.specs.declared.states.State.{State}
 use Rattle.pat_solve.specs.Steps.{put_lines, IsSolvedMore, MeetsUnshown, IsEarlier, TookIn}
 use Rattle.pat_solve.specs.States.{IsFirstOf, FirstIs, AreSolved, Stands}

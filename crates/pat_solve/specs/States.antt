@@ -1,17 +1,17 @@
 -- What is known of a program's first interfaces.
 use Rattle.std.specs.Prelude.{◌≡◌, ℕ, suc, ◌<◌, List, length, Option, Some, None, slice_get}
-use Rattle.pat_model.specs.Programs.{Program}
-use Rattle.pat_bounds.specs.Searches.{IsInside}
+use Rattle.pat_semantics_spec.specs.Programs.{Program}
+use Rattle.pat_inclusion_spec.specs.bounds.Searches.{IsInside}
 use Rattle.pat_derivations.specs.declared.data.VarValue.{VarValue as CodeValue}
 use Rattle.pat_derivations.specs.Views.{vars_view}
-use Rattle.pat_open_types.specs.Signatures.{Variable}
-use Rattle.pat_inference.specs.Constraints.{Constraint}
-use Rattle.pat_inference.specs.Walk.{all_vars}
-use Rattle.pat_solving.specs.LowerBounds.{lowers_of}
-use Rattle.pat_solving.specs.Answers.{AllUsable, NoneTooLarge, IsConstraint, IsSearched, FormIs, value_by}
-use Rattle.pat_solve_answers.specs.Views.{forms_of}
-use Rattle.pat_solve_forms.specs.Found.{IsShut, IsUnshown}
-use Rattle.pat_solve_forms.specs.declared.forms.Unshown.{Unshown}
+use Rattle.pat_type_schemes_spec.specs.Signatures.{Variable}
+use Rattle.pat_infer_spec.specs.Constraints.{Constraint}
+use Rattle.pat_infer_spec.specs.Walk.{all_vars}
+use Rattle.pat_solve_spec.specs.LowerBounds.{lowers_of}
+use Rattle.pat_solve_spec.specs.Answers.{AllUsable, NoneTooLarge, IsConstraint, IsSearched, FormIs, value_by}
+use Rattle.pat_solve_bounds.specs.results.Views.{forms_of}
+use Rattle.pat_solve.specs.interface.Found.{IsShut, IsUnshown}
+use Rattle.pat_solve.specs.declared.interface.forms.Unshown.{Unshown}
 use Rattle.pat_solve.specs.declared.states.State.{State}
 
 module _ (p : Program) (i : ℕ) where

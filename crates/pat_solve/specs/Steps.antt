@@ -1,15 +1,15 @@
 -- What a step makes of what is known.
 use Rattle.std.specs.Prelude.{◌≡◌, ℕ, ◌-◌, ◌<◌, ◌≤◌, ◌⊎◌, List, [], ◌∷◌, ◌++◌, length, drop, map, Option, Some, None, slice_set, Result, Ok, Err}
-use Rattle.pat_inclusions.specs.Values.{VarValue, VarLine}
+use Rattle.pat_inclusion_spec.specs.Values.{VarValue, VarLine}
 use Rattle.pat_derivations.specs.declared.data.VarValue.{VarValue as CodeValue}
 use Rattle.pat_derivations.specs.Views.{value_view, vars_view}
-use Rattle.pat_certs_trees.specs.declared.search.Refutation.{Refutation}
-use Rattle.pat_solve_answers.specs.declared.solution.Solution.{Solution}
-use Rattle.pat_solve_answers.specs.declared.error.SolveError.{SolveError}
-use Rattle.pat_solve_answers.specs.declared.error.SolveError.TheVariants as error
-use Rattle.pat_solve_forms.specs.declared.forms.Unshown.{Unshown}
-use Rattle.pat_solve_forms.specs.declared.forms.InterfaceForm.{InterfaceForm}
-use Rattle.pat_solve_forms.specs.declared.forms.InterfaceForm.TheVariants.{Solved, TooLarge, Unsolved}
+use Rattle.pat_witnesses.specs.declared.search.Refutation.{Refutation}
+use Rattle.pat_solve_bounds.specs.declared.results.solution.Solution.{Solution}
+use Rattle.pat_solve_bounds.specs.declared.results.error.SolveError.{SolveError}
+use Rattle.pat_solve_bounds.specs.declared.results.error.SolveError.TheVariants as error
+use Rattle.pat_solve.specs.declared.interface.forms.Unshown.{Unshown}
+use Rattle.pat_solve.specs.declared.interface.forms.InterfaceForm.{InterfaceForm}
+use Rattle.pat_solve.specs.declared.interface.forms.InterfaceForm.TheVariants.{Solved, TooLarge, Unsolved}
 use Rattle.pat_solve.specs.declared.states.State.{State}
 
 -- nothing is known of so many variables

@@ -1,6 +1,7 @@
-//! The solution of a program's problem, or the first reason why it has none.
+//! All interfaces, one after another: the right answer.
 #![tactic(auto)]
 
+mod interface;
 mod solving;
 mod states;
 

@@ -1,20 +1,19 @@
 // The solution of a problem.
 ghost use Rattle.std.specs.Prelude.{◌≡◌, ◌<◌, ◌+◌, length, IfOk, IfErr};
-ghost use Rattle.pat_model.specs.WellFormed.{WellFormed};
+ghost use Rattle.pat_semantics_spec.specs.WellFormed.{WellFormed};
 ghost use Rattle.pat_core.specs.Views.{program_view};
 ghost use Rattle.pat_infer_problems.specs.Problems.{IsProblemOf, IsEnough};
-ghost use Rattle.pat_solving.specs.Answers.{AllUsable};
-ghost use Rattle.pat_solve_answers.specs.Views.{IsAnswer, IsRefusal, IsUntypable, IsComplete};
-ghost use Rattle.pat_solve_usable.specs.Indexes.{IsIndexOf};
+ghost use Rattle.pat_solve_spec.specs.Answers.{AllUsable};
+ghost use Rattle.pat_solve_bounds.specs.results.Views.{IsAnswer, IsRefusal, IsUntypable, IsComplete};
+ghost use Rattle.pat_solve_bounds.specs.lower_bounds.Indexes.{IsIndexOf};
 ghost use Rattle.pat_solve.specs.States.{Stands};
 
+use crate::interface::interface_form;
 use crate::states::{State, begun, finished, took};
 use pat_core::Program;
 use pat_infer_problems::Problem;
-use pat_solve_answers::{Solution, SolveError};
-use pat_solve_forms::interface_form;
-use pat_solve_usable::{Index, first_unusable, index_law};
-use pat_solving_laws::{answer_laws, refusal_laws};
+use pat_solve_bounds::{Index, Solution, SolveError, first_unusable, index_law};
+use pat_solve_laws::{answer_laws, refusal_laws};
 use std::alloc::{AllocError, Global};
 
 /// The solution of the problem of a well-formed program in which no rule of inference is broken; otherwise the first reason why there

@@ -3,12 +3,12 @@ ghost use Rattle.std.specs.Prelude.{◌≡◌, ◌-◌, Some, length, map, slice
 ghost use Rattle.pat_derivations.specs.Views.{value_view, var_view, vars_view};
 ghost use Rattle.pat_solve.specs.Steps.{IsBegun, TookIn, IsTooLargeBy, SolvesMore, put_lines, MeetsUnshown, IsEarlier, Finishes, IsErrorOf};
 
+use crate::interface::{InterfaceForm, Unshown};
 use pat_derivations::VarValue;
 use pat_infer_problems::Problem;
 use pat_patterns::Pattern;
 use pat_sequences::{Sequence, let_go};
-use pat_solve_answers::{Solution, SolveError};
-use pat_solve_forms::{InterfaceForm, Unshown};
+use pat_solve_bounds::{Solution, SolveError};
 use std::alloc::{AllocError, Global};
 
 /// What is known of the first interfaces: their forms, the values of their variables, 0 for each other one, and the first constraint

@@ -2,13 +2,13 @@
 use Rattle.std.proofs.Common.{◌≡◌, ℕ, suc, ◌+◌, List, [], ◌∷◌, Some, length, refl, ap, ap₂, ◌∙◌, arith}
 use Rattle.std.specs.Prelude.{map, slice_get}
 use Rattle.std.proofs.lemmas.List.{length-map}
-use Rattle.pat_model.specs.Programs.{Node, Program}
-use Rattle.pat_inclusions.specs.Values.{VarLine}
-use Rattle.pat_inclusions.specs.Certificates.{Cert}
-use Rattle.pat_open_types.specs.NodeTypes.{NodeType}
-use Rattle.pat_validity.specs.Derivations.{Line}
-use Rattle.pat_solving.specs.Derived.{Form, ValuesShow, found_of, found_line, type_or_unit, no_certs, lines_from}
-use Rattle.pat_inference.specs.Walk.{inferred}
+use Rattle.pat_semantics_spec.specs.Programs.{Node, Program}
+use Rattle.pat_inclusion_spec.specs.Values.{VarLine}
+use Rattle.pat_inclusion_spec.specs.Certificates.{Cert}
+use Rattle.pat_type_schemes_spec.specs.NodeTypes.{NodeType}
+use Rattle.pat_derivation_spec.specs.Derivations.{Line}
+use Rattle.pat_solve_spec.specs.Derived.{Form, ValuesShow, found_of, found_line, type_or_unit, no_certs, lines_from}
+use Rattle.pat_infer_spec.specs.Walk.{inferred}
 use Rattle.pat_types.specs.declared.types.NodeType.{NodeType as CodeType}
 use Rattle.pat_types.specs.Views.{node_type_view}
 use Rattle.pat_solve_derivation.specs.Lines.{IsFound, bare_line, bare_lines}

@@ -5,11 +5,11 @@ use Rattle.std.proofs.lemmas.List.{get_or_append_left, length-append, map-set}
 use Rattle.std.proofs.lemmas.Option.{slice_get_within, slice_get-get_or, get_or_from_slice_get}
 use Rattle.std.proofs.Math.ListN.{get_or-map}
 use Rattle.std.proofs.Math.Seq.{get_or-append_seam}
-use Rattle.pat_model.specs.Programs.{Node, Program}
-use Rattle.pat_inclusions.specs.Values.{VarLine}
-use Rattle.pat_inclusions.specs.Certificates.{Cert}
-use Rattle.pat_validity.specs.Derivations.{Line, Derivation}
-use Rattle.pat_solving.specs.Derived.{Form, CertsMade, type_or_unit, found_line, no_certs, lines_from, derivation_with}
+use Rattle.pat_semantics_spec.specs.Programs.{Node, Program}
+use Rattle.pat_inclusion_spec.specs.Values.{VarLine}
+use Rattle.pat_inclusion_spec.specs.Certificates.{Cert}
+use Rattle.pat_derivation_spec.specs.Derivations.{Line, Derivation}
+use Rattle.pat_solve_spec.specs.Derived.{Form, CertsMade, type_or_unit, found_line, no_certs, lines_from, derivation_with}
 use Rattle.pat_derivations.specs.declared.data.Cert.{Cert as CodeCert}
 use Rattle.pat_derivations.specs.declared.data.DerivedNode.{DerivedNode}
 use Rattle.pat_derivations.specs.Views.{certs_view, line_view, lines_view}

@@ -2,3 +2,5 @@ mod Bare
 mod Filling
 mod Needing
 mod Showing
+mod Kept
+mod Added

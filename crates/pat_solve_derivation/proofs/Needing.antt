@@ -3,18 +3,18 @@ use Rattle.std.proofs.Common.{◌≡◌, ℕ, zero, suc, ◌+◌, ◌<◌, List,
 use Rattle.std.specs.Prelude.{map, slice_get}
 use Rattle.std.proofs.lemmas.Option.{slice_get-map, slice_get_read, slice_get_within}
 use Rattle.std.specs.List.{AllByRecursion, flat_map}
-use Rattle.pat_model.specs.Programs.{Node, Function, Program, node_at, function_at}
-use Rattle.pat_model.specs.WellFormed.{WellFormed}
-use Rattle.pat_inclusions.specs.Certificates.{Cert, Inclusion}
-use Rattle.pat_validity.specs.Derivations.{Line, Derivation, line_at, scope_of}
-use Rattle.pat_validity.specs.Demands.{inclusions_of}
-use Rattle.pat_validity.specs.Conditions.{demands}
-use Rattle.pat_validity.specs.Rules.{needed}
-use Rattle.pat_validity.specs.Truth.{place}
-use Rattle.pat_solving.specs.Derived.{Form, found_line, no_certs, lines_from, needed_at, scope_by, AreCertsFor}
-use Rattle.pat_solving.specs.Laws.{NeededShown}
-use Rattle.pat_inclusions.specs.Values.{VarLine}
-use Rattle.pat_solve_certs.specs.Making.{IsMet}
+use Rattle.pat_semantics_spec.specs.Programs.{Node, Function, Program, node_at, function_at}
+use Rattle.pat_semantics_spec.specs.WellFormed.{WellFormed}
+use Rattle.pat_inclusion_spec.specs.Certificates.{Cert, Inclusion}
+use Rattle.pat_derivation_spec.specs.Derivations.{Line, Derivation, line_at, scope_of}
+use Rattle.pat_derivation_spec.specs.Demands.{inclusions_of}
+use Rattle.pat_derivation_spec.specs.Conditions.{demands}
+use Rattle.pat_derivation_spec.specs.Rules.{needed}
+use Rattle.pat_derivation_spec.specs.Truth.{place}
+use Rattle.pat_solve_spec.specs.Derived.{Form, found_line, no_certs, lines_from, needed_at, scope_by, AreCertsFor}
+use Rattle.pat_solve_spec.specs.Laws.{NeededShown}
+use Rattle.pat_inclusion_spec.specs.Values.{VarLine}
+use Rattle.pat_solve_derivation.specs.certificates.Making.{IsMet}
 use Rattle.pat_solve_derivation.specs.Made.{IsBare, HasCerts}
 use Rattle.pat_solve_derivation.proofs.Bare.{lines_count}
 

@@ -1,21 +1,21 @@
 -- What a solution of a problem shows.
 use Rattle.std.proofs.Common.{◌≡◌, ℕ, List, [], sym, ◌∙◌, subst}
 use Rattle.std.proofs.lemmas.List.{length-map}
-use Rattle.pat_model.specs.WellFormed.{WellFormed}
-use Rattle.pat_model.specs.Programs as model
-use Rattle.pat_inclusions.specs.Values.{VarLine}
-use Rattle.pat_validity.specs.Derivations.{Derivation}
-use Rattle.pat_validity.specs.Validity.{IsValid}
-use Rattle.pat_inference.specs.Walk.{inferred}
-use Rattle.pat_solving.specs.Derived.{Form, ValuesShow}
-use Rattle.pat_solving.specs.Laws.{DerivedIsValid, SolvedShows}
+use Rattle.pat_semantics_spec.specs.WellFormed.{WellFormed}
+use Rattle.pat_semantics_spec.specs.Programs as model
+use Rattle.pat_inclusion_spec.specs.Values.{VarLine}
+use Rattle.pat_derivation_spec.specs.Derivations.{Derivation}
+use Rattle.pat_derivation_spec.specs.Validity.{IsValid}
+use Rattle.pat_infer_spec.specs.Walk.{inferred}
+use Rattle.pat_solve_spec.specs.Derived.{Form, ValuesShow}
+use Rattle.pat_solve_spec.specs.Laws.{DerivedIsValid, SolvedShows}
 use Rattle.pat_core.specs.declared.program.Program.{Program}
 use Rattle.pat_core.specs.Views.{program_view, node_view}
 use Rattle.pat_derivations.specs.Views.{vars_view}
 use Rattle.pat_infer_problems.specs.Problems.{IsProblemOf}
 use Rattle.pat_infer_problems.specs.declared.problem.Problem.{Problem}
-use Rattle.pat_solve_answers.specs.declared.solution.Solution.{Solution}
-use Rattle.pat_solve_answers.specs.Views.{forms_of, IsSolution}
+use Rattle.pat_solve_bounds.specs.declared.results.solution.Solution.{Solution}
+use Rattle.pat_solve_bounds.specs.results.Views.{forms_of, IsSolution}
 use Rattle.pat_solve_derivation.specs.Lines.{IsFound}
 use Rattle.pat_solve_derivation.specs.Made.{IsDerived}
 

@@ -1,10 +1,10 @@
 -- Lines of derivations, without certificates and with them.
 use Rattle.std.specs.Prelude.{◌≡◌, ℕ, List, [], ◌∷◌, length, map, Some, slice_get}
-use Rattle.pat_model.specs.Programs.{Node, Program, node_at}
-use Rattle.pat_inclusions.specs.Certificates.{Cert}
-use Rattle.pat_open_types.specs.NodeTypes.{NodeType}
-use Rattle.pat_validity.specs.Derivations.{Line}
-use Rattle.pat_solving.specs.Derived.{found_of}
+use Rattle.pat_semantics_spec.specs.Programs.{Node, Program, node_at}
+use Rattle.pat_inclusion_spec.specs.Certificates.{Cert}
+use Rattle.pat_type_schemes_spec.specs.NodeTypes.{NodeType}
+use Rattle.pat_derivation_spec.specs.Derivations.{Line}
+use Rattle.pat_solve_spec.specs.Derived.{found_of}
 use Rattle.pat_types.specs.declared.types.NodeType.{NodeType as CodeType}
 use Rattle.pat_types.specs.Views.{node_type_view}
 

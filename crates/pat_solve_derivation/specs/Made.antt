@@ -1,11 +1,11 @@
 -- The derivation that is made.
 use Rattle.std.specs.Prelude.{◌≡◌, ℕ, ◌<◌, List, [], length, get_or, Some}
-use Rattle.pat_model.specs.Programs.{Function, Node, Program, node_at, function_at}
-use Rattle.pat_inclusions.specs.Values.{VarLine}
-use Rattle.pat_inclusions.specs.Certificates.{Cert}
-use Rattle.pat_validity.specs.Derivations.{Derivation}
-use Rattle.pat_inference.specs.Walk.{inferred}
-use Rattle.pat_solving.specs.Derived.{Form, AreCertsFor, scope_by, no_certs, needed_at, CertsMade, derivation_with, ValuesShow}
+use Rattle.pat_semantics_spec.specs.Programs.{Function, Node, Program, node_at, function_at}
+use Rattle.pat_inclusion_spec.specs.Values.{VarLine}
+use Rattle.pat_inclusion_spec.specs.Certificates.{Cert}
+use Rattle.pat_derivation_spec.specs.Derivations.{Derivation}
+use Rattle.pat_infer_spec.specs.Walk.{inferred}
+use Rattle.pat_solve_spec.specs.Derived.{Form, AreCertsFor, scope_by, no_certs, needed_at, CertsMade, derivation_with, ValuesShow}
 
 -- certificates for what a node needs
 abbrev pub HasCerts : Program → List VarLine → (ℕ → Form) → ℕ → List Cert → Type 0

@@ -1,6 +1,6 @@
 // Lines of derivations, without certificates and with them.
 ghost use Rattle.std.specs.Prelude.{◌≡◌, ◌<◌, ◌≤◌, length, map, Some, slice_get, slice_set, IfOk};
-ghost use Rattle.pat_validity.specs.Derivations.{Line as GhostLine};
+ghost use Rattle.pat_derivation_spec.specs.Derivations.{Line as GhostLine};
 ghost use Rattle.pat_types.specs.Views.{node_type_view};
 ghost use Rattle.pat_derivations.specs.Views.{certs_view, lines_view};
 ghost use Rattle.pat_solve_derivation.specs.Lines.{bare_lines as bare_lines_of, with_certs, line_with};

@@ -1,13 +1,13 @@
 // The derivation of a solved problem.
 ghost use Rattle.std.specs.Prelude.{◌≡◌, ◌≤◌, [], length, map, IfOk};
-ghost use Rattle.pat_model.specs.WellFormed.{WellFormed};
-ghost use Rattle.pat_validity.specs.Validity.{IsValid};
-ghost use Rattle.pat_inference.specs.Walk.{inferred};
-ghost use Rattle.pat_solving.specs.Derived.{ValuesShow};
+ghost use Rattle.pat_semantics_spec.specs.WellFormed.{WellFormed};
+ghost use Rattle.pat_derivation_spec.specs.Validity.{IsValid};
+ghost use Rattle.pat_infer_spec.specs.Walk.{inferred};
+ghost use Rattle.pat_solve_spec.specs.Derived.{ValuesShow};
 ghost use Rattle.pat_core.specs.Views.{program_view};
 ghost use Rattle.pat_derivations.specs.Views.{certs_view, vars_view, lines_view, derivation_view};
 ghost use Rattle.pat_infer_problems.specs.Problems.{IsProblemOf};
-ghost use Rattle.pat_solve_answers.specs.Views.{forms_of, IsSolution};
+ghost use Rattle.pat_solve_bounds.specs.results.Views.{forms_of, IsSolution};
 ghost use Rattle.pat_solve_derivation.specs.Lines.{IsFound, with_certs};
 ghost use Rattle.pat_solve_derivation.specs.Made.{IsDerived};
 
@@ -17,8 +17,8 @@ use pat_core::Program;
 use pat_derivations::{Cert, Derivation, VarValue};
 use pat_infer_problems::Problem;
 use pat_sequences::Sequence;
-use pat_solve_answers::Solution;
-use pat_solving_laws::{answer_laws, derived_laws};
+use pat_solve_bounds::Solution;
+use pat_solve_laws::{answer_laws, derived_laws};
 use pat_types::NodeType;
 use std::alloc::{AllocError, Global};
 

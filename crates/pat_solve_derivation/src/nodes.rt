@@ -1,24 +1,25 @@
 // Certificates of all nodes.
 ghost use Rattle.std.specs.Prelude.{◌≡◌, ◌<◌, length, map, Some, IsTrue, IfOk};
-ghost use Rattle.pat_model.specs.Programs.{node_at, function_at};
-ghost use Rattle.pat_model.specs.WellFormed.{WellFormed};
-ghost use Rattle.pat_inclusions.specs.Values.{values_fit};
-ghost use Rattle.pat_validity.specs.Derivations.{line_at, scope_of};
-ghost use Rattle.pat_solving.specs.Derived.{AreCertsFor, needed_at};
+ghost use Rattle.pat_semantics_spec.specs.Programs.{node_at, function_at};
+ghost use Rattle.pat_semantics_spec.specs.WellFormed.{WellFormed};
+ghost use Rattle.pat_inclusion_spec.specs.Values.{values_fit};
+ghost use Rattle.pat_derivation_spec.specs.Derivations.{line_at, scope_of};
+ghost use Rattle.pat_solve_spec.specs.Derived.{AreCertsFor, needed_at};
 ghost use Rattle.pat_core.specs.Views.{node_view, function_view, program_view};
 ghost use Rattle.pat_derivations.specs.Views.{certs_view, line_view, derivation_view};
-ghost use Rattle.pat_demands_terms.specs.Views.{signature_view};
-ghost use Rattle.pat_demands_terms.specs.Opened.{opened_from};
-ghost use Rattle.pat_solve_answers.specs.Views.{forms_of};
-ghost use Rattle.pat_solve_certs.specs.Making.{scope_in, forms_in, IsSolved};
+ghost use Rattle.pat_obligations.specs.Views.{signature_view};
+ghost use Rattle.pat_obligations.specs.of_terms.Opened.{opened_from};
+ghost use Rattle.pat_solve_bounds.specs.results.Views.{forms_of};
+ghost use Rattle.pat_solve_derivation.specs.certificates.Making.{scope_in, forms_in, IsSolved};
 ghost use Rattle.pat_solve_derivation.specs.Made.{IsBare, HasCerts, AreMade};
 
+use crate::certificates::{Solved, certificates, closed_values};
+use pat_certificate_checks::plain_values;
 use pat_core::{Function, Node, Program};
-use pat_demands_terms::{Signature, demands, signatures};
 use pat_derivations::{Cert, Derivation, DerivedNode};
+use pat_obligations::{Signature, demands, signatures};
 use pat_sequences::Sequence;
-use pat_solve_certs::{Solved, certificates, closed_values, plain_values};
-use pat_solving_laws::derived_laws;
+use pat_solve_laws::derived_laws;
 use std::alloc::{AllocError, Global};
 
 /// The certificates of a node of this function. The derivation has a line without certificates for each node.

@@ -5,16 +5,16 @@ use Rattle.std.specs.List.{AllByRecursion, list_all}
 use Rattle.std.proofs.Math.Nat.{pow-le-pow_right, pow-suc, pow-zero}
 use Rattle.std.proofs.lemmas.List.{drop_all}
 use Rattle.std.proofs.lemmas.Bool.{and_parts, and_from, cond-true, cond-false, cases_Bool, leb-true}
-use Rattle.pat_words.specs.Flats.{is_flat}
-use Rattle.pat_words.specs.Patterns.{Pat, Zero, One, Tag, Sum, Prod, Star, Var, is_closed}
-use Rattle.pat_inclusions.specs.Points.{grid_fits}
-use Rattle.pat_bounds.specs.Assignments as bounds
-use Rattle.pat_bounds.specs.Assignments.{Right, PatternRight, VarRight}
-use Rattle.pat_inference.specs.Constraints.{Constraint}
-use Rattle.pat_inference.specs.Shapes.{is_simple}
-use Rattle.pat_solving.specs.LowerBounds.{right_side, sides_of}
-use Rattle.pat_solving.specs.Assignments.{closed_rights, greatest_degree, bound_of, is_in_bounds}
-use Rattle.pat_solve_renaming.specs.Systems.{picked}
+use Rattle.pat_words_spec.specs.Flats.{is_flat}
+use Rattle.pat_words_spec.specs.Patterns.{Pat, Zero, One, Tag, Sum, Prod, Star, Var, is_closed}
+use Rattle.pat_inclusion_spec.specs.Points.{grid_fits}
+use Rattle.pat_inclusion_spec.specs.bounds.Assignments as bounds
+use Rattle.pat_inclusion_spec.specs.bounds.Assignments.{Right, PatternRight, VarRight}
+use Rattle.pat_infer_spec.specs.Constraints.{Constraint}
+use Rattle.pat_infer_spec.specs.Shapes.{is_simple}
+use Rattle.pat_solve_spec.specs.LowerBounds.{right_side, sides_of}
+use Rattle.pat_solve_spec.specs.Assignments.{closed_rights, greatest_degree, bound_of, is_in_bounds}
+use Rattle.pat_solve_bounds.specs.renumbered.Systems.{picked}
 use Rattle.pat_solve_grids.specs.Rights.{right_is_flat, right_degree, all_flat, greatest}
 
 -- ---- right sides that are simple

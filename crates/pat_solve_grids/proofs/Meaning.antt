@@ -4,38 +4,38 @@ use Rattle.std.specs.Prelude.{get_or, slice_get}
 use Rattle.std.specs.List.{AllByRecursion, list_any}
 use Rattle.std.proofs.lemmas.Bool.{and_from, cases_Bool, cases_lt, eq-eqb, eqb-true}
 use Rattle.std.proofs.lemmas.Option.{slice_get_past, slice_get-get_or}
-use Rattle.pat_words.specs.Words.{Word}
-use Rattle.pat_words.specs.Patterns.{Pat, Zero, Var, is_closed}
-use Rattle.pat_words.specs.Cuts.{CutOf}
-use Rattle.pat_words.specs.Languages.{MemberOf}
-use Rattle.pat_model.specs.Programs as core
-use Rattle.pat_model.specs.Programs.{is_among}
+use Rattle.pat_words_spec.specs.Words.{Word}
+use Rattle.pat_words_spec.specs.Patterns.{Pat, Zero, Var, is_closed}
+use Rattle.pat_words_spec.specs.Cuts.{CutOf}
+use Rattle.pat_words_spec.specs.Languages.{MemberOf}
+use Rattle.pat_semantics_spec.specs.Programs as core
+use Rattle.pat_semantics_spec.specs.Programs.{is_among}
 use Rattle.pat_bags.specs.declared.Bag.{Bag}
 use Rattle.pat_bags.specs.Views.{word_of}
-use Rattle.pat_inclusions.specs.Counts.{same_below, counted}
-use Rattle.pat_inclusions.specs.Points.{grid_fits, points_fit}
-use Rattle.pat_bounds.specs.Trees.{Bound, LowerTree, Shows, bounds_of, derivable}
-use Rattle.pat_bounds.specs.Assignments as bounds
-use Rattle.pat_bounds.specs.Assignments.{lower_of}
-use Rattle.pat_bounds.specs.CutSets.{IsPoint}
-use Rattle.pat_bounds.specs.Searches.{IsInside, IsFound, IsLarge}
-use Rattle.pat_bounds.specs.LeastGrids.{AreLeastPoints}
-use Rattle.pat_inference.specs.Constraints.{Constraint}
-use Rattle.pat_inference.specs.Shapes.{PatternFits, ConstraintFits, is_simple}
-use Rattle.pat_inference.specs.Walk.{inferred, all_vars}
+use Rattle.pat_inclusion_spec.specs.Counts.{same_below, counted}
+use Rattle.pat_inclusion_spec.specs.Points.{grid_fits, points_fit}
+use Rattle.pat_inclusion_spec.specs.bounds.Trees.{Bound, LowerTree, Shows, bounds_of, derivable}
+use Rattle.pat_inclusion_spec.specs.bounds.Assignments as bounds
+use Rattle.pat_inclusion_spec.specs.bounds.Assignments.{lower_of}
+use Rattle.pat_inclusion_spec.specs.bounds.CutSets.{IsPoint}
+use Rattle.pat_inclusion_spec.specs.bounds.Searches.{IsInside, IsFound, IsLarge}
+use Rattle.pat_inclusion_spec.specs.bounds.LeastGrids.{AreLeastPoints}
+use Rattle.pat_infer_spec.specs.Constraints.{Constraint}
+use Rattle.pat_infer_spec.specs.Shapes.{PatternFits, ConstraintFits, is_simple}
+use Rattle.pat_infer_spec.specs.Walk.{inferred, all_vars}
 use Rattle.pat_grid_points.specs.declared.grid.Grid.{Grid}
 use Rattle.pat_grid_points.specs.Views.{HasPoint, points_of}
-use Rattle.pat_grid_tables.specs.Views.{AreGrids}
-use Rattle.pat_certs_trees.specs.declared.search.Refutation.{Refutation}
-use Rattle.pat_certs_trees.specs.Views.{bound_view}
-use Rattle.pat_solving.specs.LowerBounds.{sides_of, lowers_of, lowers_in}
-use Rattle.pat_solving.specs.Answers.{most_nodes, tags_of, IsConstraint}
-use Rattle.pat_solve_lowers.specs.Rows.{numbers}
-use Rattle.pat_solve_lowers.proofs.Numbering.{numbers_are, numbers_have, numbers_ascend}
-use Rattle.pat_solve_renaming.specs.Renaming.{place_in, renamed}
-use Rattle.pat_solve_renaming.specs.Systems.{side_at, picked}
-use Rattle.pat_solve_renaming.proofs.PlaceLaws.{at_place, place_missing, out_of}
-use Rattle.pat_solve_renaming.proofs.Systematic.{SideWithin, tree_from, tree_to, no_lower}
+use Rattle.pat_grid.specs.tables.Views.{AreGrids}
+use Rattle.pat_witnesses.specs.declared.search.Refutation.{Refutation}
+use Rattle.pat_witnesses.specs.Views.{bound_view}
+use Rattle.pat_solve_spec.specs.LowerBounds.{sides_of, lowers_of, lowers_in}
+use Rattle.pat_solve_spec.specs.Answers.{most_nodes, tags_of, IsConstraint}
+use Rattle.pat_solve_bounds.specs.lower_bounds.Rows.{numbers}
+use Rattle.pat_solve_bounds.proofs.Numbering.{numbers_are, numbers_have, numbers_ascend}
+use Rattle.pat_solve_bounds.specs.renumbered.Renaming.{place_in, renamed}
+use Rattle.pat_solve_bounds.specs.renumbered.Systems.{side_at, picked}
+use Rattle.pat_solve_bounds.proofs.PlaceLaws.{at_place, place_missing, out_of}
+use Rattle.pat_solve_bounds.proofs.Systematic.{SideWithin, tree_from, tree_to, no_lower}
 use Rattle.pat_solve_grids.specs.Findings.{FoundAt, LargeAt, InsideAt, IsFirst, AreFound, FoundIn, LargeIn, InsideIn}
 use Rattle.pat_solve_grids.specs.Views.{refuted_view}
 use Rattle.pat_solve_grids.specs.Points.{AreListed, points_by, counts_in}

@@ -4,26 +4,26 @@ use Rattle.std.specs.Prelude.{slice_get, filter}
 use Rattle.std.specs.List.{AllByRecursion, list_all}
 use Rattle.std.proofs.lemmas.Bool.{and_parts, cond_both, cond-true, cond-false, cases_Bool, eqb-true}
 use Rattle.std.proofs.lemmas.Option.{get_or_from_slice_get, slice_get-map}
-use Rattle.pat_words.specs.Patterns.{Pat, Zero, One, Tag, Sum, Prod, Star, Var, is_closed}
-use Rattle.pat_words.specs.Flats.{is_flat, degree_of}
-use Rattle.pat_words.specs.Tags.{tags_below}
-use Rattle.pat_model.specs.Programs as core
-use Rattle.pat_bounds.specs.Assignments as bounds
-use Rattle.pat_bounds.specs.Assignments.{Right, PatternRight, VarRight}
-use Rattle.pat_inference.specs.Constraints.{Constraint}
-use Rattle.pat_inference.specs.Shapes.{PatternFits, ConstraintFits, is_simple}
-use Rattle.pat_inference.specs.Walk.{all_vars}
+use Rattle.pat_words_spec.specs.Patterns.{Pat, Zero, One, Tag, Sum, Prod, Star, Var, is_closed}
+use Rattle.pat_words_spec.specs.Flats.{is_flat, degree_of}
+use Rattle.pat_words_spec.specs.Tags.{tags_below}
+use Rattle.pat_semantics_spec.specs.Programs as core
+use Rattle.pat_inclusion_spec.specs.bounds.Assignments as bounds
+use Rattle.pat_inclusion_spec.specs.bounds.Assignments.{Right, PatternRight, VarRight}
+use Rattle.pat_infer_spec.specs.Constraints.{Constraint}
+use Rattle.pat_infer_spec.specs.Shapes.{PatternFits, ConstraintFits, is_simple}
+use Rattle.pat_infer_spec.specs.Walk.{all_vars}
 use Rattle.pat_infer_problems.specs.declared.problem.Problem.{Problem}
 use Rattle.pat_infer_problems.specs.declared.problem.VarDecl.{VarDecl}
-use Rattle.pat_solving.specs.LowerBounds.{right_side, sides_of, constraints_in}
-use Rattle.pat_solving.specs.Assignments.{vars_in, closed_rights, greatest_degree}
-use Rattle.pat_solving.specs.Answers.{tags_of}
-use Rattle.pat_solve_renaming.proofs.Closed.{Among, within_tags, fits_within}
-use Rattle.pat_solve_replacing.specs.Ascending.{IsAscending}
-use Rattle.pat_solve_lowers.specs.Rows.{numbers}
-use Rattle.pat_solve_lowers.proofs.Numbering.{numbers_ascend}
-use Rattle.pat_solve_renaming.specs.Systems.{side_at, picked}
-use Rattle.pat_solve_renaming.proofs.Systematic.{RightWithin, SideWithin}
+use Rattle.pat_solve_spec.specs.LowerBounds.{right_side, sides_of, constraints_in}
+use Rattle.pat_solve_spec.specs.Assignments.{vars_in, closed_rights, greatest_degree}
+use Rattle.pat_solve_spec.specs.Answers.{tags_of}
+use Rattle.pat_solve_bounds.proofs.Closed.{Among, within_tags, fits_within}
+use Rattle.pat_solve_bounded.specs.replacing.Ascending.{IsAscending}
+use Rattle.pat_solve_bounds.specs.lower_bounds.Rows.{numbers}
+use Rattle.pat_solve_bounds.proofs.Numbering.{numbers_ascend}
+use Rattle.pat_solve_bounds.specs.renumbered.Systems.{side_at, picked}
+use Rattle.pat_solve_bounds.proofs.Systematic.{RightWithin, SideWithin}
 use Rattle.pat_solve_grids.specs.Findings.{RightSearchable, IsSearchable}
 
 -- ---- numbers

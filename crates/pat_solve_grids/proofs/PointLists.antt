@@ -4,15 +4,15 @@ use Rattle.std.specs.Prelude.{get_or, slice_get}
 use Rattle.std.specs.List.{list_any}
 use Rattle.std.proofs.lemmas.Bool.{or_cases, or_left, or_right}
 use Rattle.std.proofs.lemmas.List.{take_more}
-use Rattle.pat_words.specs.Words.{Word}
-use Rattle.pat_words.specs.Tags.{HasTagsBelow}
-use Rattle.pat_words.specs.Languages.{MemberOf}
+use Rattle.pat_words_spec.specs.Words.{Word}
+use Rattle.pat_words_spec.specs.Tags.{HasTagsBelow}
+use Rattle.pat_words_spec.specs.Languages.{MemberOf}
 use Rattle.pat_bags.specs.declared.Bag.{Bag}
 use Rattle.pat_bags.specs.Views.{word_of}
-use Rattle.pat_inclusions.specs.Counts.{same_below, counted}
+use Rattle.pat_inclusion_spec.specs.Counts.{same_below, counted}
 use Rattle.pat_inclusion_laws.proofs.Spans.{same_words}
 use Rattle.pat_inclusion_laws.proofs.Exact.{same_from}
-use Rattle.pat_bounds.specs.CutSets.{IsPoint}
+use Rattle.pat_inclusion_spec.specs.bounds.CutSets.{IsPoint}
 use Rattle.pat_grid_points.specs.declared.grid.Grid.{Grid}
 use Rattle.pat_grid_points.specs.Views.{HasPoint, points_of}
 use Rattle.pat_solve_grids.specs.Points.{IsListing, AreListed}

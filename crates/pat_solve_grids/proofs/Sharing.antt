@@ -3,30 +3,30 @@ use Rattle.std.proofs.Common.{◌≡◌, ℕ, zero, suc, ◌+◌, ◌-◌, ◌<�
 use Rattle.std.specs.Prelude.{get_or, slice_get}
 use Rattle.std.specs.List.{AllByRecursion}
 use Rattle.std.proofs.lemmas.List.{drop_more, get_or-take, get_or-drop, get_or-map, length-map, length-take-le, length-drop, append-nil, drop_all}
-use Rattle.pat_words.specs.Patterns.{Pat}
-use Rattle.pat_words.specs.Tags.{tags_below}
-use Rattle.pat_inclusions.specs.Points.{grid_fits}
-use Rattle.pat_bounds.specs.Trees.{bounds_of}
-use Rattle.pat_bounds.specs.Assignments.{Right, PatternRight, VarRight, Constraint}
-use Rattle.pat_bounds.specs.Symbols.{Symbol, LowerSymbol, Stands, RootStands, IsFlatOf}
-use Rattle.pat_bounds.specs.Layouts.{laid, laid_all, roots_all, last_of}
-use Rattle.pat_bounds.specs.Tables.{IsDone}
-use Rattle.pat_bounds.specs.Numbers.{points_in, table_of}
-use Rattle.pat_bounds.specs.Searches.{IsAnswer}
-use Rattle.pat_bounds_laws.specs.Laws.{SearchLaw}
-use Rattle.pat_bounds_laws.proofs.LayoutLaws.{Goes, goes_none, goes_both, kept_in, laid_goes, laid_stands, all_stand, TagFits, laid_fit, all_fit, symbols_fit}
+use Rattle.pat_words_spec.specs.Patterns.{Pat}
+use Rattle.pat_words_spec.specs.Tags.{tags_below}
+use Rattle.pat_inclusion_spec.specs.Points.{grid_fits}
+use Rattle.pat_inclusion_spec.specs.bounds.Trees.{bounds_of}
+use Rattle.pat_inclusion_spec.specs.bounds.Assignments.{Right, PatternRight, VarRight, Constraint}
+use Rattle.pat_inclusion_spec.specs.bounds.Symbols.{Symbol, LowerSymbol, Stands, RootStands, IsFlatOf}
+use Rattle.pat_inclusion_spec.specs.bounds.Layouts.{laid, laid_all, roots_all, last_of}
+use Rattle.pat_inclusion_spec.specs.bounds.Tables.{IsDone}
+use Rattle.pat_inclusion_spec.specs.bounds.Numbers.{points_in, table_of}
+use Rattle.pat_inclusion_spec.specs.bounds.Searches.{IsAnswer}
+use Rattle.pat_inclusion_laws.specs.bounds.Laws.{SearchLaw}
+use Rattle.pat_inclusion_laws.proofs.LayoutLaws.{Goes, goes_none, goes_both, kept_in, laid_goes, laid_stands, all_stand, TagFits, laid_fit, all_fit, symbols_fit}
 use Rattle.pat_grid_points.specs.declared.grid.Grid.{Grid}
-use Rattle.pat_grid_symbols.specs.Views.{symbols_view}
-use Rattle.pat_grid_tables.specs.declared.board.Board.{Board}
-use Rattle.pat_grid_tables.specs.Views.{setting_of, IsBoard, AreGrids}
+use Rattle.pat_grid_points.specs.symbols.Views.{symbols_view}
+use Rattle.pat_grid.specs.declared.tables.board.Board.{Board}
+use Rattle.pat_grid.specs.tables.Views.{setting_of, IsBoard, AreGrids}
 use Rattle.pat_grid.specs.Rows.{AreRows}
 use Rattle.pat_grid.proofs.Meaning.{rows_many, rows_point, least_like}
-use Rattle.pat_certs_searches.specs.Readings.{IsRead}
-use Rattle.pat_certs_searches.proofs.Search.{read_right}
-use Rattle.pat_solving.specs.Answers.{most_nodes}
-use Rattle.pat_solve_renaming.specs.Renaming.{renamed}
-use Rattle.pat_solve_renaming.specs.Systems.{side_at, picked}
-use Rattle.pat_solve_renaming.proofs.Renames.{renamed_tags}
+use Rattle.pat_counterexample_search.specs.Readings.{IsRead}
+use Rattle.pat_counterexample_search.proofs.Search.{read_right}
+use Rattle.pat_solve_spec.specs.Answers.{most_nodes}
+use Rattle.pat_solve_bounds.specs.renumbered.Renaming.{renamed}
+use Rattle.pat_solve_bounds.specs.renumbered.Systems.{side_at, picked}
+use Rattle.pat_solve_bounds.proofs.Renames.{renamed_tags}
 use Rattle.pat_solve_grids.specs.Findings.{Findings, SidesSearched, IsSearchable, RightSearchable, AreFound}
 use Rattle.pat_solve_grids.specs.Laying.{laid_if, last_if, laid_side, side_places, laid_sides, all_places, IsReadyFor, AreReady, IsNoted}
 use Rattle.pat_solve_grids.specs.Least.{AreLeastOf}

@@ -2,21 +2,21 @@
 use Rattle.std.proofs.Common.{◌≡◌, ℕ, true, List, length, map, refl, ap, ◌∙◌}
 use Rattle.std.specs.List.{AllByRecursion}
 use Rattle.std.proofs.lemmas.List.{length-map}
-use Rattle.pat_words.specs.Words.{Word}
-use Rattle.pat_words.specs.Patterns.{Pat, Zero, One, Tag, Sum, Prod, Star, Var, is_closed}
-use Rattle.pat_model.specs.Programs as core
-use Rattle.pat_bounds.specs.Trees.{Bound, Shows, bounds_of}
-use Rattle.pat_bounds.specs.Assignments as bounds
-use Rattle.pat_bounds.specs.Assignments.{PatternRight, VarRight, lower_of}
-use Rattle.pat_bounds.specs.Searches.{IsInside, IsFound, IsLarge}
-use Rattle.pat_inference.specs.Shapes.{PatternFits, ConstraintFits, is_simple}
-use Rattle.pat_inference.specs.Walk.{inferred, all_vars}
-use Rattle.pat_solving.specs.LowerBounds.{right_side, sides_of, constraints_in, lowers_of}
-use Rattle.pat_solving.specs.Assignments.{vars_in}
-use Rattle.pat_solving.specs.Answers.{most_nodes, tags_of}
-use Rattle.pat_solve_renaming.proofs.Apart.{apart_to, apart_from}
-use Rattle.pat_solve_renaming.specs.Renaming.{place_in, renamed}
-use Rattle.pat_solve_renaming.proofs.Systematic.{SideWithin, summed, system_is, tree_from, tree_to}
+use Rattle.pat_words_spec.specs.Words.{Word}
+use Rattle.pat_words_spec.specs.Patterns.{Pat, Zero, One, Tag, Sum, Prod, Star, Var, is_closed}
+use Rattle.pat_semantics_spec.specs.Programs as core
+use Rattle.pat_inclusion_spec.specs.bounds.Trees.{Bound, Shows, bounds_of}
+use Rattle.pat_inclusion_spec.specs.bounds.Assignments as bounds
+use Rattle.pat_inclusion_spec.specs.bounds.Assignments.{PatternRight, VarRight, lower_of}
+use Rattle.pat_inclusion_spec.specs.bounds.Searches.{IsInside, IsFound, IsLarge}
+use Rattle.pat_infer_spec.specs.Shapes.{PatternFits, ConstraintFits, is_simple}
+use Rattle.pat_infer_spec.specs.Walk.{inferred, all_vars}
+use Rattle.pat_solve_spec.specs.LowerBounds.{right_side, sides_of, constraints_in, lowers_of}
+use Rattle.pat_solve_spec.specs.Assignments.{vars_in}
+use Rattle.pat_solve_spec.specs.Answers.{most_nodes, tags_of}
+use Rattle.pat_solve_bounds.proofs.Apart.{apart_to, apart_from}
+use Rattle.pat_solve_bounds.specs.renumbered.Renaming.{place_in, renamed}
+use Rattle.pat_solve_bounds.proofs.Systematic.{SideWithin, summed, system_is, tree_from, tree_to}
 use Rattle.pat_solve_grids.specs.Findings.{FoundIn, LargeIn, InsideIn}
 
 -- ---- right sides that are simple

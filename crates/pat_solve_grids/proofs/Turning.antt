@@ -4,13 +4,13 @@ use Rattle.std.specs.Prelude.{get_or}
 use Rattle.std.specs.List.{AllByRecursion}
 use Rattle.std.proofs.lemmas.Bool.{cases_lt}
 use Rattle.std.proofs.lemmas.List.{get_or-map}
-use Rattle.pat_words.specs.Words.{Word}
-use Rattle.pat_words.specs.Patterns.{Pat, Zero}
-use Rattle.pat_bounds.specs.Trees.{Bound, EmptyTree, Shows}
-use Rattle.pat_bounds.specs.Assignments.{Right, PatternRight, VarRight, Constraint}
-use Rattle.pat_bounds.specs.Searches.{IsInside, IsFound, IsLarge, Search, InsideAnswer, FoundAnswer, LargeAnswer, IsAnswer}
-use Rattle.pat_solving.specs.Answers.{most_nodes}
-use Rattle.pat_solve_renaming.specs.Systems.{side_at, picked}
+use Rattle.pat_words_spec.specs.Words.{Word}
+use Rattle.pat_words_spec.specs.Patterns.{Pat, Zero}
+use Rattle.pat_inclusion_spec.specs.bounds.Trees.{Bound, EmptyTree, Shows}
+use Rattle.pat_inclusion_spec.specs.bounds.Assignments.{Right, PatternRight, VarRight, Constraint}
+use Rattle.pat_inclusion_spec.specs.bounds.Searches.{IsInside, IsFound, IsLarge, Search, InsideAnswer, FoundAnswer, LargeAnswer, IsAnswer}
+use Rattle.pat_solve_spec.specs.Answers.{most_nodes}
+use Rattle.pat_solve_bounds.specs.renumbered.Systems.{side_at, picked}
 use Rattle.pat_solve_grids.specs.Findings.{Findings, first_or, noted, SidesSearched, IsSearched, FoundIn, LargeIn, InsideIn, FoundAt, LargeAt, InsideAt, IsFirst, AreFound}
 
 -- ---- no tree shows a word of 0

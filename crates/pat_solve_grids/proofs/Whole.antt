@@ -3,44 +3,44 @@ use Rattle.std.proofs.Common.{◌≡◌, ℕ, suc, ◌<◌, ◌≤◌, Bool, tru
 use Rattle.std.specs.Prelude.{get_or, slice_get, replicate}
 use Rattle.std.specs.List.{AllByRecursion, list_all}
 use Rattle.std.proofs.lemmas.Bool.{and_parts}
-use Rattle.pat_words.specs.Words.{Word}
-use Rattle.pat_words.specs.Flats.{is_flat}
-use Rattle.pat_words.specs.Tags.{tags_below}
-use Rattle.pat_words.specs.Patterns.{Pat, Zero}
-use Rattle.pat_words.specs.Cuts.{CutOf}
-use Rattle.pat_words.specs.Languages.{MemberOf}
+use Rattle.pat_words_spec.specs.Words.{Word}
+use Rattle.pat_words_spec.specs.Flats.{is_flat}
+use Rattle.pat_words_spec.specs.Tags.{tags_below}
+use Rattle.pat_words_spec.specs.Patterns.{Pat, Zero}
+use Rattle.pat_words_spec.specs.Cuts.{CutOf}
+use Rattle.pat_words_spec.specs.Languages.{MemberOf}
 use Rattle.pat_bags.specs.declared.Bag.{Bag}
-use Rattle.pat_inclusions.specs.Points.{grid_fits}
-use Rattle.pat_bounds.specs.Trees.{bounds_of, derivable}
-use Rattle.pat_bounds.specs.Assignments as bounds
-use Rattle.pat_bounds.specs.CutSets.{IsPoint}
-use Rattle.pat_inference.specs.Constraints.{Constraint}
-use Rattle.pat_model.specs.Programs as core
-use Rattle.pat_model.specs.WellFormed.{WellFormed, InterfaceFits}
-use Rattle.pat_validity.specs.Derivations.{tag_count}
-use Rattle.pat_inference.specs.Shapes.{ConstraintFits, is_simple}
-use Rattle.pat_inference.specs.Walk.{inferred, all_vars}
+use Rattle.pat_inclusion_spec.specs.Points.{grid_fits}
+use Rattle.pat_inclusion_spec.specs.bounds.Trees.{bounds_of, derivable}
+use Rattle.pat_inclusion_spec.specs.bounds.Assignments as bounds
+use Rattle.pat_inclusion_spec.specs.bounds.CutSets.{IsPoint}
+use Rattle.pat_infer_spec.specs.Constraints.{Constraint}
+use Rattle.pat_semantics_spec.specs.Programs as core
+use Rattle.pat_semantics_spec.specs.WellFormed.{WellFormed, InterfaceFits}
+use Rattle.pat_derivation_spec.specs.Derivations.{tag_count}
+use Rattle.pat_infer_spec.specs.Shapes.{ConstraintFits, is_simple}
+use Rattle.pat_infer_spec.specs.Walk.{inferred, all_vars}
 use Rattle.pat_core.specs.declared.program.Program.{Program}
 use Rattle.pat_core.specs.Views.{program_view}
 use Rattle.pat_grid_points.specs.declared.grid.Grid.{Grid}
 use Rattle.pat_grid_points.specs.Views.{HasPoint, points_of}
-use Rattle.pat_grid_tables.specs.Views.{AreGrids}
-use Rattle.pat_certs_trees.specs.declared.search.Refutation.{Refutation}
+use Rattle.pat_grid.specs.tables.Views.{AreGrids}
+use Rattle.pat_witnesses.specs.declared.search.Refutation.{Refutation}
 use Rattle.pat_infer_problems.specs.declared.problem.Problem.{Problem}
 use Rattle.pat_infer_problems.specs.Problems.{IsProblemOf}
-use Rattle.pat_bounds.specs.LeastGrids.{AreLeastPoints}
-use Rattle.pat_solving.specs.LowerBounds.{sides_of, constraints_in, lowers_in}
-use Rattle.pat_solving.specs.Assignments.{vars_in, closed_rights, bound_of}
-use Rattle.pat_solving.specs.Answers.{tags_of, constraints_of, grid_bound, IsInBounds}
-use Rattle.pat_solve_replacing.specs.Ascending.{IsAscending}
-use Rattle.pat_solve_lowers.specs.declared.indexing.Index.{Index}
-use Rattle.pat_solve_lowers.specs.Indexes.{IsIndexOf}
-use Rattle.pat_solve_lowers.specs.Rows.{numbers}
-use Rattle.pat_solve_lowers.specs.Sides.{sides_list}
-use Rattle.pat_solve_lowers.proofs.Ties.{sides_same, constraint_numbers, var_numbers}
-use Rattle.pat_solve_renaming.specs.Renaming.{place_in, renamed}
-use Rattle.pat_solve_renaming.specs.Systems.{picked, renamed_side, all_added}
-use Rattle.pat_solve_renaming.proofs.Systematic.{SideWithin, system_tags}
+use Rattle.pat_inclusion_spec.specs.bounds.LeastGrids.{AreLeastPoints}
+use Rattle.pat_solve_spec.specs.LowerBounds.{sides_of, constraints_in, lowers_in}
+use Rattle.pat_solve_spec.specs.Assignments.{vars_in, closed_rights, bound_of}
+use Rattle.pat_solve_spec.specs.Answers.{tags_of, constraints_of, grid_bound, IsInBounds}
+use Rattle.pat_solve_bounded.specs.replacing.Ascending.{IsAscending}
+use Rattle.pat_solve_bounds.specs.declared.lower_bounds.indexing.Index.{Index}
+use Rattle.pat_solve_bounds.specs.lower_bounds.Indexes.{IsIndexOf}
+use Rattle.pat_solve_bounds.specs.lower_bounds.Rows.{numbers}
+use Rattle.pat_solve_bounds.specs.lower_bounds.Sides.{sides_list}
+use Rattle.pat_solve_bounds.proofs.Ties.{sides_same, constraint_numbers, var_numbers}
+use Rattle.pat_solve_bounds.specs.renumbered.Renaming.{place_in, renamed}
+use Rattle.pat_solve_bounds.specs.renumbered.Systems.{picked, renamed_side, all_added}
+use Rattle.pat_solve_bounds.proofs.Systematic.{SideWithin, system_tags}
 use Rattle.pat_solve_grids.specs.Rights.{all_flat, greatest}
 use Rattle.pat_solve_grids.specs.Findings.{IsSearchable, AreFound}
 use Rattle.pat_solve_grids.specs.Views.{refuted_view}

@@ -1,14 +1,14 @@
 -- What searches of constraints find, one after another.
 use Rattle.std.specs.Prelude.{◌≡◌, ℕ, ◌<◌, Bool, true, List, get_or, Option, Some, None, IsTrue, IsFalse}
-use Rattle.pat_words.specs.Words.{Word}
-use Rattle.pat_words.specs.Patterns.{Pat}
-use Rattle.pat_words.specs.Flats.{is_flat, degree_of}
-use Rattle.pat_words.specs.Tags.{tags_below}
-use Rattle.pat_bounds.specs.Trees.{Bound}
-use Rattle.pat_bounds.specs.Assignments.{Right, PatternRight, VarRight, Constraint}
-use Rattle.pat_bounds.specs.Searches.{IsInside, IsFound, IsLarge, Search, InsideAnswer, FoundAnswer, LargeAnswer, IsAnswer}
-use Rattle.pat_solving.specs.Answers.{most_nodes}
-use Rattle.pat_solve_renaming.specs.Systems.{side_at}
+use Rattle.pat_words_spec.specs.Words.{Word}
+use Rattle.pat_words_spec.specs.Patterns.{Pat}
+use Rattle.pat_words_spec.specs.Flats.{is_flat, degree_of}
+use Rattle.pat_words_spec.specs.Tags.{tags_below}
+use Rattle.pat_inclusion_spec.specs.bounds.Trees.{Bound}
+use Rattle.pat_inclusion_spec.specs.bounds.Assignments.{Right, PatternRight, VarRight, Constraint}
+use Rattle.pat_inclusion_spec.specs.bounds.Searches.{IsInside, IsFound, IsLarge, Search, InsideAnswer, FoundAnswer, LargeAnswer, IsAnswer}
+use Rattle.pat_solve_spec.specs.Answers.{most_nodes}
+use Rattle.pat_solve_bounds.specs.renumbered.Systems.{side_at}
 
 -- the first constraint that is refuted, with the word and the tree, and whether one is oversized
 pub record Findings : Type 0 where

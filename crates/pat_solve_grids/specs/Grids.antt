@@ -1,19 +1,19 @@
 -- The grids of an interface of a program, and what is found of its constraints.
 use Rattle.std.specs.Prelude.{◌≡◌, ℕ, ◌<◌, length, Some, None, IsTrue, IsFalse}
-use Rattle.pat_words.specs.Words.{Word}
-use Rattle.pat_words.specs.Patterns.{is_closed}
-use Rattle.pat_model.specs.Programs.{Program}
+use Rattle.pat_words_spec.specs.Words.{Word}
+use Rattle.pat_words_spec.specs.Patterns.{is_closed}
+use Rattle.pat_semantics_spec.specs.Programs.{Program}
 use Rattle.pat_bags.specs.Views.{word_of}
-use Rattle.pat_bounds.specs.Trees.{Bound}
-use Rattle.pat_bounds.specs.Searches.{IsInside, IsFound, IsLarge}
-use Rattle.pat_bounds.specs.LeastGrids.{AreLeastPoints}
-use Rattle.pat_inference.specs.Constraints.{Constraint}
-use Rattle.pat_inference.specs.Walk.{all_vars}
-use Rattle.pat_certs_trees.specs.declared.search.Refutation.{Refutation}
-use Rattle.pat_certs_trees.specs.Views.{bound_view}
-use Rattle.pat_solving.specs.LowerBounds.{lowers_of, lowers_in}
-use Rattle.pat_solving.specs.Assignments.{vars_in}
-use Rattle.pat_solving.specs.Answers.{most_nodes, tags_of, grid_bound, IsConstraint}
+use Rattle.pat_inclusion_spec.specs.bounds.Trees.{Bound}
+use Rattle.pat_inclusion_spec.specs.bounds.Searches.{IsInside, IsFound, IsLarge}
+use Rattle.pat_inclusion_spec.specs.bounds.LeastGrids.{AreLeastPoints}
+use Rattle.pat_infer_spec.specs.Constraints.{Constraint}
+use Rattle.pat_infer_spec.specs.Walk.{all_vars}
+use Rattle.pat_witnesses.specs.declared.search.Refutation.{Refutation}
+use Rattle.pat_witnesses.specs.Views.{bound_view}
+use Rattle.pat_solve_spec.specs.LowerBounds.{lowers_of, lowers_in}
+use Rattle.pat_solve_spec.specs.Assignments.{vars_in}
+use Rattle.pat_solve_spec.specs.Answers.{most_nodes, tags_of, grid_bound, IsConstraint}
 use Rattle.pat_solve_grids.specs.declared.entry.InterfaceGrids.{InterfaceGrids}
 use Rattle.pat_solve_grids.specs.Points.{points_by}
 

@@ -1,14 +1,14 @@
 -- Sides of constraints laid out one after another, and what a table says of them.
 use Rattle.std.specs.Prelude.{◌≡◌, ℕ, ◌+◌, ◌<◌, length, get_or, List, [], ◌∷◌, Option, Some, None}
-use Rattle.pat_words.specs.Patterns.{Pat}
-use Rattle.pat_bounds.specs.Symbols.{Symbol, LowerSymbol}
-use Rattle.pat_bounds.specs.Layouts.{laid, last_of}
-use Rattle.pat_bounds.specs.Assignments.{Right, PatternRight, VarRight, Constraint}
-use Rattle.pat_bounds.specs.Searches.{Search, IsAnswer}
-use Rattle.pat_grid_tables.specs.declared.board.Board.{Board}
-use Rattle.pat_certs_searches.specs.Readings.{IsReading}
-use Rattle.pat_solving.specs.Answers.{most_nodes}
-use Rattle.pat_solve_renaming.specs.Systems.{side_at}
+use Rattle.pat_words_spec.specs.Patterns.{Pat}
+use Rattle.pat_inclusion_spec.specs.bounds.Symbols.{Symbol, LowerSymbol}
+use Rattle.pat_inclusion_spec.specs.bounds.Layouts.{laid, last_of}
+use Rattle.pat_inclusion_spec.specs.bounds.Assignments.{Right, PatternRight, VarRight, Constraint}
+use Rattle.pat_inclusion_spec.specs.bounds.Searches.{Search, IsAnswer}
+use Rattle.pat_grid.specs.declared.tables.board.Board.{Board}
+use Rattle.pat_counterexample_search.specs.Readings.{IsReading}
+use Rattle.pat_solve_spec.specs.Answers.{most_nodes}
+use Rattle.pat_solve_bounds.specs.renumbered.Systems.{side_at}
 use Rattle.pat_solve_grids.specs.Findings.{Findings, noted}
 
 -- the symbols made so far, and those of both sides

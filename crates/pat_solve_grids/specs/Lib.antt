@@ -1,4 +1,4 @@
-pub use Rattle.pat_solve_renaming.specs.Renaming
+pub use Rattle.pat_solve_bounds.specs.renumbered.Renaming
 pub mod Rights
 pub mod Findings
 pub mod Views

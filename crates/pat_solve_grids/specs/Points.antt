@@ -2,10 +2,10 @@
 use Rattle.std.specs.Prelude.{◌≡◌, ℕ, List, [], ◌∷◌, map, Option, Some, None, slice_get, IsTrue}
 use Rattle.pat_bags.specs.declared.Bag.{Bag}
 use Rattle.pat_bags.specs.Views.{word_of}
-use Rattle.pat_inclusions.specs.Points.{points_fit}
+use Rattle.pat_inclusion_spec.specs.Points.{points_fit}
 use Rattle.pat_grid_points.specs.declared.grid.Grid.{Grid}
 use Rattle.pat_grid_points.specs.Views.{points_of}
-use Rattle.pat_solve_renaming.specs.Renaming.{place_in}
+use Rattle.pat_solve_bounds.specs.renumbered.Renaming.{place_in}
 
 -- the points of the grid, ascending
 pub record IsListing (g : Grid) (points : List Bag) : Type 0 where

@@ -1,7 +1,7 @@
 -- Right sides without variables: whether they are flat, and their degrees.
 use Rattle.std.specs.Prelude.{ℕ, Bool, true, ◌&&◌, max, List, [], ◌∷◌}
-use Rattle.pat_words.specs.Flats.{is_flat, degree_of}
-use Rattle.pat_bounds.specs.Assignments.{Right, PatternRight, VarRight, Constraint}
+use Rattle.pat_words_spec.specs.Flats.{is_flat, degree_of}
+use Rattle.pat_inclusion_spec.specs.bounds.Assignments.{Right, PatternRight, VarRight, Constraint}
 
 abbrev pub right_is_flat : Right → Bool
 right_is_flat (PatternRight f) = is_flat f

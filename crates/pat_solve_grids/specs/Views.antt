@@ -1,10 +1,10 @@
 -- Findings as the definitions see them.
 use Rattle.std.specs.Prelude.{ℕ, option_map}
-use Rattle.pat_words.specs.Words.{Word}
+use Rattle.pat_words_spec.specs.Words.{Word}
 use Rattle.pat_bags.specs.Views.{word_of}
-use Rattle.pat_bounds.specs.Trees.{Bound}
-use Rattle.pat_certs_trees.specs.declared.search.Refutation.{Refutation}
-use Rattle.pat_certs_trees.specs.Views.{bound_view}
+use Rattle.pat_inclusion_spec.specs.bounds.Trees.{Bound}
+use Rattle.pat_witnesses.specs.declared.search.Refutation.{Refutation}
+use Rattle.pat_witnesses.specs.Views.{bound_view}
 use Rattle.pat_solve_grids.specs.declared.findings.Findings.{Findings}
 use Rattle.pat_solve_grids.specs.Findings as found
 

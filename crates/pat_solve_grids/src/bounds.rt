@@ -1,26 +1,25 @@
 // The bound of an interface's grids.
 ghost use Rattle.std.specs.Prelude.{◌≡◌, ◌<◌, ◌^◌, ◌-◌, min, length, IfSome, IfNone};
 ghost use Rattle.std.specs.List.{AllByRecursion};
-ghost use Rattle.pat_words.specs.Flats.{degree_of};
-ghost use Rattle.pat_model.specs.WellFormed.{WellFormed};
-ghost use Rattle.pat_inference.specs.Shapes.{ConstraintFits};
-ghost use Rattle.pat_inference.specs.Walk.{inferred, all_vars};
-ghost use Rattle.pat_solving.specs.Answers.{IsInBounds, grid_bound as bound_of};
+ghost use Rattle.pat_words_spec.specs.Flats.{degree_of};
+ghost use Rattle.pat_semantics_spec.specs.WellFormed.{WellFormed};
+ghost use Rattle.pat_infer_spec.specs.Shapes.{ConstraintFits};
+ghost use Rattle.pat_infer_spec.specs.Walk.{inferred, all_vars};
+ghost use Rattle.pat_solve_spec.specs.Answers.{IsInBounds, grid_bound as bound_of};
 ghost use Rattle.pat_core.specs.Views.{program_view};
 ghost use Rattle.pat_patterns.specs.Views.{pattern_view};
 ghost use Rattle.pat_infer_problems.specs.Problems.{IsProblemOf};
-ghost use Rattle.pat_solve_lowers.specs.Indexes.{IsIndexOf};
-ghost use Rattle.pat_solve_lowers.specs.Sides.{sides_list};
-ghost use Rattle.pat_solve_renaming.specs.Systems.{side_at, picked};
+ghost use Rattle.pat_solve_bounds.specs.lower_bounds.Indexes.{IsIndexOf};
+ghost use Rattle.pat_solve_bounds.specs.lower_bounds.Sides.{sides_list};
+ghost use Rattle.pat_solve_bounds.specs.renumbered.Systems.{side_at, picked};
 ghost use Rattle.pat_solve_grids.specs.Rights.{right_is_flat, right_degree, all_flat, greatest};
 
-use pat_certs_grids::is_grid;
+use pat_certificate_values::{tag_count, tags_are_few};
 use pat_core::Program;
+use pat_grid_certificates::is_grid;
 use pat_infer_problems::{Constraint, Problem};
-use pat_judge_values::{tag_count, tags_are_few};
-use pat_patterns::Pattern;
-use pat_residuals::is_flat;
-use pat_solve_lowers::Index;
+use pat_patterns::{Pattern, is_flat};
+use pat_solve_bounds::Index;
 use pat_types::Right;
 
 /// The bound of the interface's grids, one more than the greatest degree of a right side without variables; `None` exactly where the

@@ -1,26 +1,25 @@
 // The grids of an interface.
 ghost use Rattle.std.specs.Prelude.{◌≡◌, ◌<◌, length, IfOk};
 ghost use Rattle.std.specs.List.{AllByRecursion};
-ghost use Rattle.pat_model.specs.WellFormed.{WellFormed};
-ghost use Rattle.pat_inference.specs.Shapes.{ConstraintFits};
-ghost use Rattle.pat_inference.specs.Walk.{inferred, all_vars};
-ghost use Rattle.pat_solving.specs.Answers.{IsInBounds, grid_bound as bound_of};
+ghost use Rattle.pat_semantics_spec.specs.WellFormed.{WellFormed};
+ghost use Rattle.pat_infer_spec.specs.Shapes.{ConstraintFits};
+ghost use Rattle.pat_infer_spec.specs.Walk.{inferred, all_vars};
+ghost use Rattle.pat_solve_spec.specs.Answers.{IsInBounds, grid_bound as bound_of};
 ghost use Rattle.pat_core.specs.Views.{program_view};
 ghost use Rattle.pat_infer_problems.specs.Problems.{IsProblemOf};
-ghost use Rattle.pat_solve_lowers.specs.Indexes.{IsIndexOf};
+ghost use Rattle.pat_solve_bounds.specs.lower_bounds.Indexes.{IsIndexOf};
 ghost use Rattle.pat_solve_grids.specs.Grids.{AreGridsOf};
 
 use crate::points::list_points;
 use crate::searches::search_each;
 use pat_bags::Bag;
-use pat_certs_trees::Refutation;
+use pat_certificate_values::{tag_count, tags_are_few};
 use pat_core::Program;
 use pat_grid_points::points_law;
 use pat_infer_problems::Problem;
-use pat_judge_values::{tag_count, tags_are_few};
 use pat_sequences::Sequence;
-use pat_solve_lowers::Index;
-use pat_solve_renaming::{let_go, system_of};
+use pat_solve_bounds::{Index, let_go, system_of};
+use pat_witnesses::Refutation;
 use std::alloc::{AllocError, Global};
 
 /// The grids of an interface, and what searches of its constraints find.

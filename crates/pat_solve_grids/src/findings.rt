@@ -1,11 +1,11 @@
 // What searches have found so far.
 ghost use Rattle.std.specs.Prelude.{◌≡◌, option_map};
 ghost use Rattle.pat_bags.specs.Views.{word_of};
-ghost use Rattle.pat_certs_trees.specs.Views.{search_view, bound_view};
+ghost use Rattle.pat_witnesses.specs.Views.{search_view, bound_view};
 ghost use Rattle.pat_solve_grids.specs.Findings.{first_or, noted};
 ghost use Rattle.pat_solve_grids.specs.Views.{refuted_view, findings_view};
 
-use pat_certs_trees::{Refutation, Search};
+use pat_witnesses::{Refutation, Search};
 
 /// What searches have found so far: the number of the first constraint that is refuted, and how; and whether one is oversized.
 #[derive(Drop)]

@@ -1,18 +1,18 @@
 // The sides of several constraints, laid out behind a system.
 ghost use Rattle.std.specs.Prelude.{◌≡◌, ◌++◌, ◌∷◌, [], IfOk, OnOk};
 ghost use Rattle.pat_patterns.specs.Views.{pattern_view};
-ghost use Rattle.pat_grid_symbols.specs.Views.{symbols_view};
-ghost use Rattle.pat_solve_lowers.specs.Sides.{sides_view, sides_list};
-ghost use Rattle.pat_solve_replacing.specs.Ascending.{IsAscending};
-ghost use Rattle.pat_solve_renaming.specs.Renaming.{place_in, renamed as renamed_by};
-ghost use Rattle.pat_solve_renaming.specs.Systems.{side_at, picked};
+ghost use Rattle.pat_grid_points.specs.symbols.Views.{symbols_view};
+ghost use Rattle.pat_solve_bounds.specs.lower_bounds.Sides.{sides_view, sides_list};
+ghost use Rattle.pat_solve_bounded.specs.replacing.Ascending.{IsAscending};
+ghost use Rattle.pat_solve_bounds.specs.renumbered.Renaming.{place_in, renamed as renamed_by};
+ghost use Rattle.pat_solve_bounds.specs.renumbered.Systems.{side_at, picked};
 ghost use Rattle.pat_solve_grids.specs.Laying.{laid_both, last_both, laid_side, side_places, laid_sides, all_places};
 
-use pat_grid_symbols::{Role, Symbol, lay_out};
+use pat_grid_points::{Role, Symbol, lay_out};
 use pat_infer_problems::Constraint;
 use pat_patterns::Pattern;
 use pat_sequences::Sequence;
-use pat_solve_renaming::renamed;
+use pat_solve_bounds::renamed;
 use pat_types::Right;
 use std::alloc::{AllocError, Global};
 

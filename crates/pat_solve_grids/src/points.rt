@@ -3,7 +3,7 @@ ghost use Rattle.std.specs.Prelude.{IfOk};
 ghost use Rattle.pat_solve_grids.specs.Points.{AreListed};
 
 use pat_bags::Bag;
-use pat_certs_grids::Grid;
+use pat_grid_certificates::Grid;
 use pat_sequences::Sequence;
 use std::alloc::{AllocError, Global};
 

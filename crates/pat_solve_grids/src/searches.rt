@@ -1,21 +1,21 @@
 // Searches of an interface's constraints, in order.
 ghost use Rattle.std.specs.Prelude.{◌≡◌, length, IfOk, IsTrue};
 ghost use Rattle.std.specs.List.{AllByRecursion};
-ghost use Rattle.pat_words.specs.Tags.{tags_below};
-ghost use Rattle.pat_inclusions.specs.Points.{grid_fits};
-ghost use Rattle.pat_bounds.specs.Trees.{bounds_of};
+ghost use Rattle.pat_words_spec.specs.Tags.{tags_below};
+ghost use Rattle.pat_inclusion_spec.specs.Points.{grid_fits};
+ghost use Rattle.pat_inclusion_spec.specs.bounds.Trees.{bounds_of};
 ghost use Rattle.pat_patterns.specs.Views.{patterns_view};
-ghost use Rattle.pat_solve_lowers.specs.Sides.{sides_list};
-ghost use Rattle.pat_solve_replacing.specs.Ascending.{IsAscending};
-ghost use Rattle.pat_solve_renaming.specs.Renaming.{place_in, renamed as renamed_by};
-ghost use Rattle.pat_solve_renaming.specs.Systems.{picked};
+ghost use Rattle.pat_solve_bounds.specs.lower_bounds.Sides.{sides_list};
+ghost use Rattle.pat_solve_bounded.specs.replacing.Ascending.{IsAscending};
+ghost use Rattle.pat_solve_bounds.specs.renumbered.Renaming.{place_in, renamed as renamed_by};
+ghost use Rattle.pat_solve_bounds.specs.renumbered.Systems.{picked};
 ghost use Rattle.pat_solve_grids.specs.Findings.{IsSearchable, AreFound};
 ghost use Rattle.pat_solve_grids.specs.Least.{AreLeastOf};
 ghost use Rattle.pat_solve_grids.specs.Views.{findings_view};
 
 use crate::batches::{batch_end, first_end, search_batch, system_size};
 use crate::findings::Findings;
-use pat_certs_grids::Grid;
+use pat_grid_certificates::Grid;
 use pat_infer_problems::Constraint;
 use pat_patterns::Pattern;
 use pat_sequences::Sequence;

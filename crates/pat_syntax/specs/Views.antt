@@ -1,7 +1,7 @@
 -- What the definitions see of reserved words, marks and tokens.
-use Rattle.pat_lexical.specs.Words as words
-use Rattle.pat_lexical.specs.Marks as marks
-use Rattle.pat_lexical.specs.Tokens as tokens
+use Rattle.pat_lexer_spec.specs.Words as words
+use Rattle.pat_lexer_spec.specs.Marks as marks
+use Rattle.pat_lexer_spec.specs.Tokens as tokens
 use Rattle.pat_syntax.specs.declared.word.Reserved.{Reserved}
 use Rattle.pat_syntax.specs.declared.word.Reserved.TheVariants.{Interface, Def, Let, In, If, Else, Print, New, Spawn, Guard, Free, Fail, Receive, From, True, False, Unit as UnitWord, Bool, Int, String}
 use Rattle.pat_syntax.specs.declared.mark.Mark.{Mark as MarkOf}

@@ -1,7 +1,7 @@
 -- The clauses of a guard in the code are those of its list.
 use Rattle.std.proofs.Common.{◌≡◌, refl, ap, map}
-use Rattle.pat_grammar.specs.Trees as trees
-use Rattle.pat_grammar.specs.Trees.{listed}
+use Rattle.pat_parser_spec.specs.Trees as trees
+use Rattle.pat_parser_spec.specs.Trees.{listed}
 use Rattle.pat_tree.specs.declared.term.Form.{Row_of-TreeClause, end_of-TreeClause, more_of-TreeClause, items-the_row-TreeClause}
 use Rattle.pat_tree.specs.Views.{clause_view, clauses_view}
 

@@ -1,6 +1,6 @@
 -- What the definitions see of trees.
 use Rattle.std.specs.Prelude.{List, [], ◌∷◌, map, Option, Some, None, option_map}
-use Rattle.pat_grammar.specs.Trees as trees
+use Rattle.pat_parser_spec.specs.Trees as trees
 use Rattle.pat_primitives.specs.Views.{base_view, polarity_view, op_view}
 use Rattle.pat_syntax.specs.declared.span.Span.{Span}
 use Rattle.pat_tree.specs.declared.pattern.Name.{Name}

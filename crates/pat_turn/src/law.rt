@@ -2,7 +2,7 @@
 // Word 0 counts the tickets that were drawn, word 1 those that were served before, and the slot has the value or nothing.
 use crate::view::View;
 use atomic_table::TableRule;
-use pat_kept::Kept;
+use pat_logged_value::Kept;
 use std::marker::PhantomData;
 use std::snapshot::Snapshot;
 

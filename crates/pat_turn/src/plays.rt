@@ -3,7 +3,7 @@ ghost use Rattle.pat_turn.specs.Rule.{drew, looked, passed, counted, another, bo
 
 use crate::view::View;
 use atomic_table::{Join, Play, Split};
-use pat_kept::Kept;
+use pat_logged_value::Kept;
 
 pub(crate) struct Draw;
 

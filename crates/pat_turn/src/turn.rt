@@ -13,7 +13,7 @@ use crate::naps::Naps;
 use crate::plays::{Another, Draw, Fold, Look, PassOn};
 use crate::view::View;
 use atomic_table::{Refused, Seat, Shared, Table};
-use pat_kept::Kept;
+use pat_logged_value::Kept;
 use std::alloc::{AllocError, Global};
 use std::hint;
 use std::marker::Model;

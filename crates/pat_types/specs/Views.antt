@@ -1,8 +1,8 @@
 -- What the definitions see of types.
 use Rattle.std.specs.Prelude.{ℕ, List, map}
 use Rattle.pat_patterns.specs.Patterns.{Pat, Var}
-use Rattle.pat_typing.specs.Types as types
-use Rattle.pat_open_types.specs.NodeTypes as open_types
+use Rattle.pat_type_system_spec.specs.Types as types
+use Rattle.pat_type_schemes_spec.specs.NodeTypes as open_types
 use Rattle.pat_primitives.specs.Views.{base_view, polarity_view}
 use Rattle.pat_patterns.specs.Views.{pattern_view}
 use Rattle.pat_types.specs.declared.types.Usage.{Usage}

@@ -1,6 +1,6 @@
 // Types of payloads.
 ghost use Rattle.std.specs.Prelude.{◌≡◌, map, option_map, is_some, IfOk};
-ghost use Rattle.pat_typing.specs.Typings.{payload_sort};
+ghost use Rattle.pat_type_system_spec.specs.Typings.{payload_sort};
 ghost use Rattle.pat_core.specs.Views.{sort_view};
 ghost use Rattle.pat_types.specs.Views.{type_view};
 

@@ -1,8 +1,8 @@
 -- The simplified star keeps the words, and a substitution gives the words under its values.
 use Rattle.std.proofs.Common.{◌≡◌, ℕ, zero, suc, true, ◌||◌, inl, inr, ⊎_elim, refl, ap, ◌∙◌, subst}
 use Rattle.std.proofs.lemmas.Bool.{cond_both, or_cases, eq-eqb, and_from}
-use Rattle.pat_words.specs.Words.{Word, no_word, plus}
-use Rattle.pat_words.specs.Patterns.{Pat, Zero, One, Tag, Sum, Prod, Star, Var, Language, Times, InUnder, pat_eq, is_zero, is_one, star_of, subst_of}
+use Rattle.pat_words_spec.specs.Words.{Word, no_word, plus}
+use Rattle.pat_words_spec.specs.Patterns.{Pat, Zero, One, Tag, Sum, Prod, Star, Var, Language, Times, InUnder, pat_eq, is_zero, is_one, star_of, subst_of}
 use Rattle.pat_words_laws.proofs.WordLaws.{plus_none}
 use Rattle.pat_words_laws.proofs.PatternLaws.{is_zero_same, is_one_same, sum_of_to, sum_of_from, prod_of_to, prod_of_from}
 

@@ -1,8 +1,8 @@
 -- Bounds on the levels and the degree of a pattern.
 use Rattle.std.proofs.Common.{◌≤◌, arith}
-use Rattle.pat_words.specs.Patterns.{Pat, Zero, One, Tag, Sum, Prod, Star, Var}
-use Rattle.pat_words.specs.Flats.{degree_of}
-use Rattle.pat_words.specs.Sizes.{size_of, levels_of}
+use Rattle.pat_words_spec.specs.Patterns.{Pat, Zero, One, Tag, Sum, Prod, Star, Var}
+use Rattle.pat_words_spec.specs.Flats.{degree_of}
+use Rattle.pat_words_spec.specs.Sizes.{size_of, levels_of}
 
 pub levels_some : (e : Pat) → 1 ≤ levels_of e
 levels_some Zero = omega arith

@@ -1,9 +1,9 @@
 // Laws of words and patterns. No code of the product.
 #![tactic(auto)]
 
-ghost use Rattle.pat_words.specs.Patterns.{ResidualLaw, NullableLaw, InhabitedLaw, CoversLaw};
-ghost use Rattle.pat_words.specs.Sizes.{LevelsLaw, DegreeLaw};
-ghost use Rattle.pat_words.specs.Substitutions.{SameLaw, SumLaw, ProdLaw, StarLaw, SubstitutionLaw};
+ghost use Rattle.pat_words_spec.specs.Patterns.{ResidualLaw, NullableLaw, InhabitedLaw, CoversLaw};
+ghost use Rattle.pat_words_spec.specs.Sizes.{LevelsLaw, DegreeLaw};
+ghost use Rattle.pat_words_spec.specs.Substitutions.{SameLaw, SumLaw, ProdLaw, StarLaw, SubstitutionLaw};
 
 /// The laws of patterns, which code and proofs above cite.
 pub fn pattern_laws()

@@ -4,18 +4,18 @@ use Rattle.std.proofs.lemmas.List.{append-nil, length-map}
 use Rattle.std.proofs.lemmas.List.Elements.{All-append}
 use Rattle.std.specs.List.{All}
 use mathlib.Core.List.{IsPrefix}
-use Rattle.pat_model.specs.Runs.{step_count, outcome}
+use Rattle.pat_semantics_spec.specs.Runs.{step_count, outcome}
 use Rattle.pat_core.specs.declared.program.Program.{Program}
 use Rattle.pat_core.specs.Views.{program_view}
 use Rattle.pat_reduce.specs.declared.history.Entry.{Entry}
 use Rattle.pat_machine.specs.declared.job.Named.{Named}
 use Rattle.pat_machine.specs.declared.job.Receipt.{Receipt}
 use Rattle.pat_machine.specs.Shown.{Shown, entries_of}
-use Rattle.pat_commits.specs.Lendings.{SomeOut}
+use Rattle.pat_machine_spec.specs.Lendings.{SomeOut}
 use Rattle.pat_machine.specs.Gives.{IsOver, MayTake, OutcomeGives, outcome_view}
 use Rattle.pat_machine.specs.Driving.{IsDriven, AreInOrder}
 use Rattle.pat_turn.specs.Shown.{ShownPass, ShownTurn, newcomer, IsOfAll, AreAll}
-use Rattle.pat_turn_machine.specs.Holds.{worker_of}
+use Rattle.pat_workers.specs.turns.Holds.{worker_of}
 use Rattle.pat_workers.specs.declared.serving.Worker.{Worker}
 use Rattle.pat_workers.specs.declared.finishing.Finished.{Finished}
 use Rattle.pat_workers.specs.Receipts.{placed, placed_from, told, AreReceiptsOf}

@@ -10,9 +10,9 @@ use Rattle.pat_machine.specs.declared.job.CommitRefused.{CommitRefused}
 use Rattle.pat_machine.specs.Shown.{Shown, steps_in, noted_in}
 use Rattle.pat_machine.specs.Gives.{GivesBack}
 use Rattle.pat_turn.specs.Shown.{ShownPass}
-use Rattle.pat_turn_machine.specs.declared.machines.Taken.{Taken}
-use Rattle.pat_turn_machine.specs.Holds.{IsHold, TakingGives, CommittingGives}
-use Rattle.pat_turn_machine.proofs.Histories.{taking_log, give_back_log, commit_adds}
+use Rattle.pat_workers.specs.declared.turns.machines.Taken.{Taken}
+use Rattle.pat_workers.specs.turns.Holds.{IsHold, TakingGives, CommittingGives}
+use Rattle.pat_workers.proofs.Histories.{taking_log, give_back_log, commit_adds}
 use Rattle.pat_workers.specs.Receipts.{placed, told_by, told, AreReceiptsOf}
 use Rattle.pat_workers.proofs.Placed.{placed_stay, placed_more, told_append}
 

@@ -4,3 +4,4 @@ mod Holding
 mod Rounds
 mod Rows
 mod Ending
+mod Histories

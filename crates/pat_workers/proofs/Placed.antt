@@ -10,7 +10,7 @@ use Rattle.pat_reduce.specs.declared.history.Entry.{Entry}
 use Rattle.pat_machine.specs.declared.job.Receipt.{Receipt}
 use Rattle.pat_machine.specs.Driving.{AreInOrder}
 use Rattle.pat_turn.specs.Rule.{entries_naming}
-use Rattle.pat_turn_machine.specs.Holds.{worker_of}
+use Rattle.pat_workers.specs.turns.Holds.{worker_of}
 use Rattle.pat_workers.specs.Receipts.{placed_from, placed, told_by, told, AreReceiptsOf, StandIn, one_at, receipts_at}
 
 abbrev some_or : {A : Type 0} → A → Option A → A

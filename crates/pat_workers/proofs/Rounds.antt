@@ -4,8 +4,8 @@ use Rattle.pat_reduce.specs.declared.history.Entry.{Entry}
 use Rattle.pat_machine.specs.declared.job.Named.{Named}
 use Rattle.pat_machine.specs.Shown.{Shown}
 use Rattle.pat_turn.specs.Shown.{ShownPass}
-use Rattle.pat_turn_machine.specs.declared.machines.Taken.{Taken}
-use Rattle.pat_turn_machine.specs.Holds.{IsHold, TakingGives}
+use Rattle.pat_workers.specs.declared.turns.machines.Taken.{Taken}
+use Rattle.pat_workers.specs.turns.Holds.{IsHold, TakingGives}
 use Rattle.pat_workers.specs.Workers.{Became, IsRound}
 
 -- a hold, and what became of what it gave, as the pass was behind it

@@ -1,3 +1,4 @@
 pub mod Receipts
 pub mod Workers
 pub mod Runs
+pub mod turns

@@ -4,8 +4,8 @@ use Rattle.atomic_table.specs.Seated.{TableId}
 use Rattle.pat_core.specs.declared.program.Program.{Program}
 use Rattle.pat_core.specs.Views.{program_view}
 use Rattle.pat_reduce.specs.declared.history.Entry.{Entry}
-use Rattle.pat_reduce_threads.specs.ThreadViews.{thread_view}
-use Rattle.pat_commits.specs.Commits.{IsLocalRun}
+use Rattle.pat_reduce.specs.threads.ThreadViews.{thread_view}
+use Rattle.pat_machine_spec.specs.Commits.{IsLocalRun}
 use Rattle.pat_machine.specs.declared.job.Named.{Named}
 use Rattle.pat_machine.specs.declared.job.Job.{Job}
 use Rattle.pat_machine.specs.declared.job.Receipt.{Receipt}
@@ -15,9 +15,9 @@ use Rattle.pat_machine.specs.Shown.{Shown}
 use Rattle.pat_machine.specs.Gives.{GivesBack}
 use Rattle.pat_machine_threads.specs.declared.run.LocalRun.{LocalRun}
 use Rattle.pat_turn.specs.Shown.{ShownPass}
-use Rattle.pat_turn_machine.specs.declared.machines.Taken.{Taken}
-use Rattle.pat_turn_machine.specs.declared.machines.Taken.TheVariants as given
-use Rattle.pat_turn_machine.specs.Holds.{IsHold, TakingGives, CommittingGives}
+use Rattle.pat_workers.specs.declared.turns.machines.Taken.{Taken}
+use Rattle.pat_workers.specs.declared.turns.machines.Taken.TheVariants as given
+use Rattle.pat_workers.specs.turns.Holds.{IsHold, TakingGives, CommittingGives}
 use Rattle.pat_workers.specs.declared.serving.Worker.{Worker}
 use Rattle.pat_workers.specs.Receipts.{AreReceiptsOf}
 

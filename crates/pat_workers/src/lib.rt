@@ -4,6 +4,7 @@
 mod finishing;
 mod running;
 mod serving;
+mod turns;
 mod working;
 
 pub use finishing::Finished;

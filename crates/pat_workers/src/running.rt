@@ -4,11 +4,11 @@ ghost use Rattle.pat_workers.specs.Runs.{RunGives};
 
 use crate::finishing::{Finished, finish, part};
 use crate::working::work_all;
-use pat_accepted::Accepted;
-use pat_executable::Executable;
 use pat_machine::Machine;
 use pat_ports::Gate;
+use pat_reduce_values::Executable;
 use pat_turn::Turn;
+use pat_typed_program::Accepted;
 use std::alloc::{AllocError, Global};
 use std::sync::Wait;
 use std::thread::Threads;

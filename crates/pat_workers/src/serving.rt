@@ -1,17 +1,17 @@
 // One job of a worker.
 ghost use Rattle.std.specs.Prelude.{◌≡◌, ◌<◌, false, vec_len, vec_capacity, IfOk, OnOk, OnErr};
 ghost use Rattle.pat_core.specs.Views.{program_view};
-ghost use Rattle.pat_reduce_threads.specs.ThreadViews.{thread_view};
-ghost use Rattle.pat_commits.specs.Commits.{IsLocalRun};
+ghost use Rattle.pat_reduce.specs.threads.ThreadViews.{thread_view};
+ghost use Rattle.pat_machine_spec.specs.Commits.{IsLocalRun};
 ghost use Rattle.pat_workers.specs.Workers.{IsOfProgram, IsRunOf, HasReceipts, WasCommitted, WentBack};
 
-use pat_executable::Executable;
+use crate::turns::{commit_in_turn, give_back_in_turn};
 use pat_machine::{CommitRefused, Job, Machine, Receipt};
 use pat_machine_threads::{LocalRun, local_run};
 use pat_ports::Gate;
 use pat_reduce::ThreadState;
+use pat_reduce_values::Executable;
 use pat_turn::{Pass, Turn};
-use pat_turn_machine::{commit_in_turn, give_back_in_turn};
 use std::alloc::{AllocError, Global};
 use std::sync::Wait;
 

@@ -3,15 +3,15 @@ ghost use Rattle.std.specs.Prelude.{◌≡◌, ℕ, ◌<◌, false, length, slic
 ghost use Rattle.std.specs.List.{All};
 ghost use Rattle.std.specs.Thread.{IsSync};
 ghost use Rattle.pat_machine.specs.Shown.{Shown};
-ghost use Rattle.pat_turn_machine.specs.Holds.{IsHold, TakingGives};
+ghost use Rattle.pat_workers.specs.turns.Holds.{IsHold, TakingGives};
 ghost use Rattle.pat_workers.specs.Workers.{IsOfProgram, IsReady, HasReceipts, IsRound, IsWorked};
 
 use crate::serving::{Task, Worker, serve};
-use pat_executable::Executable;
+use crate::turns::{Taken, take_in_turn};
 use pat_machine::Machine;
 use pat_ports::Gate;
+use pat_reduce_values::Executable;
 use pat_turn::{Pass, Turn};
-use pat_turn_machine::{Taken, take_in_turn};
 use std::alloc::{AllocError, Global};
 use std::sync::Wait;
 use std::thread;

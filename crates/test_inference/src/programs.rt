@@ -1,6 +1,6 @@
 // The program of a text.
 ghost use Rattle.std.specs.Prelude.{IfSome};
-ghost use Rattle.pat_model.specs.WellFormed.{WellFormed};
+ghost use Rattle.pat_semantics_spec.specs.WellFormed.{WellFormed};
 ghost use Rattle.pat_core.specs.Views.{program_view};
 
 use pat_core::Program;

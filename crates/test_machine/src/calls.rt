@@ -1,32 +1,33 @@
 // Single calls, in an order that a worker might make them in.
-use crate::programs::{one_message, turned};
+use crate::checking::check;
 use pat_machine::{Machine, StateRefused, TakeRefused};
 use std::alloc::Global;
 use std::process::Abort;
+use test_programs::{one_message, turned};
 
 pub fn jobs_are_taken_and_given_back(rt: &impl Abort, alloc: Global) {
     let program = turned(alloc).expect(rt, "memory");
     let mut machine = Machine::new(alloc, program, 300, 1).expect(rt, "memory");
     let job = machine.take().expect(rt, "a job");
-    assert_eq!(rt; job.allowance, 256);
-    assert_eq!(rt; machine.take(), None);
-    assert_eq!(rt; machine.outcome(), None);
+    check(rt, job.allowance == 256);
+    check(rt, machine.take() == None);
+    check(rt, machine.outcome() == None);
     machine.give_back(job);
     match machine.state_of(&job) {
         Err(StateRefused::NotOut) => {}
         _ => panic!(rt; "the state of a job that isn't out"),
     }
-    assert_eq!(rt; machine.take(), Some(job));
+    check(rt, machine.take() == Some(job));
     machine.give_back_all();
     machine.give_back(job);
     let taken = machine.take_thread(0).expect(rt, "a job");
-    assert_eq!(rt; taken.allowance, 256);
-    assert_eq!(rt; machine.take_thread(1), Err(TakeRefused::NotReady));
+    check(rt, taken.allowance == 256);
+    check(rt, machine.take_thread(1) == Err(TakeRefused::NotReady));
 }
 
 pub fn no_job_is_taken_without_a_step(rt: &impl Abort, alloc: Global) {
     let program = one_message(alloc).expect(rt, "memory");
     let mut machine = Machine::new(alloc, program, 0, 1).expect(rt, "memory");
-    assert_eq!(rt; machine.take(), None);
-    assert_eq!(rt; machine.take_thread(0), Err(TakeRefused::Spent));
+    check(rt, machine.take() == None);
+    check(rt, machine.take_thread(0) == Err(TakeRefused::Spent));
 }

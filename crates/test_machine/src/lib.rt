@@ -1,12 +1,15 @@
-//! The machine on small programs that are known to be typable, with answers by hand; and these programs.
+//! The machine on small programs, pools and mailboxes called in a row, and the causal order of what was done.
 #![tactic(auto)]
 
 #[cfg(test)]
 mod calls;
-mod programs;
+#[cfg(test)]
+mod causal;
+#[cfg(test)]
+mod checking;
+#[cfg(test)]
+mod mailboxes;
 #[cfg(test)]
 mod runs;
 #[cfg(test)]
 mod tests;
-
-pub use programs::{Example, accepted, one_message};

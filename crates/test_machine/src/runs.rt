@@ -1,9 +1,10 @@
 // Drives to an outcome, under budgets and limits.
-use crate::programs::{Example, accepted};
+use crate::checking::check;
 use pat_machine::{Machine, Outcome};
 use pat_reduce::{Act, Entry};
 use std::alloc::{AllocError, Global};
 use std::process::Abort;
+use test_programs::{Example, accepted};
 
 #[derive(Clone, Copy)]
 struct Row {
@@ -92,16 +93,16 @@ pub fn drives_to_an_outcome(rt: &impl Abort, alloc: Global) {
         expects(Example::Crossed, 8, 1, &CROSSED[..3], Outcome::Budget),
     ];
     for i in 0..rows.len() {
-        assert!(rt;
-            is_driven_so(rt, alloc, &rows[i]).expect(rt, "memory"),
-            "row {i}"
-        );
+        check(rt, is_driven_so(rt, alloc, &rows[i]).expect(rt, "memory"));
     }
 }
 
 // Whether the machine is driven by these entries to this outcome.
 fn is_driven_so(rt: &impl Abort, alloc: Global, row: &Row) -> Result<bool, AllocError> {
-    assert!(rt; row.steps <= 1_000_000 && row.messages > 0 && row.messages <= 1_000_000);
+    check(
+        rt,
+        row.steps <= 1_000_000 && row.messages > 0 && row.messages <= 1_000_000,
+    );
     let program = accepted(alloc, row.example)?;
     let mut machine = Machine::new(alloc, program, row.steps, row.messages)?;
     let receipts = machine.drive(0)?;

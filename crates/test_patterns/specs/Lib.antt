@@ -1,0 +1,2 @@
+pub mod patterns
+pub mod inclusions

@@ -1,5 +1,13 @@
-// Patterns on worked rows, with answers by hand.
+//! Patterns, inclusions, searches and grids on worked rows, with answers by hand.
 #![tactic(auto)]
 
 #[cfg(test)]
-mod worked;
+mod checking;
+#[cfg(test)]
+mod grids;
+#[cfg(test)]
+mod inclusions;
+#[cfg(test)]
+mod patterns;
+#[cfg(test)]
+mod searches;

@@ -1,3 +1,4 @@
+use crate::checking::check;
 use crate::writers::{BrokenReader, ShortWriter};
 use pat_ports::{
     Failed, Gate, MemSink, MemSource, OpenGate, Sink, Source, StdSink, StdSource, SureSink,
@@ -12,9 +13,9 @@ fn ports_in_memory_fail_where_told(rt: &impl Abort, alloc: Global) -> Result<(),
     let mut source = MemSource::new(b"abc".to_vec(alloc)?, 2, vec![in alloc; 2]?);
     let mut buf = [0u8; 4];
     for want in [Ok(2), Err(Failed), Ok(1), Ok(0)] {
-        assert_eq!(rt; source.read(&mut buf), want);
+        check(rt, source.read(&mut buf) == want);
     }
-    assert_eq!(rt; buf[0], b'c');
+    check(rt, buf[0] == b'c');
     let mut sink = MemSink::new(alloc, 2, vec![in alloc; 3]?, 4)?;
     for (piece, want) in [
         (b"abc", Ok(2)),
@@ -22,13 +23,13 @@ fn ports_in_memory_fail_where_told(rt: &impl Abort, alloc: Global) -> Result<(),
         (b"efg", Err(Failed)),
         (b"efg", Err(Failed)),
     ] {
-        assert_eq!(rt; sink.write(piece), want);
+        check(rt, sink.write(piece) == want);
     }
-    assert_eq!(rt; sink.write(b""), Ok(0));
-    assert_eq!(rt; sink.taken(), b"abcd".as_slice());
+    check(rt, sink.write(b"") == Ok(0));
+    check(rt, sink.taken() == b"abcd".as_slice());
     let mut sure = SureSource::new(b"xyz".to_vec(alloc)?, 2);
-    assert_eq!(rt; sure.read(&mut buf), Ok(2));
-    assert_eq!(rt; SureSink::new(2).write(b"xyz"), Ok(2));
+    check(rt, sure.read(&mut buf) == Ok(2));
+    check(rt, SureSink::new(2).write(b"xyz") == Ok(2));
     OpenGate.before(0, 1);
     OpenGate.after(0, 1);
     Ok(())
@@ -38,18 +39,18 @@ fn ports_in_memory_fail_where_told(rt: &impl Abort, alloc: Global) -> Result<(),
 fn ports(rt: HostRuntime) -> Result<(), Fail> {
     let mut buf = [0u8; 4];
     let mut input = StdSource::new(rt.reader());
-    assert_eq!(rt; input.read(&mut buf[..0]), Ok(0));
+    check(&rt, input.read(&mut buf[..0]) == Ok(0));
     let mut source = StdSource::new(b"abcde".as_slice());
     for want in [4, 1, 0] {
-        assert_eq!(rt; source.read(&mut buf), Ok(want));
+        check(&rt, source.read(&mut buf) == Ok(want));
     }
     let mut output = StdSink::new(io::writer(&rt));
-    assert_eq!(rt; output.write(b"to standard output\n"), Ok(19));
+    check(&rt, output.write(b"to standard output\n") == Ok(19));
     let mut none = [0u8; 2];
     let mut sink = StdSink::new(none.as_mut_slice());
-    assert_eq!(rt; sink.write(b"abc"), Ok(2));
-    assert_eq!(rt; sink.write(b"c"), Err(Failed));
-    assert_eq!(rt; sink.write(b""), Ok(0));
+    check(&rt, sink.write(b"abc") == Ok(2));
+    check(&rt, sink.write(b"c") == Err(Failed));
+    check(&rt, sink.write(b"") == Ok(0));
     ports_in_memory_fail_where_told(&rt, rt.alloc())?;
     a_broken_reader_fails(&rt, rt.alloc())?;
     a_short_writer_is_flushed(&rt, rt.alloc())
@@ -63,7 +64,7 @@ fn a_broken_reader_fails(rt: &impl Abort, alloc: Global) -> Result<(), Fail> {
     });
     let mut buf = [0u8; 4];
     for want in [Ok(1), Err(Failed), Ok(1)] {
-        assert_eq!(rt; source.read(&mut buf), want);
+        check(rt, source.read(&mut buf) == want);
     }
     Ok(())
 }
@@ -83,10 +84,10 @@ fn a_short_writer_is_flushed(rt: &impl Abort, alloc: Global) -> Result<(), Fail>
         (b"efg", Err(Failed)),
         (b"ghi", Ok(2)),
     ] {
-        assert_eq!(rt; sink.write(piece), want);
+        check(rt, sink.write(piece) == want);
     }
     drop(sink);
-    assert_eq!(rt; taken.as_slice(), b"abcdefgh".as_slice());
-    assert_eq!(rt; flushes, 4);
+    check(rt, taken.as_slice() == b"abcdefgh".as_slice());
+    check(rt, flushes == 4);
     Ok(())
 }

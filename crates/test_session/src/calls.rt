@@ -1,7 +1,7 @@
 // Calls over memory.
 ghost use Rattle.std.specs.Prelude.{◌<◌};
 
-use pat_answers::Status;
+use pat_front::Status;
 use pat_ports::{Gate, MemSink, MemSource, OpenGate};
 use pat_session::pat;
 use std::alloc::Global;

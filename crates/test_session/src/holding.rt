@@ -1,6 +1,7 @@
 // Two workers in one run.
 use crate::calls::{answer, answer_past};
-use pat_answers::Status;
+use crate::checking::check;
+use pat_front::Status;
 use pat_load::program_text;
 use pat_ports::Gate;
 use std::alloc::Global;
@@ -68,10 +69,13 @@ pub fn two_workers<R: Abort + Threads + Wait + Sync>(rt: &R, alloc: Global) -> R
     let gate = Holding::new();
     let words = ["run", "--workers", "2"];
     let (status, text) = answer_past(rt, alloc, &words, input.as_slice(), &gate)?;
-    assert_eq!(rt; status, Status::Ok);
-    assert_eq!(rt; gate.ended_by_other.load(Ordering::SeqCst), 1);
-    assert!(rt; has(text.as_slice(), b"\n0 ") && has(text.as_slice(), b"\n1 "));
-    assert!(rt; has(text.as_slice(), b"%%output\nout 11\ndone "));
+    check(rt, status == Status::Ok);
+    check(rt, gate.ended_by_other.load(Ordering::SeqCst) == 1);
+    check(
+        rt,
+        has(text.as_slice(), b"\n0 ") && has(text.as_slice(), b"\n1 "),
+    );
+    check(rt, has(text.as_slice(), b"%%output\nout 11\ndone "));
     input.extend_from_slice(text.as_slice())?;
     let (status, output) = answer(
         rt,
@@ -81,8 +85,8 @@ pub fn two_workers<R: Abort + Threads + Wait + Sync>(rt: &R, alloc: Global) -> R
         (4096, 4096),
         (0, 0),
     )?;
-    assert_eq!(rt; status, Status::Ok);
-    assert!(rt; text.as_slice().ends_with(output.as_slice()));
+    check(rt, status == Status::Ok);
+    check(rt, text.as_slice().ends_with(output.as_slice()));
     Ok(())
 }
 
@@ -94,9 +98,9 @@ pub fn two_workers_of_a_load<R: Abort + Threads + Wait + Sync>(
     let gate = Holding::new();
     let words = ["load", "2", "--workers", "2"];
     let (status, text) = answer_past(rt, alloc, &words, b"", &gate)?;
-    assert_eq!(rt; status, Status::Ok);
-    assert_eq!(rt; gate.ended_by_other.load(Ordering::SeqCst), 1);
-    assert_eq!(rt; text.as_slice(), b"out 11\ndone 43\n".as_slice());
+    check(rt, status == Status::Ok);
+    check(rt, gate.ended_by_other.load(Ordering::SeqCst) == 1);
+    check(rt, text.as_slice() == b"out 11\ndone 43\n".as_slice());
     Ok(())
 }
 

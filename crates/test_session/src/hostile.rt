@@ -1,11 +1,12 @@
 // Texts that are cut, wrong, deep, long or forged, ports that fail, and runs that are read again.
+use crate::checking::check;
 use crate::pieces::{answer, expect};
 use std::alloc::Global;
 use std::process::Abort;
 use std::sync::Wait;
 use std::test::Fail;
 use std::thread::Threads;
-use test_parser::grow;
+use test_text::grow;
 
 const UNIT: &[u8] = b"def main(): Unit { () }\n";
 
@@ -82,8 +83,8 @@ pub fn ports_that_fail_at_each_call<R: Abort + Threads + Wait + Sync>(
     ];
     for (failing, code, text) in rows {
         let (came, taken) = answer(rt, alloc, "check", UNIT, (8, 3), failing)?;
-        assert_eq!(rt; came, code, "failing at {:?}", failing);
-        assert_eq!(rt; taken.as_slice(), text, "failing at {:?}", failing);
+        check(rt, came == code);
+        check(rt, taken.as_slice() == text);
     }
     Ok(())
 }
@@ -112,8 +113,8 @@ pub fn programs_at_a_limit_and_a_step_beyond<R: Abort + Threads + Wait + Sync>(
         let mut input = Vec::new(alloc);
         grow(&mut input, *parts, *times)?;
         let (came, taken) = answer(rt, alloc, line, input.as_slice(), (4096, 4096), (0, 0))?;
-        assert_eq!(rt; came, *code, "of {} times", times);
-        assert_eq!(rt; taken.as_slice(), *text, "of {} times", times);
+        check(rt, came == *code);
+        check(rt, taken.as_slice() == *text);
     }
     Ok(())
 }
@@ -196,8 +197,8 @@ const RUNS: &[(&str, &[u8], u8, &[u8], &[u8])] = &[
 pub fn runs<R: Abort + Threads + Wait + Sync>(rt: &R, alloc: Global) -> Result<(), Fail> {
     for (line, program, code, end, text) in RUNS {
         let (came, written) = answer(rt, alloc, line, program, (8, 8), (0, 0))?;
-        assert_eq!(rt; came, *code, "of {}", line);
-        assert!(rt; written.as_slice().ends_with(end), "of {}", line);
+        check(rt, came == *code);
+        check(rt, written.as_slice().ends_with(end));
         let mut input = program.to_vec(alloc)?;
         input.extend_from_slice(written.as_slice())?;
         expect(rt, alloc, "replay", input.as_slice(), 0, text)?;

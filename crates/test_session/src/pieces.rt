@@ -1,6 +1,7 @@
 // Calls over memory on a line of words, in pieces of several sizes.
 ghost use Rattle.std.specs.Prelude.{◌<◌};
 
+use crate::checking::check;
 use pat_ports::{MemSink, MemSource, OpenGate};
 use pat_session::pat;
 use std::alloc::Global;
@@ -44,14 +45,8 @@ pub fn expect<R: Abort + Threads + Wait + Sync>(
 ) -> Result<(), Fail> {
     for piece in [1, 2, 8, 4096] {
         let (came, taken) = answer(rt, alloc, line, input, (piece, piece), (0, 0))?;
-        assert_eq!(rt; came, code, "of {:?} in pieces of {}", input, piece);
-        assert_eq!(rt;
-            taken.as_slice(),
-            text,
-            "of {:?} in pieces of {}",
-            input,
-            piece
-        );
+        check(rt, came == code);
+        check(rt, taken.as_slice() == text);
     }
     Ok(())
 }

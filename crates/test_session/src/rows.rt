@@ -1,9 +1,9 @@
 // Texts, with what each command answers.
 use crate::calls::answer;
+use crate::checking::check;
 use crate::texts::TEXTS;
-use pat_answers::Status;
-use pat_front::Verdict;
-use pat_resolver_answers::ResolveKind;
+use pat_front::{Status, Verdict};
+use pat_resolver_heads::ResolveKind;
 use pat_syntax::Span;
 use std::alloc::{AllocError, Global};
 use std::process::Abort;
@@ -197,8 +197,8 @@ fn try_rows<R: Abort + Threads + Wait + Sync>(
     for (input, status, text) in rows {
         for piece in [1, 2, 4096] {
             let (came, taken) = answer(rt, alloc, &[word], input, (piece, piece), (0, 0))?;
-            assert_eq!(rt; came, *status, "of {:?}", *input);
-            assert_eq!(rt; taken.as_slice(), *text, "of {:?}", *input);
+            check(rt, came == *status);
+            check(rt, taken.as_slice() == *text);
         }
     }
     Ok(())
@@ -210,7 +210,7 @@ pub fn each_rule_where_it_is_first_broken<R: Abort + Threads + Wait + Sync>(
 ) -> Result<(), Fail> {
     for (input, text) in TEXTS {
         let (_, taken) = answer(rt, alloc, &["print"], input, (4096, 4096), (0, 0))?;
-        assert_eq!(rt; taken.as_slice(), *text, "of {:?}", *input);
+        check(rt, taken.as_slice() == *text);
     }
     Ok(())
 }
@@ -253,8 +253,8 @@ pub fn words_that_are_no_command<R: Abort + Threads + Wait + Sync>(
     ];
     for words in rows {
         let (came, taken) = answer(rt, alloc, words, FIRST, (8, 8), (0, 0))?;
-        assert_eq!(rt; came, Status::Usage);
-        assert_eq!(rt; taken.as_slice(), USAGE);
+        check(rt, came == Status::Usage);
+        check(rt, taken.as_slice() == USAGE);
     }
     Ok(())
 }
@@ -306,8 +306,8 @@ pub fn calls_of_several_words<R: Abort + Threads + Wait + Sync>(
     ];
     for (words, status, text) in rows {
         let (came, taken) = answer(rt, alloc, words, FIRST, (8, 8), (0, 0))?;
-        assert_eq!(rt; came, status);
-        assert_eq!(rt; taken.as_slice(), text);
+        check(rt, came == status);
+        check(rt, taken.as_slice() == text);
     }
     Ok(())
 }
@@ -467,8 +467,8 @@ pub fn an_entry_has_256_steps_at_most<R: Abort + Threads + Wait + Sync>(
     for (count, text) in rows {
         let input = lets(alloc, count)?;
         let (status, taken) = answer(rt, alloc, &["run"], input.as_slice(), (4096, 4096), (0, 0))?;
-        assert_eq!(rt; status, Status::Ok, "of {} lets", count);
-        assert_eq!(rt; taken.as_slice(), text, "of {} lets", count);
+        check(rt, status == Status::Ok);
+        check(rt, taken.as_slice() == text);
     }
     Ok(())
 }
@@ -487,8 +487,8 @@ pub fn a_program_has_1048576_bytes_at_most<R: Abort + Threads + Wait + Sync>(
             input.push(b' ')?;
         }
         let (came, taken) = answer(rt, alloc, &["run"], input.as_slice(), (8192, 512), (0, 0))?;
-        assert_eq!(rt; came, status, "with {} blanks", blanks);
-        assert_eq!(rt; taken.as_slice(), text, "with {} blanks", blanks);
+        check(rt, came == status);
+        check(rt, taken.as_slice() == text);
     }
     Ok(())
 }
@@ -505,8 +505,8 @@ pub fn each_read_and_each_write_fails_in_turn<R: Abort + Threads + Wait + Sync>(
         } else {
             Status::Ok
         };
-        assert_eq!(rt; status, want, "at read {}", call);
-        assert_eq!(rt; taken.is_empty(), call < 8, "at read {}", call);
+        check(rt, status == want);
+        check(rt, taken.is_empty() == (call < 8));
     }
     for call in 1..9u64 {
         let (status, taken) = answer(rt, alloc, &["run"], FIRST, (8, 8), (0, call))?;
@@ -515,17 +515,17 @@ pub fn each_read_and_each_write_fails_in_turn<R: Abort + Threads + Wait + Sync>(
         } else {
             (Status::Ok, FIRST_TEXT.len())
         };
-        assert_eq!(rt; status, want, "at write {}", call);
-        assert_eq!(rt; taken.as_slice(), &FIRST_TEXT[..count], "at write {}", call);
+        check(rt, status == want);
+        check(rt, taken.as_slice() == &FIRST_TEXT[..count]);
     }
     // Nothing is read for words that are no command, for help, or for a generated program.
     let (status, taken) = answer(rt, alloc, &[], FIRST, (8, 8), (1, 2))?;
-    assert_eq!(rt; status, Status::WriteFault);
-    assert_eq!(rt; taken.as_slice(), &USAGE[..8]);
+    check(rt, status == Status::WriteFault);
+    check(rt, taken.as_slice() == &USAGE[..8]);
     let (status, taken) = answer(rt, alloc, &["help"], FIRST, (8, 8), (1, 2))?;
-    assert_eq!(rt; status, Status::WriteFault);
-    assert_eq!(rt; taken.as_slice(), &USAGE[..8]);
+    check(rt, status == Status::WriteFault);
+    check(rt, taken.as_slice() == &USAGE[..8]);
     let (status, _) = answer(rt, alloc, &["load", "1"], FIRST, (8, 8), (1, 0))?;
-    assert_eq!(rt; status, Status::Ok);
+    check(rt, status == Status::Ok);
     Ok(())
 }

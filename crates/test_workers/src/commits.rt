@@ -1,13 +1,14 @@
 // One commit, made as a worker makes it.
-use pat_accepted::Accepted;
-use pat_executable::Executable;
+use crate::checking::check;
 use pat_machine::{Machine, Receipt};
 use pat_machine_threads::local_run;
 use pat_reduce::{Act, Entry};
+use pat_reduce_values::Executable;
+use pat_typed_program::Accepted;
 use std::alloc::Global;
 use std::process::Abort;
 use std::test::Fail;
-use test_machine::one_message;
+use test_programs::one_message;
 
 // The first job of a thread that makes a mailbox: the step into its `let`, and the mailbox.
 pub fn one_job_is_committed(rt: &impl Abort, alloc: Global) -> Result<(), Fail> {
@@ -18,7 +19,7 @@ pub fn one_job_is_committed(rt: &impl Abort, alloc: Global) -> Result<(), Fail> 
     let state = machine.state_of(&job).expect(rt, "memory");
     let run = local_run(alloc, &code, state, job.allowance).ok();
     let run = run.expect(rt, "memory");
-    assert_eq!(rt; run.steps, 1);
+    check(rt, run.steps == 1);
     let receipt = machine.commit(3, job, run).expect(rt, "memory");
     let entry = Entry {
         worker: 3,
@@ -27,7 +28,7 @@ pub fn one_job_is_committed(rt: &impl Abort, alloc: Global) -> Result<(), Fail> 
         shared: Some(Act::New),
     };
     let index = Some(0);
-    assert_eq!(rt; receipt, Receipt { index, entry });
-    assert!(rt; machine.history() == [entry].as_slice());
+    check(rt, receipt == Receipt { index, entry });
+    check(rt, machine.history() == [entry].as_slice());
     Ok(())
 }

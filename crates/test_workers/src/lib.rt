@@ -1,6 +1,10 @@
-//! Runs by several workers, a turn between two threads, and one commit by hand. Tests only.
+//! Runs by several workers, the turn between threads, and commits at the board from threads of their own.
 #![tactic(auto)]
 
+#[cfg(test)]
+mod board;
+#[cfg(test)]
+mod checking;
 #[cfg(test)]
 mod commits;
 #[cfg(test)]

@@ -1,4 +1,5 @@
 // Runs by several workers, past a gate that counts.
+use crate::checking::check;
 use pat_machine::{Outcome, Receipt};
 use pat_ports::Gate;
 use pat_reduce::Entry;
@@ -9,7 +10,7 @@ use std::sync::Wait;
 use std::sync::atomic::{AtomicU64, Ordering};
 use std::test::Fail;
 use std::thread::Threads;
-use test_machine::{Example, accepted};
+use test_programs::{Example, accepted};
 
 // How often the gate was passed, and how often with a number other than that of the worker's commit.
 #[derive(Drop)]
@@ -90,19 +91,20 @@ fn runs_so<R: Abort + Threads + Wait + Sync>(
     workers: u32,
 ) -> Result<(), Fail> {
     let (example, steps, messages, outcome, spent) = row;
-    assert!(rt;
-        workers > 0 && workers <= 64 && steps <= 1_000_000 && messages > 0 && messages <= 1_000_000
+    check(
+        rt,
+        workers > 0 && workers <= 64 && steps <= 1_000_000 && messages > 0 && messages <= 1_000_000,
     );
     let gate = Counting::new();
     let program = accepted(alloc, example)?;
     let finished = run(rt, alloc, program, workers, steps, messages, &gate)?;
     let history = finished.machine.history();
-    assert_eq!(rt; finished.outcome, outcome);
-    assert_eq!(rt; steps_of(history), spent);
-    assert_eq!(rt; finished.receipts.len(), workers as usize);
-    assert_eq!(rt; gate.wrong.load(Ordering::SeqCst), 0);
+    check(rt, finished.outcome == outcome);
+    check(rt, steps_of(history) == spent);
+    check(rt, finished.receipts.len() == workers as usize);
+    check(rt, gate.wrong.load(Ordering::SeqCst) == 0);
     let places = tell_of_all(rt, &gate, finished.receipts.as_slice(), history);
-    assert_eq!(rt; places, history.len());
+    check(rt, places == history.len());
     Ok(())
 }
 
@@ -120,7 +122,7 @@ fn tell_of_all(
         places = places.wrapping_add(tell_of(rt, worker, receipts, history));
         let counted = gate.after.as_slice().get(worker as usize);
         let counted = counted.expect(rt, "a count").load(Ordering::SeqCst);
-        assert_eq!(rt; counted, receipts.len() as u64);
+        check(rt, counted == receipts.len() as u64);
         worker = worker.wrapping_add(1);
     }
     places
@@ -131,9 +133,12 @@ fn tell_of(rt: &impl Abort, worker: u32, receipts: &[Receipt], history: &[Entry]
     let mut places = 0usize;
     let mut least = 0u64;
     for receipt in receipts {
-        assert_eq!(rt; receipt.entry.worker, worker);
+        check(rt, receipt.entry.worker == worker);
         if let Some(place) = receipt.index {
-            assert!(rt; place >= least && history.get(place as usize) == Some(&receipt.entry));
+            check(
+                rt,
+                place >= least && history.get(place as usize) == Some(&receipt.entry),
+            );
             least = place.wrapping_add(1);
             places = places.wrapping_add(1);
         }

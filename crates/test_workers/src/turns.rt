@@ -1,7 +1,8 @@
 // A turn between two threads.
 ghost use Rattle.std.specs.Prelude.{◌≡◌, [], ◌∷◌, ◌++◌, false, OnOk, OnErr};
 
-use pat_kept::Kept;
+use crate::checking::check;
+use pat_logged_value::Kept;
 use pat_turn::{Pass, Turn};
 use std::alloc::{AllocError, Global};
 use std::process::Abort;
@@ -119,8 +120,8 @@ pub fn two_threads_take_turns<R: Abort + Threads + Wait + Sync>(
     passes.push(first)?;
     passes.push(second)?;
     let sheet = turn.close(passes);
-    assert_eq!(rt; sheet.title, 7);
-    assert_eq!(rt; sheet.lines.len(), 1000);
+    check(rt, sheet.title == 7);
+    check(rt, sheet.lines.len() == 1000);
     are_in_order(rt, sheet.lines.as_slice());
     Ok(())
 }
@@ -129,10 +130,10 @@ pub fn two_threads_take_turns<R: Abort + Threads + Wait + Sync>(
 fn are_in_order(rt: &impl Abort, lines: &[Line]) {
     let mut rounds = [0u32; 2];
     for line in lines {
-        assert!(rt; line.number < 2);
+        check(rt, line.number < 2);
         let number = line.number as usize;
-        assert_eq!(rt; line.round, rounds[number]);
+        check(rt, line.round == rounds[number]);
         rounds[number] = line.round.wrapping_add(1);
     }
-    assert_eq!(rt; rounds, [ROUNDS, ROUNDS]);
+    check(rt, rounds == [ROUNDS, ROUNDS]);
 }

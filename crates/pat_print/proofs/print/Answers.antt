@@ -1,10 +1,10 @@
 use Rattle.std.proofs.Common.{◌≡◌, ℕ, Result, Ok, Err, sym, subst, Vec, Global}
 use Rattle.std.specs.Prelude.{IfOk}
-use Rattle.pat_grammar.specs.Trees.{Tree}
-use Rattle.pat_grammar.specs.Items.{Limits}
-use Rattle.pat_canonical.specs.Text.{canonical_text}
-use Rattle.pat_canonical_laws.specs.ReadAgain.{CanBeSpelled, ReadsAs}
-use Rattle.pat_canonical_laws.proofs.BareText.{bare_again}
+use Rattle.pat_parser_spec.specs.Trees.{Tree}
+use Rattle.pat_parser_spec.specs.Items.{Limits}
+use Rattle.pat_print_spec.specs.Text.{canonical_text}
+use Rattle.pat_print_laws.specs.ReadAgain.{CanBeSpelled, ReadsAs}
+use Rattle.pat_print_laws.proofs.BareText.{bare_again}
 use Rattle.pat_tree.specs.Views.{tree_view}
 use Rattle.pat_print.proofs.print.Goals as goal
 

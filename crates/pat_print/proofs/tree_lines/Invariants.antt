@@ -1,5 +1,5 @@
 use Rattle.std.proofs.Common.{◌≡◌, ◌++◌, map, drop}
-use Rattle.pat_canonical.specs.Canonical.{tree_onto}
+use Rattle.pat_print_spec.specs.Canonical.{tree_onto}
 use Rattle.pat_tree.specs.Views.{decl_view}
 use Rattle.pat_print.specs.Parts.{bytes_of}
 use Rattle.pat_print.proofs.tree_lines.Given as goal

@@ -1,4 +1,4 @@
-use Rattle.pat_words.specs.Patterns.{In, no_values}
+use Rattle.pat_words_spec.specs.Patterns.{In, no_values}
 use Rattle.pat_words_laws.proofs.PatternLaws.{pat_eq_same, sum_of_to, sum_of_from, prod_of_to, prod_of_from}
 use Rattle.pat_words_laws.proofs.FormLaws.{same_pat_eq, star_of_to, star_of_from, subst_to, subst_from}
 use Rattle.pat_words_laws.proofs.form_laws.Goals as goal

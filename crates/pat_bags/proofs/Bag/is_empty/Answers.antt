@@ -1,5 +1,5 @@
 use Rattle.std.proofs.Common.{arith}
-use Rattle.pat_words.specs.Words.{no_word}
+use Rattle.pat_words_spec.specs.Words.{no_word}
 use Rattle.pat_words_laws.proofs.WordLaws.{count_eq}
 use Rattle.pat_bags.specs.Views.{word_of}
 use Rattle.pat_bags.proofs.Bag.is_empty.Goals as goal

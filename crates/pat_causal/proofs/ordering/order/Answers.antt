@@ -1,7 +1,7 @@
 use Rattle.std.proofs.Common.{◌+◌, ◌≤◌, length, map, sym, ap, ◌∙◌, subst, arith}
 use Rattle.std.proofs.lemmas.List.{with_items_is}
 use Rattle.pat_reduce.specs.Views.{entry_view}
-use Rattle.pat_causal_order.specs.Reordered.{most_entries}
+use Rattle.pat_causal_spec.specs.Reordered.{most_entries}
 use Rattle.pat_causal_laws.proofs.Histories.{leads_replays}
 use Rattle.pat_causal.proofs.Fronts.{IsFront, no_front, front_small, push_moves, push_known, push_few, moved, all_ordered}
 use Rattle.pat_causal.proofs.ordering.order.Goals as goal

@@ -1,5 +1,5 @@
 use Rattle.std.proofs.Common.{subst}
-use Rattle.pat_checked.specs.Checks.{IsChecked}
+use Rattle.pat_typecheck.specs.Checks.{IsChecked}
 use Rattle.pat_command_check.proofs.Answered.{accepted_allowed, refused_allowed}
 use Rattle.pat_command_check.proofs.command.answer_of.Goals as goal
 

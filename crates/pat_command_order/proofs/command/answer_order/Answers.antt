@@ -1,6 +1,6 @@
 use Rattle.std.proofs.Common.{[], map, rules}
 use Rattle.pat_reduce.specs.Views.{entry_view}
-use Rattle.pat_marked_histories.specs.Histories.{IsReplayRefusal}
+use Rattle.pat_replay_input.specs.Histories.{IsReplayRefusal}
 use Rattle.pat_command_order.proofs.Answering.{readable_history, refused}
 use Rattle.pat_command_order.proofs.command.answer_order.Goals as goal
 

@@ -2,7 +2,7 @@ use Rattle.std.proofs.Common.{◌<◌, length, map, arith}
 use Rattle.std.proofs.lemmas.List.{length-map}
 use Rattle.pat_core.specs.Views.{program_view}
 use Rattle.pat_reduce.specs.Views.{config_view, entry_view}
-use Rattle.pat_causal_order.specs.Reordered.{most_entries}
+use Rattle.pat_causal_spec.specs.Reordered.{most_entries}
 use Rattle.pat_command_order.proofs.Answering.{too_many}
 use Rattle.pat_command_order.proofs.command.in_order.Goals as goal
 

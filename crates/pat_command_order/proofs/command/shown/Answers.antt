@@ -1,9 +1,9 @@
 use Rattle.std.proofs.Common.{◌≤◌, length, map, sym, ap, subst, arith}
 use Rattle.std.proofs.lemmas.List.{length-map}
 use Rattle.pat_core.specs.Views.{program_view}
-use Rattle.pat_model.specs.Runs.{IsHistory}
+use Rattle.pat_semantics_spec.specs.Runs.{IsHistory}
 use Rattle.pat_reduce.specs.Views.{config_view, entry_view}
-use Rattle.pat_causal_order.specs.Reordered.{most_entries, IsReordered}
+use Rattle.pat_causal_spec.specs.Reordered.{most_entries, IsReordered}
 use Rattle.pat_causal_laws.proofs.Histories.{leads_history}
 use Rattle.pat_command_order.proofs.Answering.{leads_length, ordered_is}
 use Rattle.pat_command_order.proofs.command.shown.Goals as goal

@@ -1,5 +1,5 @@
 use Rattle.std.proofs.Common.{rules}
-use Rattle.pat_marked_histories.specs.Histories.{IsReplayRefusal}
+use Rattle.pat_replay_input.specs.Histories.{IsReplayRefusal}
 use Rattle.pat_command_replay.proofs.Answering.{refused}
 use Rattle.pat_command_replay.proofs.command.answer_replay.Goals as goal
 

@@ -1,7 +1,7 @@
 use Rattle.std.proofs.Common.{map, sym, subst}
 use Rattle.pat_core.specs.Views.{program_view}
 use Rattle.pat_reduce.specs.Views.{config_view, entry_view}
-use Rattle.pat_marked_histories.specs.Histories.{Replays}
+use Rattle.pat_replay_input.specs.Histories.{Replays}
 use Rattle.pat_command_replay.proofs.Answering.{replayed_is}
 use Rattle.pat_command_replay.proofs.command.shown.Goals as goal
 

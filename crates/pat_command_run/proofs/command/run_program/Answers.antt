@@ -1,5 +1,5 @@
 use Rattle.std.proofs.Common.{IfOk, sym, subst}
-use Rattle.pat_run.specs.Runners.{RunGives}
+use Rattle.pat_run.specs.single.Runners.{RunGives}
 use Rattle.pat_command_run.proofs.Runs.{few_entries, shown_history, run_shows}
 use Rattle.pat_command_run.proofs.command.run_program.Goals as goal
 

@@ -2,8 +2,8 @@ use Rattle.std.proofs.Common.{drop, rules, subst}
 use Rattle.std.specs.Prelude.{IfOk}
 use Rattle.std.proofs.lemmas.List.{take_rest}
 use Rattle.pat_core.specs.Views.{program_view}
-use Rattle.pat_derivation_text.specs.DerivationText.{marker}
-use Rattle.pat_marked_programs.specs.MarkedPrograms.{IsMarkedRefusal}
+use Rattle.pat_derivation_text_spec.specs.DerivationText.{marker}
+use Rattle.pat_input_split.specs.program_with_text.MarkedPrograms.{IsMarkedRefusal}
 use Rattle.pat_command_verify.specs.Allowed.{AnswersText}
 use Rattle.pat_command_verify.proofs.Answering.{answered, refused}
 use Rattle.pat_command_verify.proofs.command.answer_verify.Goals as goal

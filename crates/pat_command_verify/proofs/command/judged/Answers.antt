@@ -1,8 +1,8 @@
 use Rattle.std.proofs.Common.{subst}
 use Rattle.std.specs.Prelude.{IfNone}
 use Rattle.pat_core.specs.Views.{program_view}
-use Rattle.pat_typing.specs.Typings.{IsTypable}
-use Rattle.pat_validity.specs.Validity.{IsValid}
+use Rattle.pat_type_system_spec.specs.Typings.{IsTypable}
+use Rattle.pat_derivation_spec.specs.Validity.{IsValid}
 use Rattle.pat_derivations.specs.Views.{derivation_view}
 use Rattle.pat_safety_laws.proofs.Safe.{typable_safe}
 use Rattle.pat_command_verify.proofs.Answering.{accepted_judged}

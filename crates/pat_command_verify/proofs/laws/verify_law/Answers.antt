@@ -1,4 +1,4 @@
-use Rattle.pat_derivation_text.specs.DerivationText.{marker}
+use Rattle.pat_derivation_text_spec.specs.DerivationText.{marker}
 use Rattle.pat_command_verify.proofs.Once.{one_answer}
 use Rattle.pat_command_verify.proofs.laws.verify_law.Goals as goal
 

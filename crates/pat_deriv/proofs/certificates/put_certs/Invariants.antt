@@ -1,7 +1,7 @@
 use Rattle.std.proofs.Common.{◌≡◌, ◌∷◌, ◌++◌, drop, map}
 use Rattle.std.specs.List.{flat_map}
 use Rattle.pat_derivations.specs.Views.{certs_view}
-use Rattle.pat_derivation_text.specs.DerivationText.{certs_text}
+use Rattle.pat_derivation_text_spec.specs.DerivationText.{certs_text}
 use Rattle.pat_deriv.proofs.certificates.put_certs.Given as goal
 
 abbrev pub invariant-loop-cert : goal.invariant-loop-cert

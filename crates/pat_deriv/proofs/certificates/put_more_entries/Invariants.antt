@@ -1,7 +1,7 @@
 use Rattle.std.proofs.Common.{◌≡◌, ◌∷◌, ◌++◌, drop, map}
 use Rattle.std.specs.List.{flat_map}
-use Rattle.pat_certs_covers.specs.Views.{entries_view}
-use Rattle.pat_derivation_text.specs.DerivationText.{entry_text}
+use Rattle.pat_cover_certificates.specs.Views.{entries_view}
+use Rattle.pat_derivation_text_spec.specs.DerivationText.{entry_text}
 use Rattle.pat_deriv.proofs.certificates.put_more_entries.Given as goal
 
 abbrev pub invariant-loop-entry : goal.invariant-loop-entry

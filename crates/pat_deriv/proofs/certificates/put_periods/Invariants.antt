@@ -1,6 +1,6 @@
 use Rattle.std.proofs.Common.{◌≡◌, ◌∷◌, ◌++◌, drop, map}
 use Rattle.std.specs.List.{flat_map}
-use Rattle.pat_derivation_text.specs.DerivationText.{numbers_text}
+use Rattle.pat_derivation_text_spec.specs.DerivationText.{numbers_text}
 use Rattle.pat_deriv.proofs.certificates.put_periods.Given as goal
 
 abbrev pub invariant-loop-numbers : goal.invariant-loop-numbers

@@ -1,7 +1,7 @@
 use Rattle.std.proofs.Common.{◌≡◌, ◌+◌, ◌++◌, drop, map}
 use Rattle.pat_core.specs.Views.{program_view}
 use Rattle.pat_derivations.specs.Views.{vars_view}
-use Rattle.pat_derivation_text.specs.DerivationText.{var_line, numbered, text_of_lines}
+use Rattle.pat_derivation_text_spec.specs.DerivationText.{var_line, numbered, text_of_lines}
 use Rattle.pat_deriv.proofs.lines.put_vars.Given as goal
 
 abbrev pub invariant-loop-interface : goal.invariant-loop-interface

@@ -1,9 +1,9 @@
 use Rattle.std.proofs.Common.{◌≡◌, rules, arith, subst}
 use Rattle.std.specs.Prelude.{Some, None}
-use Rattle.pat_derivation_text.specs.DerivationText.{marker}
-use Rattle.pat_derivation_text.specs.Joined.{cut}
-use Rattle.pat_derivation_text.specs.Reading.{NoMarker, first, no_marker}
-use Rattle.pat_derivation_text_laws.proofs.Cutting.{CutInPieces, cut_pieces}
+use Rattle.pat_derivation_text_spec.specs.DerivationText.{marker}
+use Rattle.pat_texts_spec.specs.Joined.{cut}
+use Rattle.pat_derivation_text_spec.specs.Reading.{NoMarker, first, no_marker}
+use Rattle.pat_texts_spec.proofs.Cutting.{CutInPieces, cut_pieces}
 use Rattle.pat_deriv.specs.Answers.{FirstGives}
 use Rattle.pat_deriv.proofs.reading.read.Goals as goal
 

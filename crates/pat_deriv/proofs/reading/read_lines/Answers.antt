@@ -3,10 +3,10 @@ use Rattle.std.specs.Prelude.{Some, None}
 use Rattle.std.proofs.lemmas.Bool.Decides.{nat_tests}
 use Rattle.pat_core.specs.Views.{program_view}
 use Rattle.pat_derivations.specs.Views.{derivation_view}
-use Rattle.pat_derivation_text.specs.Joined.{cut}
-use Rattle.pat_derivation_text.specs.LineReading.{with_line}
-use Rattle.pat_derivation_text.specs.Reading.{another}
-use Rattle.pat_derivation_text_laws.proofs.Cutting.{CutInPieces, cut_pieces}
+use Rattle.pat_texts_spec.specs.Joined.{cut}
+use Rattle.pat_derivation_text_spec.specs.LineReading.{with_line}
+use Rattle.pat_derivation_text_spec.specs.Reading.{another}
+use Rattle.pat_texts_spec.proofs.Cutting.{CutInPieces, cut_pieces}
 use Rattle.pat_deriv.proofs.Unread.{unread_line, unread_end}
 use Rattle.pat_deriv.proofs.reading.read_lines.Goals as goal
 

@@ -1,7 +1,7 @@
 use Rattle.std.proofs.Common.{◌≡◌, ◌<◌, ◌+◌, length}
 use Rattle.pat_core.specs.Views.{program_view}
 use Rattle.pat_derivations.specs.Views.{derivation_view}
-use Rattle.pat_derivation_text.specs.Reading.{ReadsTo}
+use Rattle.pat_derivation_text_spec.specs.Reading.{ReadsTo}
 use Rattle.pat_deriv.proofs.reading.read_lines.Given as goal
 
 abbrev pub invariant-loop-rest : goal.invariant-loop-rest

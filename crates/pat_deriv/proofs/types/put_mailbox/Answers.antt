@@ -3,7 +3,7 @@ use Rattle.std.specs.Prelude.{OnOk}
 use Rattle.std.proofs.lemmas.Bool.Decides.{nat_tests}
 use Rattle.pat_patterns.specs.Views.{pattern_view}
 use Rattle.pat_primitives.specs.Views.{polarity_view}
-use Rattle.pat_derivation_text.specs.DerivationText.{polarity_mark}
+use Rattle.pat_derivation_text_spec.specs.DerivationText.{polarity_mark}
 use Rattle.pat_deriv.proofs.Names.{mailbox_beyond}
 use Rattle.pat_deriv.proofs.types.put_mailbox.Goals as goal
 

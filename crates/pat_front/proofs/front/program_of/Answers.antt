@@ -1,6 +1,6 @@
 use Rattle.pat_tree.specs.Views.{tree_view}
 use Rattle.pat_core.specs.Views.{program_view}
-use Rattle.pat_resolver_answers.specs.Views.{places_view}
+use Rattle.pat_resolver_heads.specs.results.Views.{places_view}
 use Rattle.pat_front.proofs.Resolved.{program_text, is_resolved}
 use Rattle.pat_front.proofs.front.program_of.Goals as goal
 

@@ -1,8 +1,8 @@
 use Rattle.std.proofs.Common.{ap, ◌∙◌, refl}
 use Rattle.pat_patterns.specs.Views.{pattern_view}
-use Rattle.pat_bounds.specs.Symbols.{GivenSymbol}
-use Rattle.pat_bounds.specs.Layouts.{laid, last_of}
-use Rattle.pat_grid_symbols.specs.Views.{symbols_view}
+use Rattle.pat_inclusion_spec.specs.bounds.Symbols.{GivenSymbol}
+use Rattle.pat_inclusion_spec.specs.bounds.Layouts.{laid, last_of}
+use Rattle.pat_grid_points.specs.symbols.Views.{symbols_view}
 use Rattle.pat_grid.proofs.Meaning.{eval_board, eval_point}
 use Rattle.pat_grid.proofs.grids.eval.Goals as goal
 

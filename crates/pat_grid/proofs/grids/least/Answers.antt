@@ -1,6 +1,6 @@
 use Rattle.std.proofs.Common.{ap, ◌∙◌, refl}
 use Rattle.pat_patterns.specs.Views.{patterns_view}
-use Rattle.pat_grid_symbols.specs.Views.{symbols_view}
+use Rattle.pat_grid_points.specs.symbols.Views.{symbols_view}
 use Rattle.pat_grid.proofs.Meaning.{least_board, least_point, least_count, least_like}
 use Rattle.pat_grid.proofs.grids.least.Goals as goal
 

@@ -1,7 +1,7 @@
 use Rattle.std.proofs.Common.{◌<◌, ◌≤◌, ◌-◌}
-use Rattle.pat_bounds.specs.Tables.{IsKnown}
-use Rattle.pat_grid_tables.specs.Views.{setting_of}
-use Rattle.pat_grid_tables.specs.Moves.{entry_at}
+use Rattle.pat_inclusion_spec.specs.bounds.Tables.{IsKnown}
+use Rattle.pat_grid.specs.tables.Views.{setting_of}
+use Rattle.pat_grid.specs.tables.Moves.{entry_at}
 use Rattle.pat_grid.proofs.Listing.{Tested}
 use Rattle.pat_grid.proofs.rows.row.Given as goal
 

@@ -1,8 +1,8 @@
 use Rattle.std.proofs.Common.{◌≡◌, rules, arith, subst}
 use Rattle.std.specs.Prelude.{Some}
-use Rattle.pat_derivation_text.specs.Joined.{cut}
-use Rattle.pat_derivation_text_laws.proofs.Cutting.{CutInPieces, cut_pieces}
-use Rattle.pat_history_text.specs.HistoryText.{marker}
+use Rattle.pat_texts_spec.specs.Joined.{cut}
+use Rattle.pat_texts_spec.proofs.Cutting.{CutInPieces, cut_pieces}
+use Rattle.pat_history_spec.specs.HistoryText.{marker}
 use Rattle.pat_history.specs.Answers.{FirstGives}
 use Rattle.pat_history.proofs.reading.read.Goals as goal
 

@@ -1,7 +1,7 @@
 use Rattle.std.proofs.Common.{◌≡◌, ◌++◌, ◌∷◌, [], rules, arith, subst}
 use Rattle.std.specs.Prelude.{Some}
-use Rattle.pat_derivation_text.specs.Joined.{cut}
-use Rattle.pat_derivation_text_laws.proofs.Cutting.{CutInPieces, cut_pieces}
+use Rattle.pat_texts_spec.specs.Joined.{cut}
+use Rattle.pat_texts_spec.proofs.Cutting.{CutInPieces, cut_pieces}
 use Rattle.pat_history.proofs.Lines.{line_read}
 use Rattle.pat_history.proofs.reading.read_lines.Goals as goal
 

@@ -1,6 +1,6 @@
 use Rattle.std.proofs.Common.{◌≡◌, ◌<◌, ◌+◌, length, map}
 use Rattle.pat_reduce.specs.Views.{entry_view}
-use Rattle.pat_history_text.specs.Reading.{ReadsLines}
+use Rattle.pat_history_spec.specs.Reading.{ReadsLines}
 use Rattle.pat_history.proofs.reading.read_lines.Given as goal
 
 -- the lines up to the rest are read as the entries

@@ -1,8 +1,8 @@
 use Rattle.std.proofs.Common.{◌≡◌, ◌++◌, drop, map}
 use Rattle.std.specs.List.{flat_map}
-use Rattle.pat_model.specs.Runs.{IsHistory}
+use Rattle.pat_semantics_spec.specs.Runs.{IsHistory}
 use Rattle.pat_reduce.specs.Views.{entry_view}
-use Rattle.pat_history_text.specs.HistoryText.{entry_line, history_text}
+use Rattle.pat_history_spec.specs.HistoryText.{entry_line, history_text}
 use Rattle.pat_history.proofs.writing.write.Given as goal
 
 -- what is written, and the lines that are left, are the whole text

@@ -1,9 +1,9 @@
 use Rattle.std.proofs.Common.{◌+◌, ◌<◌, length, sym, ◌∙◌, arith, subst}
 use Rattle.std.proofs.lemmas.List.{length-map}
 use Rattle.std.proofs.lemmas.Result.{err_from_is_err_and}
-use Rattle.pat_inference.specs.Walk.{walk_functions}
+use Rattle.pat_infer_spec.specs.Walk.{walk_functions}
 use Rattle.pat_core.specs.Views.{program_view, function_view}
-use Rattle.pat_infer_walk.proofs.Functions.{finds_exits}
+use Rattle.pat_infer.proofs.WalkFunctions.{finds_exits}
 use Rattle.pat_infer.proofs.Functions.{next_walked, next_refused}
 use Rattle.pat_infer.proofs.making.walk_all.Goals as goal
 

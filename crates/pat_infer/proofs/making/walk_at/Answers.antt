@@ -1,11 +1,11 @@
 use Rattle.std.proofs.Common.{◌≡◌, ◌+◌, ◌<◌, get_or, length, sym, ap, ◌∙◌, subst}
 use Rattle.std.specs.Prelude.{Some, slice_get}
 use Rattle.std.proofs.lemmas.List.{length-map}
-use Rattle.pat_model.specs.Programs.{Function}
-use Rattle.pat_inference.specs.Walk.{walk_function}
+use Rattle.pat_semantics_spec.specs.Programs.{Function}
+use Rattle.pat_infer_spec.specs.Walk.{walk_function}
 use Rattle.pat_core.specs.Views.{program_view, function_view}
-use Rattle.pat_infer_signatures.specs.Views.{signature_view}
-use Rattle.pat_infer_walk.specs.Walking.{Finds}
+use Rattle.pat_infer_problems.specs.signatures.Views.{signature_view}
+use Rattle.pat_infer.specs.walk.Walking.{Finds}
 use Rattle.pat_infer.proofs.Functions.{signed_within, there, same_function}
 use Rattle.pat_infer.proofs.making.walk_at.Goals as goal
 

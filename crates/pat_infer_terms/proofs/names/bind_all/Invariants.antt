@@ -1,7 +1,7 @@
 use Rattle.std.proofs.Common.{◌≡◌, ◌++◌, map, option_map, drop}
-use Rattle.pat_inference.specs.Binders.{names_bound}
+use Rattle.pat_infer_spec.specs.Binders.{names_bound}
 use Rattle.pat_types.specs.Views.{type_view, needs_view}
-use Rattle.pat_infer_needs.specs.Types.{types_at}
+use Rattle.pat_infer_environments.specs.Types.{types_at}
 use Rattle.pat_infer_terms.specs.Views.{binder_view}
 use Rattle.pat_infer_terms.proofs.names.bind_all.Given as goal
 

@@ -1,5 +1,5 @@
 use Rattle.std.proofs.Common.{◌≡◌, ◌++◌, map, drop}
-use Rattle.pat_inference.specs.Binders.{binder_constraints}
+use Rattle.pat_infer_spec.specs.Binders.{binder_constraints}
 use Rattle.pat_types.specs.Views.{node_type_view}
 use Rattle.pat_infer_problems.specs.Views.{placed_constraint, placed_variable_of, constraint_view}
 use Rattle.pat_infer_terms.specs.Views.{binder_view}

@@ -1,6 +1,6 @@
 use Rattle.std.proofs.Common.{◌≡◌, map, drop}
-use Rattle.pat_inference.specs.Constraints.{AtName, each_unless, PolarityRule}
-use Rattle.pat_inference.specs.Binders.{polarity_as}
+use Rattle.pat_infer_spec.specs.Constraints.{AtName, each_unless, PolarityRule}
+use Rattle.pat_infer_spec.specs.Binders.{polarity_as}
 use Rattle.pat_infer_problems.specs.Results.{first_of}
 use Rattle.pat_infer_terms.specs.Views.{binder_view}
 use Rattle.pat_infer_terms.proofs.names.turned.Given as goal

@@ -1,5 +1,5 @@
 use Rattle.std.proofs.Common.{◌≡◌}
-use Rattle.pat_validity.specs.Validity.{first_bad}
+use Rattle.pat_derivation_spec.specs.Validity.{first_bad}
 use Rattle.pat_core.specs.Views.{program_view}
 use Rattle.pat_derivations.specs.Views.{derivation_view}
 use Rattle.pat_judge.proofs.FirstBad.{found_from}

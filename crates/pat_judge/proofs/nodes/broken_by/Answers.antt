@@ -1,10 +1,10 @@
 use Rattle.std.proofs.Common.{rules, ◌≡◌, true, false, Some, None, sym, ap, ap₂, ◌∙◌}
 use Rattle.std.specs.List.{flat_map}
-use Rattle.pat_inclusions.specs.Certificates.{are_shown}
-use Rattle.pat_validity.specs.Derivations.{scope_of}
-use Rattle.pat_validity.specs.Demands.{inclusions_of}
-use Rattle.pat_validity.specs.Rules.{guard_covers, certs_show}
-use Rattle.pat_validity.specs.Truth.{place}
+use Rattle.pat_inclusion_spec.specs.Certificates.{are_shown}
+use Rattle.pat_derivation_spec.specs.Derivations.{scope_of}
+use Rattle.pat_derivation_spec.specs.Demands.{inclusions_of}
+use Rattle.pat_derivation_spec.specs.Rules.{guard_covers, certs_show}
+use Rattle.pat_derivation_spec.specs.Truth.{place}
 use Rattle.pat_core.specs.Views.{node_view, function_view, program_view}
 use Rattle.pat_derivations.specs.Views.{line_view, certs_view, derivation_view}
 use Rattle.pat_judge.proofs.Breaking.{breaks_covers, breaks_cert, breaks_none}

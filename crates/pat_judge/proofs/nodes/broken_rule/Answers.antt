@@ -1,8 +1,8 @@
 use Rattle.std.proofs.Common.{rules, ◌≡◌, Some, None, option_map, ap, ◌∙◌, subst}
 use Rattle.std.specs.Prelude.{IfOk}
-use Rattle.pat_model.specs.Programs.{node_at, function_at}
-use Rattle.pat_validity.specs.Derivations.{line_at}
-use Rattle.pat_validity.specs.Validity.{broken_in}
+use Rattle.pat_semantics_spec.specs.Programs.{node_at, function_at}
+use Rattle.pat_derivation_spec.specs.Derivations.{line_at}
+use Rattle.pat_derivation_spec.specs.Validity.{broken_in}
 use Rattle.pat_core.specs.Views.{node_view, program_view}
 use Rattle.pat_derivations.specs.Views.{line_view, derivation_view}
 use Rattle.pat_judge.specs.Views.{rule_view}

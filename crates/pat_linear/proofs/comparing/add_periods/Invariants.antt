@@ -1,6 +1,6 @@
 use Rattle.std.proofs.Common.{◌≡◌, drop}
-use Rattle.pat_inclusions.specs.Counts.{most_tags}
-use Rattle.pat_inclusions.specs.ClosedForms.{add_periods as periods_added}
+use Rattle.pat_inclusion_spec.specs.Counts.{most_tags}
+use Rattle.pat_inclusion_spec.specs.ClosedForms.{add_periods as periods_added}
 use Rattle.pat_linear.specs.Views.{words_of}
 use Rattle.pat_linear.proofs.comparing.add_periods.Given as goal
 

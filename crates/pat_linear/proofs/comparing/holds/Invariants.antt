@@ -1,6 +1,6 @@
 use Rattle.std.proofs.Common.{◌≡◌, drop}
 use Rattle.pat_bags.specs.Views.{word_of}
-use Rattle.pat_inclusions.specs.Counts.{most_tags, has_word}
+use Rattle.pat_inclusion_spec.specs.Counts.{most_tags, has_word}
 use Rattle.pat_linear.specs.Views.{words_of}
 use Rattle.pat_linear.proofs.comparing.holds.Given as goal
 

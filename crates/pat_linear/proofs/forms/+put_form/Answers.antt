@@ -1,5 +1,5 @@
 use Rattle.std.proofs.Common.{rules, ◌≡◌, ap}
-use Rattle.pat_words.specs.Patterns.{Prod, Star}
+use Rattle.pat_words_spec.specs.Patterns.{Prod, Star}
 use Rattle.pat_patterns.specs.Views.{pattern_view}
 use Rattle.pat_linear.specs.Views.{forms_view}
 use Rattle.pat_linear.proofs.FormOfParts.{tag_below, can_multiply, can_repeat}

@@ -1,6 +1,6 @@
 use Rattle.pat_patterns.specs.Views.{pattern_view}
-use Rattle.pat_inclusions.specs.Counts.{most_tags}
-use Rattle.pat_inclusions.specs.ClosedForms.{lists_are_short}
+use Rattle.pat_inclusion_spec.specs.Counts.{most_tags}
+use Rattle.pat_inclusion_spec.specs.ClosedForms.{lists_are_short}
 use Rattle.pat_linear.proofs.Meaning.{form_words}
 use Rattle.pat_linear.proofs.forms.closed_form.Goals as goal
 

@@ -1,7 +1,7 @@
 use Rattle.std.proofs.Common.{ap}
 use Rattle.std.proofs.lemmas.Result.{err_from_is_err_and}
 use Rattle.pat_patterns.specs.Views.{pattern_view}
-use Rattle.pat_inclusions.specs.Counts.{most_tags}
+use Rattle.pat_inclusion_spec.specs.Counts.{most_tags}
 use Rattle.pat_linear.specs.Views.{forms_view}
 use Rattle.pat_linear.proofs.Standing.{begun, can_join, refused}
 use Rattle.pat_linear.proofs.forms.deep_form.Goals as goal

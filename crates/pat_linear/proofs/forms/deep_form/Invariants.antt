@@ -1,6 +1,6 @@
 use Rattle.std.proofs.Common.{length}
 use Rattle.pat_patterns.specs.Views.{pattern_view}
-use Rattle.pat_inclusions.specs.Counts.{most_tags}
+use Rattle.pat_inclusion_spec.specs.Counts.{most_tags}
 use Rattle.pat_linear.specs.Views.{forms_view}
 use Rattle.pat_linear.proofs.Standing.{Standing}
 use Rattle.pat_linear.proofs.forms.deep_form.Given as goal

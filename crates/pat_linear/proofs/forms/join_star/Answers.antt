@@ -1,6 +1,6 @@
 use Rattle.std.proofs.Common.{subst}
 use Rattle.std.specs.List.{AllByRecursion}
-use Rattle.pat_inclusions.specs.Counts.{most_tags}
+use Rattle.pat_inclusion_spec.specs.Counts.{most_tags}
 use Rattle.pat_linear.specs.Views.{sets_view}
 use Rattle.pat_linear.specs.WordSets.{IsWord}
 use Rattle.pat_linear.proofs.StarOfWords.{words_joined}

@@ -1,4 +1,4 @@
-use Rattle.pat_inclusions.specs.Counts.{most_tags}
+use Rattle.pat_inclusion_spec.specs.Counts.{most_tags}
 use Rattle.pat_linear.proofs.StarOfWords.{repeated}
 use Rattle.pat_linear.proofs.forms.repeat_words.Goals as goal
 

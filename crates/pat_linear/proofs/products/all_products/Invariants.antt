@@ -1,6 +1,6 @@
 use Rattle.std.proofs.Common.{◌≡◌, ◌++◌, drop}
-use Rattle.pat_inclusions.specs.Counts.{most_tags}
-use Rattle.pat_inclusions.specs.ClosedForms.{products}
+use Rattle.pat_inclusion_spec.specs.Counts.{most_tags}
+use Rattle.pat_inclusion_spec.specs.ClosedForms.{products}
 use Rattle.pat_linear.specs.Views.{sets_view}
 use Rattle.pat_linear.proofs.products.all_products.Given as goal
 

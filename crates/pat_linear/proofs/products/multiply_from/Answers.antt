@@ -1,6 +1,6 @@
 use Rattle.std.proofs.Common.{rules, ◌∙◌, ◌<◌, length}
-use Rattle.pat_inclusions.specs.Counts.{most_tags}
-use Rattle.pat_inclusions.specs.ClosedForms.{set_product}
+use Rattle.pat_inclusion_spec.specs.Counts.{most_tags}
+use Rattle.pat_inclusion_spec.specs.ClosedForms.{set_product}
 use Rattle.pat_linear.specs.Views.{set_view}
 use Rattle.pat_linear.proofs.Multiplied.{count_kept, room_kept, whole_kept}
 use Rattle.pat_linear.proofs.products.multiply_from.Goals as goal

@@ -1,6 +1,6 @@
 use Rattle.std.proofs.Common.{◌≡◌, ◌++◌, map, take, drop, length}
-use Rattle.pat_inclusions.specs.Counts.{most_tags}
-use Rattle.pat_inclusions.specs.ClosedForms.{set_product}
+use Rattle.pat_inclusion_spec.specs.Counts.{most_tags}
+use Rattle.pat_inclusion_spec.specs.ClosedForms.{set_product}
 use Rattle.pat_linear.specs.Views.{set_view, sets_view}
 use Rattle.pat_linear.specs.Rooms.{HasRoom}
 use Rattle.pat_linear.proofs.products.multiply_from.Given as goal

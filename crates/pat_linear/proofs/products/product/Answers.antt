@@ -1,5 +1,5 @@
 use Rattle.std.proofs.Common.{◌≡◌, ◌∙◌, sym, subst, length, get_or, arith}
-use Rattle.pat_inclusions.specs.Counts.{most_tags}
+use Rattle.pat_inclusion_spec.specs.Counts.{most_tags}
 use Rattle.pat_linear.specs.Views.{sets_view}
 use Rattle.pat_linear.proofs.Lengths.{one_with_one}
 use Rattle.pat_linear.proofs.products.product.Goals as goal

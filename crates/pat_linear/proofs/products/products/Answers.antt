@@ -1,4 +1,4 @@
-use Rattle.pat_inclusions.specs.Counts.{most_tags}
+use Rattle.pat_inclusion_spec.specs.Counts.{most_tags}
 use Rattle.pat_linear.proofs.Lengths.{products_short, products_long}
 use Rattle.pat_linear.proofs.products.products.Goals as goal
 

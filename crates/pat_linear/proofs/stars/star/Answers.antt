@@ -1,5 +1,5 @@
 use Rattle.std.proofs.lemmas.Result.{err_from_is_err_and}
-use Rattle.pat_inclusions.specs.Counts.{most_tags}
+use Rattle.pat_inclusion_spec.specs.Counts.{most_tags}
 use Rattle.pat_linear.proofs.StarSteps.{star_room, star_turn, star_refused}
 use Rattle.pat_linear.proofs.stars.star.Goals as goal
 

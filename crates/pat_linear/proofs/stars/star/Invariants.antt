@@ -1,4 +1,4 @@
-use Rattle.pat_inclusions.specs.Counts.{most_tags}
+use Rattle.pat_inclusion_spec.specs.Counts.{most_tags}
 use Rattle.pat_linear.specs.Views.{sets_view}
 use Rattle.pat_linear.proofs.StarSteps.{MadeSoFar}
 use Rattle.pat_linear.proofs.stars.star.Given as goal

@@ -1,6 +1,6 @@
 use Rattle.std.proofs.Common.{◌≡◌, [], drop, map}
-use Rattle.pat_inclusions.specs.Counts.{most_tags}
-use Rattle.pat_inclusions.specs.ClosedForms.{add_periods}
+use Rattle.pat_inclusion_spec.specs.Counts.{most_tags}
+use Rattle.pat_inclusion_spec.specs.ClosedForms.{add_periods}
 use Rattle.pat_linear.specs.Views.{words_of, sets_view}
 use Rattle.pat_linear.specs.WordSets.{base_of}
 use Rattle.pat_linear.proofs.stars.star_of_words.Given as goal

@@ -1,6 +1,6 @@
 use Rattle.std.proofs.Common.{◌++◌, ◌∷◌, [], None, ap, sym, ◌∙◌, add-one}
-use Rattle.pat_commits.specs.Lendings.{Out, all_in}
-use Rattle.pat_commit_laws.proofs.Takings.{all_in_more}
+use Rattle.pat_machine_spec.specs.Lendings.{Out, all_in}
+use Rattle.pat_machine_laws.proofs.Takings.{all_in_more}
 use Rattle.pat_machine.proofs.parts.nobody_out.Goals as goal
 
 pub loop-preserved : goal.loop-preserved

@@ -1,5 +1,5 @@
 use Rattle.std.proofs.Common.{◌≡◌}
-use Rattle.pat_commits.specs.Lendings.{all_in}
+use Rattle.pat_machine_spec.specs.Lendings.{all_in}
 use Rattle.pat_machine.proofs.parts.nobody_out.Given as goal
 
 -- nobody is out so far

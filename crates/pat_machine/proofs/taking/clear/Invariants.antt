@@ -1,5 +1,5 @@
 use Rattle.std.proofs.Common.{◌≡◌, ◌++◌, drop, length}
-use Rattle.pat_commits.specs.Lendings.{all_in}
+use Rattle.pat_machine_spec.specs.Lendings.{all_in}
 use Rattle.pat_machine.proofs.taking.clear.Given as goal
 
 -- up to here nobody is out

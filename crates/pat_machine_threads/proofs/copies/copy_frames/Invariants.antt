@@ -1,5 +1,5 @@
 use Rattle.std.proofs.Common.{◌≡◌, ◌++◌, drop, map, reverse}
-use Rattle.pat_reduce_threads.specs.ThreadViews.{frame_view}
+use Rattle.pat_reduce.specs.threads.ThreadViews.{frame_view}
 use Rattle.pat_machine_threads.proofs.copies.copy_frames.Given as goal
 
 -- what is left, the other way round, on top of the copies so far

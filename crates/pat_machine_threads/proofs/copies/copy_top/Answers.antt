@@ -1,5 +1,5 @@
 use Rattle.std.proofs.Common.{map, ap, ◌∙◌}
-use Rattle.pat_reduce_threads.specs.ThreadViews.{frame_view}
+use Rattle.pat_reduce.specs.threads.ThreadViews.{frame_view}
 use Rattle.pat_machine_threads.proofs.Sames.{same_top}
 use Rattle.pat_machine_threads.proofs.copies.copy_top.Goals as goal
 

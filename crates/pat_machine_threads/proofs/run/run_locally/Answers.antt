@@ -1,8 +1,8 @@
 use Rattle.std.proofs.Common.{◌≡◌, Some, subst, sym, add-one}
-use Rattle.pat_reduce_threads.specs.Views.{program_view}
-use Rattle.pat_reduce_threads.specs.ThreadViews.{thread_view}
-use Rattle.pat_commits.specs.Commits.{locally}
-use Rattle.pat_commit_laws.proofs.Locals.{one_more_local}
+use Rattle.pat_reduce.specs.threads.Views.{program_view}
+use Rattle.pat_reduce.specs.threads.ThreadViews.{thread_view}
+use Rattle.pat_machine_spec.specs.Commits.{locally}
+use Rattle.pat_machine_laws.proofs.Locals.{one_more_local}
 use Rattle.pat_machine_threads.proofs.run.run_locally.Goals as goal
 
 pub loop-steps-preserved : goal.loop-steps-preserved

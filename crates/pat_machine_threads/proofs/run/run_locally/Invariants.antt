@@ -1,7 +1,7 @@
 use Rattle.std.proofs.Common.{◌≡◌, Some}
-use Rattle.pat_reduce_threads.specs.Views.{program_view}
-use Rattle.pat_reduce_threads.specs.ThreadViews.{thread_view}
-use Rattle.pat_commits.specs.Commits.{locally}
+use Rattle.pat_reduce.specs.threads.Views.{program_view}
+use Rattle.pat_reduce.specs.threads.ThreadViews.{thread_view}
+use Rattle.pat_machine_spec.specs.Commits.{locally}
 use Rattle.pat_machine_threads.proofs.run.run_locally.Given as goal
 
 -- the steps so far led here

@@ -1,4 +1,4 @@
-use Rattle.pat_reduce_threads.specs.ThreadViews.{frame_view}
+use Rattle.pat_reduce.specs.threads.ThreadViews.{frame_view}
 use Rattle.pat_machine_threads.proofs.Sames.{same_at}
 use Rattle.pat_machine_threads.proofs.same.are_same_frames.Goals as goal
 

@@ -1,5 +1,5 @@
 use Rattle.std.proofs.Common.{◌≡◌, take, length, map}
-use Rattle.pat_reduce_threads.specs.ThreadViews.{frame_view}
+use Rattle.pat_reduce.specs.threads.ThreadViews.{frame_view}
 use Rattle.pat_machine_threads.proofs.same.are_same_frames.Given as goal
 
 -- so far they are the same

@@ -1,7 +1,7 @@
 use Rattle.std.proofs.Common.{take, ap, ◌∙◌}
 use Rattle.std.proofs.lemmas.List.{take-map}
-use Rattle.pat_model.specs.Configs.{Thread}
-use Rattle.pat_reduce_threads.specs.ThreadViews.{frame_view}
+use Rattle.pat_semantics_spec.specs.Configs.{Thread}
+use Rattle.pat_reduce.specs.threads.ThreadViews.{frame_view}
 use Rattle.pat_machine_threads.proofs.Sames.{same_reversed, same_upright, same_top}
 use Rattle.pat_machine_threads.proofs.same.is_top.Goals as goal
 

@@ -1,6 +1,6 @@
 use Rattle.std.proofs.Common.{◌≡◌, drop}
-use Rattle.pat_model.specs.Programs.{keep}
-use Rattle.pat_reduce_threads.specs.Views.{program_view}
+use Rattle.pat_semantics_spec.specs.Programs.{keep}
+use Rattle.pat_reduce.specs.threads.Views.{program_view}
 use Rattle.pat_reduce_values.specs.ValueViews.{env_view}
 use Rattle.pat_machine_threads.proofs.settling.are_free.Given as goal
 

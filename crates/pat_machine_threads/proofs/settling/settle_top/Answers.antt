@@ -1,5 +1,5 @@
-use Rattle.pat_reduce_threads.specs.Views.{program_view}
-use Rattle.pat_reduce_threads.specs.ThreadViews.{thread_view}
+use Rattle.pat_reduce.specs.threads.Views.{program_view}
+use Rattle.pat_reduce.specs.threads.ThreadViews.{thread_view}
 use Rattle.pat_machine_threads.proofs.Settlings.{begun_runs, uncovered_begins, run_on_those}
 use Rattle.pat_machine_threads.proofs.settling.settle_top.Goals as goal
 

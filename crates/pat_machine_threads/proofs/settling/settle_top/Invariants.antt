@@ -1,6 +1,6 @@
 use Rattle.std.proofs.Common.{◌-◌, length}
-use Rattle.pat_reduce_threads.specs.Views.{program_view}
-use Rattle.pat_reduce_threads.specs.ThreadViews.{thread_view}
+use Rattle.pat_reduce.specs.threads.Views.{program_view}
+use Rattle.pat_reduce.specs.threads.ThreadViews.{thread_view}
 use Rattle.pat_machine_threads.specs.Settling.{IsRunOn}
 use Rattle.pat_machine_threads.proofs.settling.settle_top.Given as goal
 

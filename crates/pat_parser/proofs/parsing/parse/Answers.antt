@@ -1,7 +1,7 @@
 use Rattle.std.proofs.Common.{◌≤◌, ◌*◌, map, subst}
 use Rattle.std.specs.Prelude.{IfOk}
 use Rattle.std.proofs.lemmas.List.{length-map}
-use Rattle.pat_grammar_laws.specs.Counts.{tree_size}
+use Rattle.pat_parser_laws.specs.Counts.{tree_size}
 use Rattle.pat_syntax.specs.Views.{token_view}
 use Rattle.pat_tree.specs.Views.{tree_view}
 use Rattle.pat_parser.proofs.Answered.{answered, answered_tree, answered_unexpected, answered_too_deep, answered_size, answered_names}

@@ -1,6 +1,6 @@
 use Rattle.std.proofs.Common.{◌∙◌}
-use Rattle.pat_parser_states.specs.Views.{state_view}
-use Rattle.pat_parser_tokens.proofs.Steps.{taken, failed, fails_from_front}
+use Rattle.pat_parser.specs.states.Views.{state_view}
+use Rattle.pat_parser_phrases.proofs.Steps.{taken, failed, fails_from_front}
 use Rattle.pat_parser.proofs.parsing.read.Goals as goal
 
 pub returns-in_err-state-clause-read : goal.returns-in_err-state-clause-read

@@ -1,7 +1,7 @@
 use Rattle.std.proofs.Common.{◌≡◌, length}
-use Rattle.pat_grammar.specs.Machine as m
-use Rattle.pat_parser_tokens.specs.Answers.{answer}
-use Rattle.pat_parser_states.specs.Views.{state_view}
+use Rattle.pat_parser_spec.specs.Machine as m
+use Rattle.pat_parser_phrases.specs.tokens.Answers.{answer}
+use Rattle.pat_parser.specs.states.Views.{state_view}
 use Rattle.pat_parser.proofs.parsing.read.Given as goal
 
 -- the answer to what is left, in this state, is the one to all tokens

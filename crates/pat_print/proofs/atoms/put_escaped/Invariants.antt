@@ -1,5 +1,5 @@
 use Rattle.std.proofs.Common.{◌≡◌, ◌++◌, drop}
-use Rattle.pat_canonical.specs.Text.{quoted}
+use Rattle.pat_print_spec.specs.Text.{quoted}
 use Rattle.pat_print.proofs.atoms.put_escaped.Given as goal
 
 abbrev pub invariant-loop-byte : goal.invariant-loop-byte

@@ -1,4 +1,4 @@
-use Rattle.pat_canonical.specs.Canonical.{message_onto}
+use Rattle.pat_print_spec.specs.Canonical.{message_onto}
 use Rattle.pat_tree.specs.Views.{message_view}
 use Rattle.pat_print.proofs.Keeping.{message_keeps}
 use Rattle.pat_print.proofs.Lines.{list_put}

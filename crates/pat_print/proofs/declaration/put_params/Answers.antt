@@ -1,4 +1,4 @@
-use Rattle.pat_canonical.specs.Canonical.{param_onto}
+use Rattle.pat_print_spec.specs.Canonical.{param_onto}
 use Rattle.pat_tree.specs.Views.{param_view}
 use Rattle.pat_print.proofs.Keeping.{param_keeps}
 use Rattle.pat_print.proofs.Lines.{bracketed_list_put}

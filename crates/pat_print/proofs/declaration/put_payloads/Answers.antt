@@ -1,4 +1,4 @@
-use Rattle.pat_canonical.specs.Canonical.{type_onto}
+use Rattle.pat_print_spec.specs.Canonical.{type_onto}
 use Rattle.pat_tree.specs.Views.{type_view}
 use Rattle.pat_print.proofs.Keeping.{type_keeps}
 use Rattle.pat_print.proofs.Lines.{bracketed_list_put}

@@ -3,7 +3,7 @@ use Rattle.std.proofs.Common.{rules, ◌+◌, ap, ◌∙◌, map, drop, arith}
 use Rattle.std.proofs.lemmas.Grind.{common_steps}
 use Rattle.pat_tree.specs.declared.term.Form.TheViews.{the_lemmas}
 use Rattle.pat_tree.specs.Views.{span_view, name_view, pattern_view, term_at, term_view, clause_view}
-use Rattle.pat_grammar.specs.Trees.{listed}
+use Rattle.pat_parser_spec.specs.Trees.{listed}
 use Rattle.pat_print.proofs.Guards.{guard_view, guard_put}
 use Rattle.pat_print.proofs.Lines.{binding_is, let_step, clauses_more, receive_is}
 use Rattle.pat_print.proofs.term.+term.Goals as goal

@@ -1,6 +1,6 @@
 use Rattle.std.proofs.Common.{◌≡◌, ◌++◌, ◌≤◌, map, drop}
-use Rattle.pat_grammar.specs.Trees.{listed}
-use Rattle.pat_canonical.specs.Canonical.{term_onto, clauses_onto}
+use Rattle.pat_parser_spec.specs.Trees.{listed}
+use Rattle.pat_print_spec.specs.Canonical.{term_onto, clauses_onto}
 use Rattle.pat_tree.specs.declared.term.Term.{size-Term}
 use Rattle.pat_tree.specs.Views.{term_view, clause_view}
 use Rattle.pat_print.specs.Parts.{bytes_of}

@@ -1,4 +1,4 @@
-use Rattle.pat_canonical.specs.Canonical.{expr_onto}
+use Rattle.pat_print_spec.specs.Canonical.{expr_onto}
 use Rattle.pat_tree.specs.Views.{expr_view}
 use Rattle.pat_print.proofs.Keeping.{expr_keeps}
 use Rattle.pat_print.proofs.Lines.{bracketed_list_put}

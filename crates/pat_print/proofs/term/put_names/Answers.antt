@@ -1,4 +1,4 @@
-use Rattle.pat_canonical.specs.Canonical.{name_onto}
+use Rattle.pat_print_spec.specs.Canonical.{name_onto}
 use Rattle.pat_tree.specs.Views.{name_view}
 use Rattle.pat_print.proofs.Keeping.{name_keeps}
 use Rattle.pat_print.proofs.Lines.{bracketed_list_put}

@@ -1,6 +1,6 @@
 use Rattle.std.proofs.Common.{◌≡◌, drop, map}
-use Rattle.pat_model.specs.Configs.{has_pending}
-use Rattle.pat_reduce_threads.specs.ThreadViews.{message_view}
+use Rattle.pat_semantics_spec.specs.Configs.{has_pending}
+use Rattle.pat_reduce.specs.threads.ThreadViews.{message_view}
 use Rattle.pat_reduce.proofs.references.has_pending.Given as goal
 
 -- what is left decides it

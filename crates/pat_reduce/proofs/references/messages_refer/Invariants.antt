@@ -1,7 +1,7 @@
 use Rattle.std.proofs.Common.{◌≡◌, drop, map}
 use Rattle.std.specs.List.{list_any}
-use Rattle.pat_model.specs.Configs.{message_refers}
-use Rattle.pat_reduce_threads.specs.ThreadViews.{message_view}
+use Rattle.pat_semantics_spec.specs.Configs.{message_refers}
+use Rattle.pat_reduce.specs.threads.ThreadViews.{message_view}
 use Rattle.pat_reduce.proofs.references.messages_refer.Given as goal
 
 -- what is left decides it

@@ -1,5 +1,5 @@
 use Rattle.std.proofs.Common.{◌≡◌, drop}
-use Rattle.pat_model.specs.Configs.{other_refers}
+use Rattle.pat_semantics_spec.specs.Configs.{other_refers}
 use Rattle.pat_reduce.specs.Views.{threads_view}
 use Rattle.pat_reduce.proofs.references.other_refers.Given as goal
 

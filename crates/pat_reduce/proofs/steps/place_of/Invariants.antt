@@ -1,6 +1,6 @@
 use Rattle.std.proofs.Common.{◌≡◌, ◌++◌, nat_eq, take, drop}
 use Rattle.std.specs.Map.{lookup, set_value, remove_entry}
-use Rattle.pat_model.specs.Configs.{Thread}
+use Rattle.pat_semantics_spec.specs.Configs.{Thread}
 use Rattle.pat_reduce.specs.Views.{threads_view}
 use Rattle.pat_reduce.proofs.steps.place_of.Given as goal
 

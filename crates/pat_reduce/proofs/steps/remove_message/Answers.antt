@@ -1,8 +1,8 @@
 use Rattle.std.proofs.Common.{rules, ap, ◌∙◌, not, nat_eq, map}
 use Rattle.std.specs.Prelude.{filter}
 use Rattle.std.proofs.lemmas.Fn.{filter_same}
-use Rattle.pat_reduce_threads.specs.declared.state.Message.{Message}
-use Rattle.pat_reduce_threads.specs.ThreadViews.{message_view}
+use Rattle.pat_reduce.specs.declared.threads.state.Message.{Message}
+use Rattle.pat_reduce.specs.threads.ThreadViews.{message_view}
 use Rattle.pat_reduce_values.proofs.Finds.{filter_map_same}
 use Rattle.pat_reduce.proofs.steps.remove_message.Goals as goal
 

@@ -1,5 +1,5 @@
-use Rattle.pat_model.specs.Configs.{start}
-use Rattle.pat_model.specs.Runs.{replay}
+use Rattle.pat_semantics_spec.specs.Configs.{start}
+use Rattle.pat_semantics_spec.specs.Runs.{replay}
 use Rattle.std.proofs.Common.{map}
 use Rattle.pat_core.specs.Views.{program_view}
 use Rattle.pat_reduce.specs.Views.{config_view, entry_view}

@@ -1,9 +1,9 @@
 use Rattle.std.proofs.Common.{◌≡◌, ℕ, ◌+◌, drop, map}
-use Rattle.pat_model.specs.Configs.{start}
-use Rattle.pat_model.specs.Runs.{replay, replay_from}
+use Rattle.pat_semantics_spec.specs.Configs.{start}
+use Rattle.pat_semantics_spec.specs.Runs.{replay, replay_from}
 use Rattle.pat_core.specs.Views.{program_view}
 use Rattle.pat_reduce.specs.Views.{config_view, entry_view}
-use Rattle.pat_commits.specs.Refusals.{IsRefusedAt}
+use Rattle.pat_machine_spec.specs.Refusals.{IsRefusedAt}
 use Rattle.pat_replay.specs.Replays.{HasTaken}
 use Rattle.pat_replay.proofs.replaying.replay.Given as goal
 

@@ -1,6 +1,6 @@
 use Rattle.pat_core.specs.Views.{program_view}
 use Rattle.pat_reduce.specs.Views.{config_view}
-use Rattle.pat_commits.specs.Commits.{local_of}
+use Rattle.pat_machine_spec.specs.Commits.{local_of}
 use Rattle.pat_replay.proofs.Entries.{one_more}
 use Rattle.pat_replay.proofs.replaying.take_locals.Goals as goal
 

@@ -1,9 +1,9 @@
 use Rattle.std.proofs.Common.{◌≡◌, Some}
 use Rattle.std.specs.Prelude.{replicate}
-use Rattle.pat_model.specs.Runs.{run_from}
+use Rattle.pat_semantics_spec.specs.Runs.{run_from}
 use Rattle.pat_core.specs.Views.{program_view}
 use Rattle.pat_reduce.specs.Views.{config_view}
-use Rattle.pat_commits.specs.Commits.{local_of}
+use Rattle.pat_machine_spec.specs.Commits.{local_of}
 use Rattle.pat_replay.proofs.replaying.take_locals.Given as goal
 
 -- so many local steps have led here

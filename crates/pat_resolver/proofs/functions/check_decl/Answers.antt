@@ -1,11 +1,11 @@
 use Rattle.std.proofs.Common.{◌<◌, List, [], ◌∷◌, sym, subst, append-nil}
-use Rattle.pat_grammar_laws.specs.Counts.{decl_size}
-use Rattle.pat_names.specs.Heads.{definitions_of}
-use Rattle.pat_names.specs.Findings.{bodies_findings}
+use Rattle.pat_parser_laws.specs.Counts.{decl_size}
+use Rattle.pat_resolver_spec.specs.Heads.{definitions_of}
+use Rattle.pat_resolver_spec.specs.Findings.{bodies_findings}
 use Rattle.pat_tree.specs.Views.{decl_view, name_view}
 use Rattle.pat_tree.specs.declared.tree.Decl.{Decl}
 use Rattle.pat_tree.specs.declared.tree.Param.{Param}
-use Rattle.pat_resolver_answers.specs.Results.{Meets}
+use Rattle.pat_resolver_heads.specs.results.Results.{Meets}
 use Rattle.pat_resolver_heads.specs.Names.{names_view}
 use Rattle.pat_resolver_heads.specs.Views.{heads_view}
 use Rattle.pat_resolver.specs.Steps.{definition_view, body_findings}

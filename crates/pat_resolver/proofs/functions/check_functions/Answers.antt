@@ -1,11 +1,11 @@
 use Rattle.std.proofs.Common.{◌≡◌, ◌+◌, ◌∷◌, [], List, drop, map, ap, sym, ◌∙◌, subst, arith}
 use Rattle.std.proofs.lemmas.Result.{err_from_is_err_and}
-use Rattle.pat_names.specs.Heads.{definitions_of}
-use Rattle.pat_names.specs.Findings.{bodies_findings}
+use Rattle.pat_resolver_spec.specs.Heads.{definitions_of}
+use Rattle.pat_resolver_spec.specs.Findings.{bodies_findings}
 use Rattle.pat_tree.specs.Views.{decl_view}
 use Rattle.pat_tree.specs.declared.tree.Decl.{Decl}
-use Rattle.pat_resolver_answers.specs.Results.{first_of}
-use Rattle.pat_resolver_answers.proofs.Firsts.{refused}
+use Rattle.pat_resolver_heads.specs.results.Results.{first_of}
+use Rattle.pat_resolver_heads.proofs.Firsts.{refused}
 use Rattle.pat_resolver_heads.specs.Names.{names_view}
 use Rattle.pat_resolver_heads.specs.Views.{heads_view}
 use Rattle.pat_resolver_bodies.proofs.Rows.{row_from}

@@ -1,8 +1,8 @@
 use Rattle.std.proofs.Common.{◌≡◌, [], drop, map}
-use Rattle.pat_names.specs.Heads.{definitions_of}
-use Rattle.pat_names.specs.Findings.{bodies_findings}
+use Rattle.pat_resolver_spec.specs.Heads.{definitions_of}
+use Rattle.pat_resolver_spec.specs.Findings.{bodies_findings}
 use Rattle.pat_tree.specs.Views.{decl_view}
-use Rattle.pat_resolver_answers.specs.Results.{first_of}
+use Rattle.pat_resolver_heads.specs.results.Results.{first_of}
 use Rattle.pat_resolver_heads.specs.Names.{names_view}
 use Rattle.pat_resolver_heads.specs.Views.{heads_view}
 use Rattle.pat_resolver.proofs.functions.check_functions.Given as goal

@@ -1,5 +1,5 @@
 use Rattle.std.proofs.Common.{◌<◌, subst}
-use Rattle.pat_grammar_laws.specs.Counts.{decl_size}
+use Rattle.pat_parser_laws.specs.Counts.{decl_size}
 use Rattle.pat_tree.specs.Views.{decl_view, name_view}
 use Rattle.pat_resolver.proofs.Room.{names_few}
 use Rattle.pat_resolver.proofs.functions.resolve_decl.Goals as goal

@@ -1,15 +1,15 @@
 use Rattle.std.proofs.Common.{◌≡◌, ◌+◌, ◌≤◌, [], ◌∷◌, length, drop, map, refl, ap, sym, ◌∙◌, subst, arith, List}
 use Rattle.std.proofs.lemmas.Result.{err_from_is_err_and}
-use Rattle.pat_names.specs.Heads.{definitions_of}
-use Rattle.pat_names.specs.Findings.{bodies_findings}
+use Rattle.pat_resolver_spec.specs.Heads.{definitions_of}
+use Rattle.pat_resolver_spec.specs.Findings.{bodies_findings}
 use Rattle.pat_core.specs.Views.{function_view, node_view}
 use Rattle.pat_tree.specs.Views.{decl_view}
 use Rattle.pat_tree.specs.declared.tree.Decl.{Decl}
-use Rattle.pat_resolver_answers.specs.Results.{first_of}
-use Rattle.pat_resolver_answers.proofs.Firsts.{refused}
+use Rattle.pat_resolver_heads.specs.results.Results.{first_of}
+use Rattle.pat_resolver_heads.proofs.Firsts.{refused}
 use Rattle.pat_resolver_heads.specs.Names.{names_view}
 use Rattle.pat_resolver_heads.specs.Views.{heads_view}
-use Rattle.pat_resolver_numbering.specs.declared.state.Numbering.{Numbering}
+use Rattle.pat_resolver.specs.declared.numbering.state.Numbering.{Numbering}
 use Rattle.pat_resolver_bodies.proofs.Rows.{row_from}
 use Rattle.pat_resolver.specs.Steps.{nodes_in_all}
 use Rattle.pat_resolver.proofs.Room.{nodes_few, decl_within, decls_within}

@@ -1,14 +1,14 @@
 use Rattle.std.proofs.Common.{◌≡◌, ◌+◌, ◌≤◌, ◌++◌, [], length, drop, map}
-use Rattle.pat_names.specs.Heads.{definitions_of}
-use Rattle.pat_names.specs.Findings.{bodies_findings}
-use Rattle.pat_names.specs.Numbering.{functions_from, nodes_from}
-use Rattle.pat_names.specs.Places.{function_places as written_places}
-use Rattle.pat_grammar_laws.specs.Counts.{tree_size}
+use Rattle.pat_resolver_spec.specs.Heads.{definitions_of}
+use Rattle.pat_resolver_spec.specs.Findings.{bodies_findings}
+use Rattle.pat_resolver_spec.specs.Numbering.{functions_from, nodes_from}
+use Rattle.pat_resolver_spec.specs.Places.{function_places as written_places}
+use Rattle.pat_parser_laws.specs.Counts.{tree_size}
 use Rattle.pat_core.specs.Views.{function_view, node_view}
 use Rattle.pat_core.specs.declared.program.Node.{Node}
 use Rattle.pat_tree.specs.Views.{decl_view, span_view}
-use Rattle.pat_resolver_answers.specs.Results.{first_of}
-use Rattle.pat_resolver_answers.specs.Views.{function_places}
+use Rattle.pat_resolver_heads.specs.results.Results.{first_of}
+use Rattle.pat_resolver_heads.specs.results.Views.{function_places}
 use Rattle.pat_resolver_heads.specs.Names.{names_view}
 use Rattle.pat_resolver_heads.specs.Views.{heads_view}
 use Rattle.pat_resolver.specs.Steps.{nodes_in_all}

@@ -1,12 +1,12 @@
 use Rattle.std.proofs.lemmas.Result.{err_from_is_err_and}
 use Rattle.std.proofs.Common.{List, [], ◌++◌, length, map, ap, subst, arith, append-nil}
 use Rattle.std.proofs.lemmas.List.{length-map}
-use Rattle.pat_names.specs.Heads.{interface_names}
-use Rattle.pat_names.specs.Findings.{heads_findings, main_findings, main_of}
+use Rattle.pat_resolver_spec.specs.Heads.{interface_names}
+use Rattle.pat_resolver_spec.specs.Findings.{heads_findings, main_findings, main_of}
 use Rattle.pat_tree.specs.Views.{tree_view, decl_view}
 use Rattle.pat_tree.specs.declared.tree.Decl.{Decl}
-use Rattle.pat_resolver_answers.specs.Results.{first_of, Refuses}
-use Rattle.pat_resolver_answers.proofs.Firsts.{refused, refuses_behind}
+use Rattle.pat_resolver_heads.specs.results.Results.{first_of, Refuses}
+use Rattle.pat_resolver_heads.proofs.Firsts.{refused, refuses_behind}
 use Rattle.pat_resolver_heads.proofs.Size.{within_size}
 use Rattle.pat_resolver.proofs.whole.heads_and_main.Goals as goal
 

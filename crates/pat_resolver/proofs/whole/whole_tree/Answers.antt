@@ -1,10 +1,10 @@
 use Rattle.std.proofs.lemmas.Result.{err_from_is_err_and}
 use Rattle.std.proofs.Common.{[], map, Err, ap, append-nil}
 use Rattle.pat_core.specs.declared.program.Program.{Program}
-use Rattle.pat_names.specs.Findings.{findings}
+use Rattle.pat_resolver_spec.specs.Findings.{findings}
 use Rattle.pat_tree.specs.Views.{tree_view, decl_view}
-use Rattle.pat_resolver_answers.specs.Results.{first_of}
-use Rattle.pat_resolver_answers.proofs.Firsts.{refused}
+use Rattle.pat_resolver_heads.specs.results.Results.{first_of}
+use Rattle.pat_resolver_heads.proofs.Firsts.{refused}
 use Rattle.pat_resolver_heads.specs.Names.{names_view}
 use Rattle.pat_resolver_heads.specs.Views.{heads_view}
 use Rattle.pat_resolver.proofs.Wholes.{meets_bodies}

@@ -1,15 +1,15 @@
 use Rattle.std.proofs.Common.{◌≡◌, ◌+◌, suc, ◌∷◌, ◌++◌, [], refl, ap, sym, ◌∙◌, length, length-append, map, drop, option_map, rules, arith}
-use Rattle.pat_grammar.specs.Trees.{LetTerm, IfTerm, GuardTerm, ReceiveClause, with_clause, listed}
-use Rattle.pat_names.specs.Findings.{binders_in, kind_of_term}
-use Rattle.pat_names.specs.Numbering.{vars_of, clauses_vars_of}
-use Rattle.pat_names.specs.Places.{var_places}
+use Rattle.pat_parser_spec.specs.Trees.{LetTerm, IfTerm, GuardTerm, ReceiveClause, with_clause, listed}
+use Rattle.pat_resolver_spec.specs.Findings.{binders_in, kind_of_term}
+use Rattle.pat_resolver_spec.specs.Numbering.{vars_of, clauses_vars_of}
+use Rattle.pat_resolver_spec.specs.Places.{var_places}
 use Rattle.pat_core.specs.declared.program.Kind.TheVariants as code
 use Rattle.pat_core.specs.Views.{kind_view}
-use Rattle.pat_resolver_tables.specs.Views.{scope_view}
+use Rattle.pat_resolver_heads.specs.tables.Views.{scope_view}
 use Rattle.pat_tree.specs.declared.term.Form.TheViews.{the_lemmas}
 use Rattle.pat_tree.specs.Views.{span_view, name_view, pattern_view, expr_view, term_at, term_view, clause_view}
 use Rattle.pat_resolver_heads.specs.Views.{heads_view}
-use Rattle.pat_resolver_answers.proofs.Firsts.{refuses_front, refuses_behind, meets_behind}
+use Rattle.pat_resolver_heads.proofs.Firsts.{refuses_front, refuses_behind, meets_behind}
 use Rattle.pat_resolver_bodies.specs.Needs.{needed, first_known, term_need, clauses_need}
 use Rattle.pat_resolver_bodies.specs.Seen.{seen_view}
 use Rattle.pat_resolver_bodies.specs.Steps.{clause_kind}

@@ -1,12 +1,12 @@
 use Rattle.std.proofs.Common.{◌≡◌, ◌+◌, ◌≤◌, ◌++◌, ◌||◌, length, map, drop, option_map, is_some}
-use Rattle.pat_model.specs.Values.{Kind}
-use Rattle.pat_grammar.specs.Trees.{listed}
-use Rattle.pat_names.specs.Findings.{term_findings, binders_in, kind_of_term, clauses_findings, clauses_binders_in, no_earlier, has_body}
-use Rattle.pat_names.specs.Numbering.{vars_of, clauses_vars_of}
-use Rattle.pat_names.specs.Places.{var_places, clauses_var_places}
+use Rattle.pat_semantics_spec.specs.Values.{Kind}
+use Rattle.pat_parser_spec.specs.Trees.{listed}
+use Rattle.pat_resolver_spec.specs.Findings.{term_findings, binders_in, kind_of_term, clauses_findings, clauses_binders_in, no_earlier, has_body}
+use Rattle.pat_resolver_spec.specs.Numbering.{vars_of, clauses_vars_of}
+use Rattle.pat_resolver_spec.specs.Places.{var_places, clauses_var_places}
 use Rattle.pat_core.specs.Views.{kind_view}
-use Rattle.pat_resolver_answers.specs.Results.{first_of}
-use Rattle.pat_resolver_tables.specs.Views.{scope_view}
+use Rattle.pat_resolver_heads.specs.results.Results.{first_of}
+use Rattle.pat_resolver_heads.specs.tables.Views.{scope_view}
 use Rattle.pat_tree.specs.Views.{span_view, term_view, clause_view}
 use Rattle.pat_tree.specs.declared.term.Term.{size-Term}
 use Rattle.pat_resolver_bodies.specs.Above.{IsAbove}

@@ -1,8 +1,8 @@
 use Rattle.std.proofs.Common.{◌+◌, ◌<◌, length, drop, map, arith}
-use Rattle.pat_model.specs.Programs.{kind_of}
-use Rattle.pat_names.specs.Findings.{args_findings}
+use Rattle.pat_semantics_spec.specs.Programs.{kind_of}
+use Rattle.pat_resolver_spec.specs.Findings.{args_findings}
 use Rattle.pat_core.specs.Views.{sort_view}
-use Rattle.pat_resolver_tables.specs.Views.{scope_view}
+use Rattle.pat_resolver_heads.specs.tables.Views.{scope_view}
 use Rattle.pat_tree.specs.Views.{expr_view}
 use Rattle.pat_resolver_bodies.proofs.Order.{stops, goes_on}
 use Rattle.pat_resolver_bodies.proofs.Rows.{row_from}

@@ -1,10 +1,10 @@
 use Rattle.std.proofs.Common.{◌≡◌, drop, map}
-use Rattle.pat_model.specs.Programs.{kind_of}
-use Rattle.pat_names.specs.Findings.{args_findings}
+use Rattle.pat_semantics_spec.specs.Programs.{kind_of}
+use Rattle.pat_resolver_spec.specs.Findings.{args_findings}
 use Rattle.pat_core.specs.Views.{sort_view}
-use Rattle.pat_resolver_tables.specs.Views.{scope_view}
+use Rattle.pat_resolver_heads.specs.tables.Views.{scope_view}
 use Rattle.pat_tree.specs.Views.{expr_view}
-use Rattle.pat_resolver_answers.specs.Results.{first_of}
+use Rattle.pat_resolver_heads.specs.results.Results.{first_of}
 use Rattle.pat_resolver_bodies.proofs.expressions.check_args.Given as goal
 
 -- what is found in the arguments that are left is what is found in all

@@ -1,7 +1,7 @@
 use Rattle.std.proofs.Common.{◌≡◌, [], ◌∷◌, ◌++◌, drop, map}
-use Rattle.pat_names.specs.Findings.{names_findings}
+use Rattle.pat_resolver_spec.specs.Findings.{names_findings}
 use Rattle.pat_tree.specs.Views.{name_view}
-use Rattle.pat_resolver_answers.specs.Results.{first_of}
+use Rattle.pat_resolver_heads.specs.results.Results.{first_of}
 use Rattle.pat_resolver_bodies.proofs.names.check_names.Given as goal
 
 -- what is found among the names that are left is what is found among all

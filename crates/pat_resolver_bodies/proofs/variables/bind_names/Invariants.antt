@@ -1,9 +1,9 @@
 use Rattle.std.proofs.Common.{◌≡◌, ◌+◌, ◌++◌, length, drop, map}
-use Rattle.pat_model.specs.Programs.{kind_of}
-use Rattle.pat_names.specs.Scopes.{bind_names}
-use Rattle.pat_names.specs.Numbering.{kinds_for}
+use Rattle.pat_semantics_spec.specs.Programs.{kind_of}
+use Rattle.pat_resolver_spec.specs.Scopes.{bind_names}
+use Rattle.pat_resolver_spec.specs.Numbering.{kinds_for}
 use Rattle.pat_core.specs.Views.{kind_view, sort_view}
-use Rattle.pat_resolver_tables.specs.Views.{scope_view}
+use Rattle.pat_resolver_heads.specs.tables.Views.{scope_view}
 use Rattle.pat_tree.specs.Views.{span_view, name_view}
 use Rattle.pat_resolver_bodies.proofs.variables.bind_names.Given as goal
 

@@ -1,9 +1,9 @@
 use Rattle.std.proofs.lemmas.Result.{err_from_is_err_and}
 use Rattle.std.proofs.Common.{ℕ, List, map, drop, [], ◌+◌, ◌∙◌, sym, ap}
-use Rattle.pat_names.specs.Findings.{heads_findings}
+use Rattle.pat_resolver_spec.specs.Findings.{heads_findings}
 use Rattle.pat_tree.specs.Views.{decl_view}
-use Rattle.pat_resolver_answers.specs.Results.{first_of}
-use Rattle.pat_resolver_answers.proofs.Firsts.{refused, passed, at_item}
+use Rattle.pat_resolver_heads.specs.results.Results.{first_of}
+use Rattle.pat_resolver_heads.proofs.Firsts.{refused, passed, at_item}
 use Rattle.pat_resolver_heads.specs.Names.{names_view}
 use Rattle.pat_resolver_heads.specs.Examined.{decl_findings, interfaces_with, functions_with}
 use Rattle.pat_resolver_heads.proofs.Checks.{heads_item}

@@ -1,9 +1,9 @@
 use Rattle.std.proofs.lemmas.Result.{err_from_is_err_and}
 use Rattle.std.proofs.Common.{ℕ, List, map, drop, [], ◌∷◌, ◌+◌, ap, ◌∙◌}
-use Rattle.pat_names.specs.Findings.{messages_findings}
+use Rattle.pat_resolver_spec.specs.Findings.{messages_findings}
 use Rattle.pat_tree.specs.Views.{message_view}
-use Rattle.pat_resolver_answers.specs.Results.{first_of}
-use Rattle.pat_resolver_answers.proofs.Firsts.{refused, passed, at_item}
+use Rattle.pat_resolver_heads.specs.results.Results.{first_of}
+use Rattle.pat_resolver_heads.proofs.Firsts.{refused, passed, at_item}
 use Rattle.pat_resolver_heads.specs.Names.{names_view}
 use Rattle.pat_resolver_heads.specs.Examined.{message_findings}
 use Rattle.pat_resolver_heads.proofs.check.check_messages.Goals as goal

@@ -1,7 +1,7 @@
 use Rattle.std.proofs.Common.{◌≡◌, map, drop, []}
-use Rattle.pat_names.specs.Findings.{messages_findings}
+use Rattle.pat_resolver_spec.specs.Findings.{messages_findings}
 use Rattle.pat_tree.specs.Views.{message_view}
-use Rattle.pat_resolver_answers.specs.Results.{first_of}
+use Rattle.pat_resolver_heads.specs.results.Results.{first_of}
 use Rattle.pat_resolver_heads.specs.Names.{names_view}
 use Rattle.pat_resolver_heads.proofs.check.check_messages.Given as goal
 

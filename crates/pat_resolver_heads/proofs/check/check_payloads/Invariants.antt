@@ -1,9 +1,9 @@
 use Rattle.std.proofs.Common.{◌≡◌, map, drop}
 use Rattle.std.specs.Prelude.{true}
 use Rattle.std.specs.List.{flat_map}
-use Rattle.pat_names.specs.Findings.{type_findings}
+use Rattle.pat_resolver_spec.specs.Findings.{type_findings}
 use Rattle.pat_tree.specs.Views.{type_view}
-use Rattle.pat_resolver_answers.specs.Results.{first_of}
+use Rattle.pat_resolver_heads.specs.results.Results.{first_of}
 use Rattle.pat_resolver_heads.specs.Names.{names_view}
 use Rattle.pat_resolver_heads.proofs.check.check_payloads.Given as goal
 

@@ -1,5 +1,5 @@
 use Rattle.std.proofs.Common.{◌≡◌, ◌≤◌, ◌++◌, map, drop, length}
-use Rattle.pat_names.specs.Heads.{interface_names}
+use Rattle.pat_resolver_spec.specs.Heads.{interface_names}
 use Rattle.pat_tree.specs.Views.{decl_view}
 use Rattle.pat_resolver_heads.specs.Names.{table_view}
 use Rattle.pat_resolver_heads.proofs.gather.gather_names.Given as goal

@@ -1,6 +1,6 @@
 use Rattle.std.proofs.Common.{◌≡◌, ◌++◌, map, drop}
-use Rattle.pat_names.specs.Heads.{interfaces_of}
-use Rattle.pat_names.specs.Places.{payload_places}
+use Rattle.pat_resolver_spec.specs.Heads.{interfaces_of}
+use Rattle.pat_resolver_spec.specs.Places.{payload_places}
 use Rattle.pat_core.specs.Views.{interface_view}
 use Rattle.pat_tree.specs.Views.{decl_view}
 use Rattle.pat_resolver_heads.specs.Names.{names_view}

@@ -1,5 +1,5 @@
 use Rattle.std.proofs.Common.{refl, List, ap, ◌∙◌, map}
-use Rattle.pat_names.specs.Heads.{sort_of}
+use Rattle.pat_resolver_spec.specs.Heads.{sort_of}
 use Rattle.pat_tree.specs.Views.{param_view}
 use Rattle.pat_tree.specs.declared.tree.Param.{Param}
 use Rattle.pat_resolver_heads.specs.Names.{names_view}

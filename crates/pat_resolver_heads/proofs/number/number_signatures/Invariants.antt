@@ -1,5 +1,5 @@
 use Rattle.std.proofs.Common.{◌≡◌, ◌≤◌, ◌++◌, map, drop, length}
-use Rattle.pat_names.specs.Heads.{signature_of, definitions_of}
+use Rattle.pat_resolver_spec.specs.Heads.{signature_of, definitions_of}
 use Rattle.pat_tree.specs.Views.{decl_view}
 use Rattle.pat_resolver_heads.specs.Names.{names_view}
 use Rattle.pat_resolver_heads.specs.Signatures.{signature_view}

@@ -1,9 +1,9 @@
 use Rattle.std.proofs.Common.{◌≡◌, map, take}
-use Rattle.pat_names.specs.Heads.{sort_of}
-use Rattle.pat_names.specs.Places.{type_place}
+use Rattle.pat_resolver_spec.specs.Heads.{sort_of}
+use Rattle.pat_resolver_spec.specs.Places.{type_place}
 use Rattle.pat_core.specs.Views.{sort_view}
 use Rattle.pat_tree.specs.Views.{type_view}
-use Rattle.pat_resolver_answers.specs.Views.{sort_place}
+use Rattle.pat_resolver_heads.specs.results.Views.{sort_place}
 use Rattle.pat_resolver_heads.specs.Names.{names_view}
 use Rattle.pat_resolver_heads.proofs.number.number_types.Given as goal
 

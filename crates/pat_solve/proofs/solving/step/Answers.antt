@@ -1,8 +1,8 @@
 use Rattle.std.proofs.Common.{◌≡◌, ◌∙◌, arith}
 use Rattle.std.proofs.lemmas.List.{length-map}
 use Rattle.pat_core.specs.Views.{interface_view, program_view}
-use Rattle.pat_inference.specs.Walk.{all_vars}
-use Rattle.pat_solving.specs.Assignments.{vars_in}
+use Rattle.pat_infer_spec.specs.Walk.{all_vars}
+use Rattle.pat_solve_spec.specs.Assignments.{vars_in}
 use Rattle.pat_solve.proofs.Steps.{step_stands, step_refusal}
 use Rattle.pat_solve.proofs.solving.step.Goals as goal
 

@@ -1,6 +1,6 @@
 use Rattle.std.proofs.Common.{rules, ◌≡◌, ◌+◌, ◌<◌, ◌∷◌, [], ◌++◌, List, length, map, sym, ap, ◌∙◌, subst, arith}
 use Rattle.std.proofs.lemmas.List.{length-map, length-append, map-append}
-use Rattle.pat_inclusions.specs.Certificates.{Cert}
+use Rattle.pat_inclusion_spec.specs.Certificates.{Cert}
 use Rattle.pat_derivations.specs.Views.{certs_view, line_view, lines_view}
 use Rattle.pat_solve_derivation.specs.Lines.{with_certs}
 use Rattle.pat_solve_derivation.proofs.Filling.{with_none, with_put}

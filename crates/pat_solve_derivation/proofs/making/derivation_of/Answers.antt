@@ -1,10 +1,10 @@
 use Rattle.std.proofs.Common.{sym, subst}
 use Rattle.std.proofs.lemmas.Result.{IfOk-weaker}
-use Rattle.pat_validity.specs.Validity.{IsValid}
-use Rattle.pat_solving.specs.Derived.{ValuesShow}
+use Rattle.pat_derivation_spec.specs.Validity.{IsValid}
+use Rattle.pat_solve_spec.specs.Derived.{ValuesShow}
 use Rattle.pat_core.specs.Views.{program_view}
 use Rattle.pat_derivations.specs.Views.{vars_view, derivation_view}
-use Rattle.pat_solve_answers.specs.Views.{forms_of}
+use Rattle.pat_solve_bounds.specs.results.Views.{forms_of}
 use Rattle.pat_solve_derivation.specs.Made.{IsDerived}
 use Rattle.pat_solve_derivation.proofs.Showing.{solution_shows, derived_valid}
 use Rattle.pat_solve_derivation.proofs.making.derivation_of.Goals as goal

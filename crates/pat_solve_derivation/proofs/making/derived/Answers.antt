@@ -1,8 +1,8 @@
 use Rattle.std.proofs.Common.{map, sym, subst}
 use Rattle.pat_core.specs.Views.{program_view}
-use Rattle.pat_validity.specs.Derivations.{Derivation}
+use Rattle.pat_derivation_spec.specs.Derivations.{Derivation}
 use Rattle.pat_derivations.specs.Views.{certs_view, vars_view, lines_view}
-use Rattle.pat_solve_answers.specs.Views.{forms_of}
+use Rattle.pat_solve_bounds.specs.results.Views.{forms_of}
 use Rattle.pat_solve_derivation.specs.Made.{IsDerived}
 use Rattle.pat_solve_derivation.proofs.Bare.{is_bare}
 use Rattle.pat_solve_derivation.proofs.Filling.{is_derived}

@@ -1,14 +1,14 @@
 use Rattle.std.proofs.Common.{◌≡◌, sym, ap, ◌∙◌, subst}
 use Rattle.std.specs.List.{AllByRecursion, flat_map}
 use Rattle.std.proofs.lemmas.Result.{IfOk-weaker}
-use Rattle.pat_validity.specs.Demands.{inclusions_of}
-use Rattle.pat_validity.specs.Conditions.{demands}
-use Rattle.pat_validity.specs.Truth.{place}
-use Rattle.pat_solving.specs.Derived.{AreCertsFor, needed_at}
+use Rattle.pat_derivation_spec.specs.Demands.{inclusions_of}
+use Rattle.pat_derivation_spec.specs.Conditions.{demands}
+use Rattle.pat_derivation_spec.specs.Truth.{place}
+use Rattle.pat_solve_spec.specs.Derived.{AreCertsFor, needed_at}
 use Rattle.pat_core.specs.Views.{node_view, function_view, program_view}
 use Rattle.pat_derivations.specs.Views.{certs_view, line_view, derivation_view}
-use Rattle.pat_demands_terms.specs.Views.{demands_view}
-use Rattle.pat_solve_certs.specs.Making.{scope_in, forms_in, IsMet}
+use Rattle.pat_obligations.specs.Views.{demands_view}
+use Rattle.pat_solve_derivation.specs.certificates.Making.{scope_in, forms_in, IsMet}
 use Rattle.pat_solve_derivation.proofs.Needing.{all_met, certs_needed}
 use Rattle.pat_solve_derivation.proofs.nodes.certs_at.Goals as goal
 

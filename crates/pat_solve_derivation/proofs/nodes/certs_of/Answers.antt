@@ -1,10 +1,10 @@
 use Rattle.std.proofs.Common.{◌≡◌, ◌<◌, length, sym, ◌∙◌, subst}
 use Rattle.std.proofs.lemmas.List.{length-map}
 use Rattle.std.proofs.lemmas.Result.{IfOk-weaker}
-use Rattle.pat_solving.specs.Derived.{AreCertsFor, needed_at}
+use Rattle.pat_solve_spec.specs.Derived.{AreCertsFor, needed_at}
 use Rattle.pat_core.specs.Views.{node_view, function_view, program_view}
 use Rattle.pat_derivations.specs.Views.{certs_view, line_view, derivation_view}
-use Rattle.pat_solve_certs.specs.Making.{scope_in, forms_in}
+use Rattle.pat_solve_derivation.specs.certificates.Making.{scope_in, forms_in}
 use Rattle.pat_solve_derivation.specs.Made.{HasCerts}
 use Rattle.pat_solve_derivation.proofs.Needing.{as_many_lines, function_within, has_certs}
 use Rattle.pat_solve_derivation.proofs.nodes.certs_of.Goals as goal

@@ -1,7 +1,7 @@
 use Rattle.std.proofs.Common.{map}
 use Rattle.pat_core.specs.Views.{program_view}
 use Rattle.pat_derivations.specs.Views.{certs_view, derivation_view}
-use Rattle.pat_solve_certs.specs.Making.{forms_in}
+use Rattle.pat_solve_derivation.specs.certificates.Making.{forms_in}
 use Rattle.pat_solve_derivation.specs.Made.{AreMadeTo}
 use Rattle.pat_solve_derivation.proofs.nodes.certs_of_each.Given as goal
 

@@ -1,7 +1,7 @@
 use Rattle.std.proofs.Common.{ℕ, ◌+◌, List}
-use Rattle.pat_words.specs.Patterns.{Pat}
-use Rattle.pat_bounds.specs.Assignments.{Constraint}
-use Rattle.pat_solve_renaming.specs.Systems.{picked}
+use Rattle.pat_words_spec.specs.Patterns.{Pat}
+use Rattle.pat_inclusion_spec.specs.bounds.Assignments.{Constraint}
+use Rattle.pat_solve_bounds.specs.renumbered.Systems.{picked}
 use Rattle.pat_solve_grids.specs.Findings.{AreFound}
 use Rattle.pat_solve_grids.specs.Laying.{AreReady}
 use Rattle.pat_solve_grids.specs.Views.{findings_view}

@@ -1,12 +1,12 @@
 use Rattle.std.proofs.Common.{◌-◌, [], take, drop, refl, ap, ◌∙◌, subst, arith}
 use Rattle.std.proofs.lemmas.Bool.{eq-eqb}
-use Rattle.pat_bounds.specs.Trees.{bounds_of}
-use Rattle.pat_bounds.specs.Layouts.{laid_all}
+use Rattle.pat_inclusion_spec.specs.bounds.Trees.{bounds_of}
+use Rattle.pat_inclusion_spec.specs.bounds.Layouts.{laid_all}
 use Rattle.pat_patterns.specs.Views.{patterns_view}
-use Rattle.pat_grid_symbols.specs.Views.{symbols_view}
-use Rattle.pat_solve_lowers.specs.Sides.{sides_list}
-use Rattle.pat_solve_renaming.specs.Renaming.{place_in, renamed}
-use Rattle.pat_solve_renaming.specs.Systems.{picked}
+use Rattle.pat_grid_points.specs.symbols.Views.{symbols_view}
+use Rattle.pat_solve_bounds.specs.lower_bounds.Sides.{sides_list}
+use Rattle.pat_solve_bounds.specs.renumbered.Renaming.{place_in, renamed}
+use Rattle.pat_solve_bounds.specs.renumbered.Systems.{picked}
 use Rattle.pat_solve_grids.specs.Findings.{AreFound}
 use Rattle.pat_solve_grids.specs.Laying.{laid_sides, all_places}
 use Rattle.pat_solve_grids.specs.Views.{findings_view}

@@ -1,6 +1,6 @@
 use Rattle.std.proofs.Common.{◌≡◌, ◌&&◌, drop}
-use Rattle.pat_solve_lowers.specs.Sides.{sides_list}
-use Rattle.pat_solve_renaming.specs.Systems.{picked}
+use Rattle.pat_solve_bounds.specs.lower_bounds.Sides.{sides_list}
+use Rattle.pat_solve_bounds.specs.renumbered.Systems.{picked}
 use Rattle.pat_solve_grids.specs.Rights.{all_flat}
 use Rattle.pat_solve_grids.proofs.bounds.are_flat.Given as goal
 

@@ -1,7 +1,7 @@
 use Rattle.std.proofs.Common.{◌≡◌, ◌≤◌, ◌-◌, ◌^◌, min, drop}
 use Rattle.std.specs.Prelude.{max}
-use Rattle.pat_solve_lowers.specs.Sides.{sides_list}
-use Rattle.pat_solve_renaming.specs.Systems.{picked}
+use Rattle.pat_solve_bounds.specs.lower_bounds.Sides.{sides_list}
+use Rattle.pat_solve_bounds.specs.renumbered.Systems.{picked}
 use Rattle.pat_solve_grids.specs.Rights.{greatest}
 use Rattle.pat_solve_grids.proofs.bounds.greatest_degree.Given as goal
 

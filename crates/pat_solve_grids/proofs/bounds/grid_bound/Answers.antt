@@ -1,8 +1,8 @@
 use Rattle.std.proofs.Common.{rules, ◌≡◌, ◌+◌, ◌<◌, ◌≤◌, ◌-◌, ◌^◌, true, false, [], refl, ap}
 use Rattle.std.specs.Prelude.{get_or}
-use Rattle.pat_inclusions.specs.Points.{grid_fits}
-use Rattle.pat_solve_lowers.specs.Sides.{sides_list}
-use Rattle.pat_solve_renaming.specs.Systems.{picked}
+use Rattle.pat_inclusion_spec.specs.Points.{grid_fits}
+use Rattle.pat_solve_bounds.specs.lower_bounds.Sides.{sides_list}
+use Rattle.pat_solve_bounds.specs.renumbered.Systems.{picked}
 use Rattle.pat_solve_grids.specs.Rights.{all_flat}
 use Rattle.pat_solve_grids.proofs.Whole.{out_of_bounds, bound_is, bounded_by, not_bounded, too_great}
 use Rattle.pat_solve_grids.proofs.bounds.grid_bound.Goals as goal

@@ -1,11 +1,11 @@
 use Rattle.std.proofs.Common.{◌≡◌, true, ap, subst, sym, length}
-use Rattle.pat_bounds.specs.Trees.{bounds_of}
+use Rattle.pat_inclusion_spec.specs.bounds.Trees.{bounds_of}
 use Rattle.std.specs.List.{AllByRecursion}
-use Rattle.pat_words.specs.Tags.{tags_below}
+use Rattle.pat_words_spec.specs.Tags.{tags_below}
 use Rattle.pat_patterns.specs.Views.{patterns_view}
-use Rattle.pat_solve_lowers.specs.Sides.{sides_list}
-use Rattle.pat_solve_renaming.specs.Renaming.{place_in, renamed}
-use Rattle.pat_solve_renaming.specs.Systems.{picked}
+use Rattle.pat_solve_bounds.specs.lower_bounds.Sides.{sides_list}
+use Rattle.pat_solve_bounds.specs.renumbered.Renaming.{place_in, renamed}
+use Rattle.pat_solve_bounds.specs.renumbered.Systems.{picked}
 use Rattle.pat_solve_grids.specs.Findings.{AreFound}
 use Rattle.pat_solve_grids.specs.Least.{AreLeastOf}
 use Rattle.pat_solve_grids.specs.Views.{findings_view}

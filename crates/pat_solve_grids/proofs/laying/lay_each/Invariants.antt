@@ -1,8 +1,8 @@
 use Rattle.std.proofs.Common.{◌≡◌, ◌++◌, drop}
-use Rattle.pat_grid_symbols.specs.Views.{symbols_view}
-use Rattle.pat_solve_lowers.specs.Sides.{sides_list}
-use Rattle.pat_solve_renaming.specs.Renaming.{place_in, renamed}
-use Rattle.pat_solve_renaming.specs.Systems.{picked}
+use Rattle.pat_grid_points.specs.symbols.Views.{symbols_view}
+use Rattle.pat_solve_bounds.specs.lower_bounds.Sides.{sides_list}
+use Rattle.pat_solve_bounds.specs.renumbered.Renaming.{place_in, renamed}
+use Rattle.pat_solve_bounds.specs.renumbered.Systems.{picked}
 use Rattle.pat_solve_grids.specs.Laying.{laid_sides, all_places}
 use Rattle.pat_solve_grids.proofs.laying.lay_each.Given as goal
 

@@ -7,7 +7,7 @@ use Rattle.pat_reduce.specs.declared.history.Entry.{Entry}
 use Rattle.pat_machine.specs.declared.job.Named.{Named}
 use Rattle.pat_machine.specs.Shown.{Shown}
 use Rattle.pat_turn.specs.Shown.{ShownPass, ShownTurn, AreAll, IsOfAll}
-use Rattle.pat_turn_machine.specs.Holds.{worker_of}
+use Rattle.pat_workers.specs.turns.Holds.{worker_of}
 use Rattle.pat_workers.specs.declared.serving.Worker.{Worker}
 use Rattle.pat_workers.specs.Workers.{IsReady}
 use Rattle.pat_workers.specs.Runs.{RunGives}

@@ -2,7 +2,7 @@ use Rattle.std.proofs.Common.{ℕ, List, Result, Ok, Err, ap, sym, subst}
 use Rattle.pat_machine.specs.declared.job.Receipt.{Receipt}
 use Rattle.pat_machine.specs.declared.job.CommitRefused.{CommitRefused}
 use Rattle.pat_machine.specs.declared.job.CommitRefused.TheVariants.{NotOut, NoMemory}
-use Rattle.pat_turn_machine.specs.Holds.{CommittingGives}
+use Rattle.pat_workers.specs.turns.Holds.{CommittingGives}
 use Rattle.pat_workers.specs.Receipts.{AreReceiptsOf}
 use Rattle.pat_workers.proofs.Holding.{after_commit, after_refusal}
 use Rattle.pat_workers.proofs.serving.commit.Goals as goal

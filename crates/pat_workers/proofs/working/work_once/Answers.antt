@@ -1,5 +1,5 @@
 use Rattle.std.proofs.Common.{false}
-use Rattle.pat_turn_machine.specs.declared.machines.Taken.TheVariants as given
+use Rattle.pat_workers.specs.declared.turns.machines.Taken.TheVariants as given
 use Rattle.pat_workers.proofs.Rounds.{round_of}
 use Rattle.pat_workers.proofs.working.work_once.Goals as goal
 

@@ -3,7 +3,7 @@ use Rattle.pat_core.specs.Views.{program_view}
 use Rattle.pat_reduce.specs.declared.history.Entry.{Entry}
 use Rattle.pat_machine.specs.declared.job.Named.{Named}
 use Rattle.pat_turn.specs.Shown.{GoesOn}
-use Rattle.pat_turn_machine.specs.Holds.{worker_of, IsHold}
+use Rattle.pat_workers.specs.turns.Holds.{worker_of, IsHold}
 use Rattle.pat_board.specs.Advances.{AdvanceGives}
 use Rattle.pat_board.specs.Advancing.{Advances}
 use Rattle.pat_board.proofs.Seats.{found_name}

@@ -1,7 +1,7 @@
 use Rattle.std.proofs.Common.{sym, subst}
 use Rattle.pat_machine.specs.Shown.{Shown}
 use Rattle.pat_turn.specs.Shown.{AreAll, IsOfAll}
-use Rattle.pat_turn_machine.specs.Holds.{worker_of}
+use Rattle.pat_workers.specs.turns.Holds.{worker_of}
 use Rattle.pat_board.proofs.Seats.{seats_are_all}
 use Rattle.pat_board.proofs.Seen.{back_none_out}
 use Rattle.pat_board.proofs.board.Board.close.Goals as goal

@@ -5,7 +5,7 @@ use Rattle.std.specs.Prelude.{IfOk}
 use Rattle.pat_reduce.specs.declared.history.Entry.{Entry}
 use Rattle.pat_reduce.specs.Views.{config_view}
 use Rattle.pat_machine.specs.declared.job.Named.{Named}
-use Rattle.pat_turn_machine.specs.Holds.{worker_of, IsHold}
+use Rattle.pat_workers.specs.turns.Holds.{worker_of, IsHold}
 use Rattle.pat_board.specs.Seats.{LeadsTo}
 use Rattle.pat_board.proofs.Seats.{found_name}
 use Rattle.pat_board.proofs.Seen.{looked, read_leads}

@@ -1,5 +1,5 @@
 use Rattle.std.proofs.Common.{◌≡◌, ◌<◌, ◌∙◌, true, false, get_or, length, sym, subst}
-use Rattle.pat_words.specs.Cuts.{cut_at}
+use Rattle.pat_words_spec.specs.Cuts.{cut_at}
 use Rattle.pat_bags.specs.Views.{word_of}
 use Rattle.pat_grid_points.proofs.Sets.{number_room, holds_just}
 use Rattle.pat_grid_points.proofs.grid.Grid.holds.Goals as goal

@@ -1,5 +1,5 @@
 use Rattle.std.proofs.Common.{◌≡◌, ◌∙◌, ℕ, List, ap, sym, subst}
-use Rattle.pat_lexical.specs.Held.{IsHeld}
+use Rattle.pat_lexer_spec.specs.Held.{IsHeld}
 use Rattle.pat_lexer.specs.Lexed.{Lexed}
 use Rattle.pat_lexer.proofs.Holding.{holds, is_held}
 use Rattle.pat_lexer.proofs.lexer.Lexer.held.Goals as goal

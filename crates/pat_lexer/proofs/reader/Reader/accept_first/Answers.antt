@@ -3,7 +3,7 @@ use Rattle.std.proofs.lemmas.Bool.Decides.{nat_tests}
 use Rattle.std.proofs.lemmas.Str.{encode_ascii}
 use Rattle.std.specs.Char.{encode_utf8}
 use Rattle.unicode_ident.specs.Ident.{is_xid_start}
-use Rattle.pat_lexical.specs.Characters.{starts_name}
+use Rattle.pat_lexer_spec.specs.Characters.{starts_name}
 use Rattle.pat_lexer.specs.declared.unfinished.Unfinished.TheVariants.{Name}
 use Rattle.pat_lexer.specs.Progress.{Progress}
 use Rattle.pat_lexer.specs.Explains.{Explains}

@@ -1,6 +1,6 @@
 use Rattle.std.proofs.Common.{subst}
 use Rattle.pat_syntax.specs.Views.{kind_view}
-use Rattle.pat_lexer_fronts.specs.Spelled.{IsNameToken}
+use Rattle.pat_lexer.specs.fronts.Spelled.{IsNameToken}
 use Rattle.pat_lexer.specs.Ends.{EndsAt}
 use Rattle.pat_lexer.specs.Reads.{progress}
 use Rattle.pat_lexer.proofs.Slices.{moved}

@@ -1,5 +1,5 @@
 use Rattle.std.proofs.Common.{rules, ◌≡◌, ◌+◌, ◌∷◌, [], List, ℕ, ap, subst, ◌∙◌}
-use Rattle.pat_lexical.specs.Tokens.{Str}
+use Rattle.pat_lexer_spec.specs.Tokens.{Str}
 use Rattle.pat_lexer.specs.Progress.{Progress, Stands}
 use Rattle.pat_lexer.specs.Changes.{with_token}
 use Rattle.pat_lexer.specs.Reads.{progress}

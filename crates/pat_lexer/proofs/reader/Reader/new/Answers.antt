@@ -1,5 +1,5 @@
 use Rattle.std.proofs.Common.{refl, sym, subst, map}
-use Rattle.pat_lexical.specs.Divisions.{Reaches, here}
+use Rattle.pat_lexer_spec.specs.Divisions.{Reaches, here}
 use Rattle.pat_syntax.specs.Views.{token_view}
 use Rattle.pat_lexer.proofs.Standing.{stands_free}
 use Rattle.pat_lexer.proofs.reader.Reader.new.Goals as goal

@@ -1,6 +1,6 @@
 use Rattle.std.proofs.Common.{rules, ◌≡◌, ◌∷◌, [], ◌++◌, ℕ, get_or, ap, sym, ◌∙◌, append-nil}
 use Rattle.std.proofs.lemmas.Str.{IsUtf8-nil}
-use Rattle.pat_lexical.specs.Characters.{nothing}
+use Rattle.pat_lexer_spec.specs.Characters.{nothing}
 use Rattle.pat_lexer.specs.declared.unfinished.Unfinished.{Unfinished}
 use Rattle.pat_lexer.specs.declared.unfinished.Unfinished.TheVariants.{Nothing, Name, Integer, Str, Escape, Equals, Minus, Slash, Comment}
 use Rattle.pat_lexer.specs.Progress.{Progress, HasKind}

@@ -1,7 +1,7 @@
 use Rattle.std.proofs.Common.{rules, ◌≡◌, ◌-◌, ◌≤◌, ◌∷◌, [], ◌++◌, ℕ, true, get_or, ap, ◌∙◌, arith}
 use Rattle.std.proofs.lemmas.Bool.Decides.{nat_tests}
-use Rattle.pat_lexical.specs.Characters.{is_digit}
-use Rattle.pat_lexical.specs.Lexemes.{greatest}
+use Rattle.pat_lexer_spec.specs.Characters.{is_digit}
+use Rattle.pat_lexer_spec.specs.Lexemes.{greatest}
 use Rattle.pat_lexer.specs.declared.unfinished.Unfinished.TheVariants.{Integer}
 use Rattle.pat_lexer.specs.Progress.{Progress, HasKind}
 use Rattle.pat_lexer.specs.Changes.{with_piece}

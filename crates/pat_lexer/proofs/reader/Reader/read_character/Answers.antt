@@ -1,6 +1,6 @@
 use Rattle.std.proofs.Common.{rules, sym, subst}
 use Rattle.std.proofs.lemmas.Result.{err_from_is_err_and}
-use Rattle.pat_lexer_fronts.specs.Fronts.{IsCut, FrontIs}
+use Rattle.pat_lexer.specs.fronts.Fronts.{IsCut, FrontIs}
 use Rattle.pat_lexer.specs.Explains.{Explains}
 use Rattle.pat_lexer.specs.Reads.{progress}
 use Rattle.pat_lexer.proofs.Slices.{by_first, at_first}

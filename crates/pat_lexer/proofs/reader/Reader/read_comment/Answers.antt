@@ -1,8 +1,8 @@
 use Rattle.std.proofs.Common.{rules, ◌≡◌, ◌++◌, nat_lt, true, ℕ, take, drop, arith}
 use Rattle.std.proofs.lemmas.Bool.Decides.{nat_tests}
-use Rattle.pat_lexical.specs.Characters.{is_in_line}
-use Rattle.pat_lexical_laws.proofs.Runs.{Each-weaker}
-use Rattle.pat_lexer_fronts.specs.Bytes.{is_comment_byte}
+use Rattle.pat_lexer_spec.specs.Characters.{is_in_line}
+use Rattle.pat_lexer_laws.proofs.Runs.{Each-weaker}
+use Rattle.pat_lexer.specs.fronts.Bytes.{is_comment_byte}
 use Rattle.pat_lexer.specs.Reads.{progress}
 use Rattle.pat_lexer.proofs.Slices.{at_run, run_length, ascii_utf8}
 use Rattle.pat_lexer.proofs.Inside.{comment_passes}

@@ -1,5 +1,5 @@
 use Rattle.std.proofs.Common.{◌∷◌, get_or, sym, ◌∙◌}
-use Rattle.pat_lexical.specs.Divisions.{IsRefused, BadToken}
+use Rattle.pat_lexer_spec.specs.Divisions.{IsRefused, BadToken}
 use Rattle.pat_lexer.specs.Reads.{progress}
 use Rattle.pat_lexer.proofs.Slices.{by_first}
 use Rattle.pat_lexer.proofs.Inside.{escape_refused}

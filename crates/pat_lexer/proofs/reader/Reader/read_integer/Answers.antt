@@ -1,5 +1,5 @@
 use Rattle.std.proofs.Common.{rules, ◌++◌, take, drop}
-use Rattle.pat_lexical.specs.Divisions.{IsRefused, NumberTooWide}
+use Rattle.pat_lexer_spec.specs.Divisions.{IsRefused, NumberTooWide}
 use Rattle.pat_lexer.specs.Reads.{progress}
 use Rattle.pat_lexer.proofs.Slices.{at_run, by_run, moved}
 use Rattle.pat_lexer.proofs.Inside.{integer_held, integer_wide}

@@ -1,13 +1,13 @@
 use Rattle.std.proofs.Common.{rules, ◌≡◌, ◌==◌, ◌+◌, ◌⊎◌, inl, inr, ◌∷◌, ◌++◌, ℕ, true, false, [], length, get_or, ap, sym, subst, ◌∙◌, arith}
 use Rattle.std.proofs.lemmas.Bool.Decides.{nat_tests}
-use Rattle.pat_lexical.specs.Marks.{mark_bytes}
-use Rattle.pat_lexical.specs.Tokens.{Mark}
-use Rattle.pat_lexical.specs.Characters.{is_blank, is_digit}
-use Rattle.pat_lexical.specs.Divisions.{IsRefused, BadToken}
-use Rattle.pat_lexical_laws.proofs.Classes.{is_name_front, class_other}
-use Rattle.pat_lexical_laws.proofs.Faults.{no_mark}
+use Rattle.pat_lexer_spec.specs.Marks.{mark_bytes}
+use Rattle.pat_lexer_spec.specs.Tokens.{Mark}
+use Rattle.pat_lexer_spec.specs.Characters.{is_blank, is_digit}
+use Rattle.pat_lexer_spec.specs.Divisions.{IsRefused, BadToken}
+use Rattle.pat_lexer_laws.proofs.Classes.{is_name_front, class_other}
+use Rattle.pat_lexer_laws.proofs.Faults.{no_mark}
 use Rattle.pat_syntax.specs.Views.{mark_view}
-use Rattle.pat_lexer_fronts.specs.Bytes.{is_other}
+use Rattle.pat_lexer.specs.fronts.Bytes.{is_other}
 use Rattle.pat_lexer.specs.Progress.{Progress, Stands}
 use Rattle.pat_lexer.specs.Changes.{with_token}
 use Rattle.pat_lexer.specs.Reads.{progress}

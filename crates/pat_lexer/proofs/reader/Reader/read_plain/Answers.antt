@@ -1,8 +1,8 @@
 use Rattle.std.proofs.Common.{rules, ◌≡◌, ◌++◌, nat_lt, true, ℕ, List, take, drop, ap, ◌∙◌, arith}
 use Rattle.std.proofs.lemmas.Bool.Decides.{nat_tests}
-use Rattle.pat_lexical.specs.Characters.{is_plain}
-use Rattle.pat_lexical_laws.proofs.Runs.{Each-weaker}
-use Rattle.pat_lexer_fronts.specs.Bytes.{is_plain_ascii}
+use Rattle.pat_lexer_spec.specs.Characters.{is_plain}
+use Rattle.pat_lexer_laws.proofs.Runs.{Each-weaker}
+use Rattle.pat_lexer.specs.fronts.Bytes.{is_plain_ascii}
 use Rattle.pat_lexer.specs.Progress.{Progress}
 use Rattle.pat_lexer.specs.Changes.{with_held}
 use Rattle.pat_lexer.specs.Reads.{progress}

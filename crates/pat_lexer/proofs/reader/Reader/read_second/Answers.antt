@@ -1,6 +1,6 @@
 use Rattle.std.proofs.Common.{rules, ◌≡◌, ◌+◌, ◌==◌, not, false, [], ◌∷◌, List, get_or, ℕ, refl, subst, arith}
 use Rattle.std.proofs.lemmas.Bool.Decides.{nat_tests}
-use Rattle.pat_lexical.specs.Tokens.{Mark as MarkToken}
+use Rattle.pat_lexer_spec.specs.Tokens.{Mark as MarkToken}
 use Rattle.pat_syntax.specs.declared.mark.Mark.{Mark}
 use Rattle.pat_syntax.specs.declared.mark.Mark.TheVariants.{DoubleEquals, Arrow}
 use Rattle.pat_syntax.specs.Views.{mark_view}

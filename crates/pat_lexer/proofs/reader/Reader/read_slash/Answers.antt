@@ -1,6 +1,6 @@
 use Rattle.std.proofs.Common.{rules, ◌≡◌, ◌≢◌, ◌==◌, ◌+◌, ◌∷◌, ℕ, false, List, get_or, ap, subst, arith}
 use Rattle.std.proofs.lemmas.Bool.Decides.{nat_tests}
-use Rattle.pat_lexical.specs.Divisions.{IsRefused, BadToken}
+use Rattle.pat_lexer_spec.specs.Divisions.{IsRefused, BadToken}
 use Rattle.pat_lexer.specs.declared.unfinished.Unfinished.TheVariants.{Comment}
 use Rattle.pat_lexer.specs.Progress.{Progress, Stands}
 use Rattle.pat_lexer.specs.Reads.{progress}

@@ -1,8 +1,8 @@
 use Rattle.std.proofs.Common.{◌≡◌, ◌≤◌, ◌==◌, ◌∷◌, ℕ, false, get_or, arith}
 use Rattle.std.proofs.lemmas.Bool.Decides.{nat_tests}
-use Rattle.pat_lexical.specs.Characters.{is_plain}
-use Rattle.pat_lexical.specs.Divisions.{IsRefused, BadToken}
-use Rattle.pat_lexical_laws.proofs.Faults.{no_end_control}
+use Rattle.pat_lexer_spec.specs.Characters.{is_plain}
+use Rattle.pat_lexer_spec.specs.Divisions.{IsRefused, BadToken}
+use Rattle.pat_lexer_laws.proofs.Faults.{no_end_control}
 use Rattle.pat_lexer.specs.Reads.{progress}
 use Rattle.pat_lexer.proofs.Slices.{by_first}
 use Rattle.pat_lexer.proofs.Inside.{string_refused}

@@ -1,5 +1,5 @@
 use Rattle.std.proofs.Common.{◌++◌, sym, subst}
-use Rattle.pat_lexer_fronts.specs.Fronts.{FrontIs}
+use Rattle.pat_lexer.specs.fronts.Fronts.{FrontIs}
 use Rattle.pat_lexer.specs.Explains.{Explains}
 use Rattle.pat_lexer.specs.Reads.{progress}
 use Rattle.pat_lexer.proofs.Characters.{judged_refused, none_taken}

@@ -1,5 +1,5 @@
-use Rattle.pat_inclusions.specs.Counts.{most_tags}
-use Rattle.pat_inclusions.specs.ClosedForms.{set_product}
+use Rattle.pat_inclusion_spec.specs.Counts.{most_tags}
+use Rattle.pat_inclusion_spec.specs.ClosedForms.{set_product}
 use Rattle.pat_linear.specs.Views.{set_view}
 use Rattle.pat_linear.proofs.Multiplied.{each_multiplied}
 use Rattle.pat_linear.proofs.flat.Lists.multiply_each.Goals as goal

@@ -1,17 +1,17 @@
 use Rattle.std.proofs.Common.{◌≡◌, ◌+◌, ◌-◌, ◌≤◌, ℕ, true, List, map, refl, ap, sym, ◌∙◌, subst, arith, length}
 use Rattle.std.specs.Prelude.{option_map}
-use Rattle.pat_model.specs.Programs.{is_among}
-use Rattle.pat_model.specs.Runs.{Entry, entry_steps}
+use Rattle.pat_semantics_spec.specs.Programs.{is_among}
+use Rattle.pat_semantics_spec.specs.Runs.{Entry, entry_steps}
 use Rattle.pat_core.specs.Views.{program_view}
 use Rattle.pat_reduce.specs.declared.history.Entry.{Entry as CodeEntry}
 use Rattle.pat_reduce.specs.Views.{act_view, entry_view}
-use Rattle.pat_commits.specs.Commits.{IsCommit, noted}
-use Rattle.pat_commits.specs.Lendings.{Out, allowances, committed_out}
-use Rattle.pat_commits.specs.Machines.{MachineInvariant}
-use Rattle.pat_commit_laws.proofs.Runs.{commit_stands, commit_within}
-use Rattle.pat_commit_laws.proofs.Tables.{allowance_within, allowances_committed}
-use Rattle.pat_machine_following.proofs.Freed.{counts_tell}
-use Rattle.pat_machine_following.specs.Taking.{taken_act}
+use Rattle.pat_machine_spec.specs.Commits.{IsCommit, noted}
+use Rattle.pat_machine_spec.specs.Lendings.{Out, allowances, committed_out}
+use Rattle.pat_machine_spec.specs.Machines.{MachineInvariant}
+use Rattle.pat_machine_laws.proofs.Runs.{commit_stands, commit_within}
+use Rattle.pat_machine_laws.proofs.Tables.{allowance_within, allowances_committed}
+use Rattle.pat_machine_steps.proofs.Freed.{counts_tell}
+use Rattle.pat_machine_steps.specs.shared_steps.Taking.{taken_act}
 use Rattle.pat_machine.specs.Shown.{Shown, steps_in, noted_in, place_of}
 use Rattle.pat_machine.proofs.Lending.{part_lent}
 use Rattle.pat_machine.proofs.Finishing.{entry_of, noted_view, idle_so, commit_run}

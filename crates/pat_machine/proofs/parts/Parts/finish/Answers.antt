@@ -1,15 +1,15 @@
 use Rattle.std.proofs.Common.{◌-◌, ◌+◌, map, refl, sym, subst, length}
-use Rattle.pat_model.specs.Runs.{Entry, entry_steps}
+use Rattle.pat_semantics_spec.specs.Runs.{Entry, entry_steps}
 use Rattle.pat_core.specs.Views.{program_view}
 use Rattle.pat_reduce.specs.Views.{entry_view}
-use Rattle.pat_commits.specs.Commits.{noted}
-use Rattle.pat_commits.specs.Lendings.{committed_out}
-use Rattle.pat_commit_laws.proofs.Rooms.{room_of, half_typed}
-use Rattle.pat_reduce_threads.specs.ThreadViews.{thread_view}
+use Rattle.pat_machine_spec.specs.Commits.{noted}
+use Rattle.pat_machine_spec.specs.Lendings.{committed_out}
+use Rattle.pat_machine_laws.proofs.Rooms.{room_of, half_typed}
+use Rattle.pat_reduce.specs.threads.ThreadViews.{thread_view}
 use Rattle.pat_machine_threads.specs.Settling.{settled_thread}
-use Rattle.pat_machine_following.specs.Taking.{taken_act, taken_message}
-use Rattle.pat_machine_following.specs.Settling.{IsSettled, half_way, Finishes}
-use Rattle.pat_machine_following.proofs.Settled.{run_of, kept_is, settled_run, commit_of}
+use Rattle.pat_machine_steps.specs.shared_steps.Taking.{taken_act, taken_message}
+use Rattle.pat_machine_steps.specs.shared_steps.Settling.{IsSettled, half_way, Finishes}
+use Rattle.pat_machine_steps.proofs.Settled.{run_of, kept_is, settled_run, commit_of}
 use Rattle.pat_machine.specs.Shown.{program_of}
 use Rattle.pat_machine.specs.Parted.{shown}
 use Rattle.pat_machine.specs.Gives.{IsLent, Committed}

@@ -1,16 +1,16 @@
 use Rattle.std.proofs.Common.{◌≡◌, Some, ◌-◌, ◌+◌, map, refl, sym, subst, length}
-use Rattle.pat_model.specs.Runs.{Entry, entry_steps, run_from, shared_step}
+use Rattle.pat_semantics_spec.specs.Runs.{Entry, entry_steps, run_from, shared_step}
 use Rattle.pat_core.specs.Views.{program_view}
 use Rattle.pat_reduce.specs.Views.{entry_view}
-use Rattle.pat_commits.specs.Commits.{noted}
-use Rattle.pat_commits.specs.Lendings.{committed_out}
-use Rattle.pat_commit_laws.proofs.Rooms.{room_of}
-use Rattle.pat_commits.specs.Tops.{top_of}
-use Rattle.pat_commit_laws.proofs.Locals.{with_same}
-use Rattle.pat_commit_laws.proofs.Runs.{commit_stands}
-use Rattle.pat_machine_following.specs.Taking.{taken_act, taken_message}
-use Rattle.pat_machine_following.specs.Settling.{StandsStill}
-use Rattle.pat_machine_following.proofs.Settled.{commit_in_place}
+use Rattle.pat_machine_spec.specs.Commits.{noted}
+use Rattle.pat_machine_spec.specs.Lendings.{committed_out}
+use Rattle.pat_machine_laws.proofs.Rooms.{room_of}
+use Rattle.pat_machine_spec.specs.Tops.{top_of}
+use Rattle.pat_machine_laws.proofs.Locals.{with_same}
+use Rattle.pat_machine_laws.proofs.Runs.{commit_stands}
+use Rattle.pat_machine_steps.specs.shared_steps.Taking.{taken_act, taken_message}
+use Rattle.pat_machine_steps.specs.shared_steps.Settling.{StandsStill}
+use Rattle.pat_machine_steps.proofs.Settled.{commit_in_place}
 use Rattle.pat_machine.specs.Shown.{program_of}
 use Rattle.pat_machine.specs.Parted.{shown}
 use Rattle.pat_machine.specs.Gives.{IsLent, Committed}

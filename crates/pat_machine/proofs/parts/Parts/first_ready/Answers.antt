@@ -1,7 +1,7 @@
 use Rattle.std.proofs.Common.{ap, ◌∙◌}
 use Rattle.std.specs.Prelude.{find}
 use Rattle.pat_core.specs.Views.{program_view}
-use Rattle.pat_commits.specs.Turns.{is_ready}
+use Rattle.pat_machine_spec.specs.Turns.{is_ready}
 use Rattle.pat_machine.proofs.Naming.{told}
 use Rattle.pat_machine.proofs.parts.Parts.first_ready.Goals as goal
 

@@ -1,8 +1,8 @@
 use Rattle.std.proofs.Common.{map, arith}
 use Rattle.pat_core.specs.Views.{program_view}
 use Rattle.pat_reduce.specs.Views.{entry_view}
-use Rattle.pat_commit_laws.proofs.Tables.{allowances_without}
-use Rattle.pat_commit_laws.proofs.Takings.{give_back_stands}
+use Rattle.pat_machine_laws.proofs.Tables.{allowances_without}
+use Rattle.pat_machine_laws.proofs.Takings.{give_back_stands}
 use Rattle.pat_machine.proofs.Lending.{part_lent}
 use Rattle.pat_machine.proofs.parts.Parts.give_back.Goals as goal
 

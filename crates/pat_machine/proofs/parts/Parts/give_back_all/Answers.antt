@@ -1,9 +1,9 @@
 use Rattle.std.proofs.Common.{◌≡◌, ◌+◌, ℕ, map, ap, sym, ◌∙◌, subst, arith, length}
 use Rattle.pat_core.specs.Views.{program_view}
 use Rattle.pat_reduce.specs.Views.{entry_view}
-use Rattle.pat_commits.specs.Lendings.{Out, allowances}
-use Rattle.pat_commits.specs.Machines.{MachineInvariant}
-use Rattle.pat_commit_laws.proofs.Takings.{give_all_stands, all_in_already, nothing_lent}
+use Rattle.pat_machine_spec.specs.Lendings.{Out, allowances}
+use Rattle.pat_machine_spec.specs.Machines.{MachineInvariant}
+use Rattle.pat_machine_laws.proofs.Takings.{give_all_stands, all_in_already, nothing_lent}
 use Rattle.pat_machine.specs.Shown.{Shown}
 use Rattle.pat_machine.proofs.parts.Parts.give_back_all.Goals as goal
 

@@ -1,9 +1,9 @@
 use Rattle.std.proofs.Common.{◌≡◌, ◌<◌, min, None, Some, map, arith, subst, sym}
 use Rattle.pat_core.specs.Views.{program_view}
 use Rattle.pat_reduce.specs.Views.{entry_view}
-use Rattle.pat_commit_laws.proofs.Tables.{allowances_set}
-use Rattle.pat_commit_laws.proofs.Takings.{take_stands, thread_within, entry_within}
-use Rattle.pat_commit_laws.proofs.Ready.{ready_there}
+use Rattle.pat_machine_laws.proofs.Tables.{allowances_set}
+use Rattle.pat_machine_laws.proofs.Takings.{take_stands, thread_within, entry_within}
+use Rattle.pat_machine_laws.proofs.Ready.{ready_there}
 use Rattle.pat_machine.proofs.parts.Parts.lend.Goals as goal
 
 pub index_mut-requires : goal.index_mut-requires

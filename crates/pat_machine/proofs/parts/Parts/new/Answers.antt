@@ -1,14 +1,14 @@
 use Rattle.std.proofs.Common.{◌≡◌, List, [], map, ap, sym, ◌∙◌, subst}
-use Rattle.pat_model.specs.Configs.{Config, start}
-use Rattle.pat_model.specs.Runs.{Entry}
+use Rattle.pat_semantics_spec.specs.Configs.{Config, start}
+use Rattle.pat_semantics_spec.specs.Runs.{Entry}
 use Rattle.pat_core.specs.Views.{program_view}
 use Rattle.pat_reduce.specs.Views.{entry_view}
-use Rattle.pat_commits.specs.Lendings.{Out, all_in, allowances}
-use Rattle.pat_commits.specs.Machines.{MachineInvariant}
-use Rattle.pat_commit_laws.proofs.Takings.{start_stands, nothing_lent}
-use Rattle.pat_machine_waits.specs.Noted.{AreNoted}
-use Rattle.pat_machine_waits.proofs.Noting.{start_noted}
-use Rattle.pat_machine_following.specs.Counting.{AreCounted}
+use Rattle.pat_machine_spec.specs.Lendings.{Out, all_in, allowances}
+use Rattle.pat_machine_spec.specs.Machines.{MachineInvariant}
+use Rattle.pat_machine_laws.proofs.Takings.{start_stands, nothing_lent}
+use Rattle.pat_machine_indexes.specs.ready_sets.Noted.{AreNoted}
+use Rattle.pat_machine_indexes.proofs.Noting.{start_noted}
+use Rattle.pat_machine_steps.specs.wakeups.Counting.{AreCounted}
 use Rattle.pat_machine.proofs.Naming.{none_counted}
 use Rattle.pat_machine.proofs.parts.Parts.new.Goals as goal
 

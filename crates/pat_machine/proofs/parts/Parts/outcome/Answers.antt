@@ -1,7 +1,7 @@
 use Rattle.std.proofs.Common.{inl, sym, subst}
 use Rattle.pat_core.specs.Views.{program_view}
-use Rattle.pat_machine_waits.specs.Senders.{AreCandidates}
-use Rattle.pat_machine_waits.proofs.Noting.{candidates}
+use Rattle.pat_machine_indexes.specs.ready_sets.Senders.{AreCandidates}
+use Rattle.pat_machine_indexes.proofs.Noting.{candidates}
 use Rattle.pat_machine.proofs.Ending.{lent_out, stuck, full, spent, goes_on}
 use Rattle.pat_machine.proofs.Naming.{told}
 use Rattle.pat_machine.proofs.parts.Parts.outcome.Goals as goal

@@ -1,10 +1,10 @@
 use Rattle.std.proofs.Common.{Bool, None, sym, ap, ◌∙◌}
 use Rattle.std.specs.Prelude.{find, filter, if◌then◌else◌}
 use Rattle.pat_core.specs.Views.{program_view}
-use Rattle.pat_commits.specs.Turns.{is_above, is_ready}
-use Rattle.pat_machine_waits.specs.Senders.{lesser}
-use Rattle.pat_machine_waits.proofs.Senders.{lesser_alone}
-use Rattle.pat_machine_waits.proofs.Noting.{first_ready}
+use Rattle.pat_machine_spec.specs.Turns.{is_above, is_ready}
+use Rattle.pat_machine_indexes.specs.ready_sets.Senders.{lesser}
+use Rattle.pat_machine_indexes.proofs.Senders.{lesser_alone}
+use Rattle.pat_machine_indexes.proofs.Noting.{first_ready}
 use Rattle.pat_machine.proofs.parts.Parts.ready_above.Goals as goal
 
 pub above-requires : goal.above-requires

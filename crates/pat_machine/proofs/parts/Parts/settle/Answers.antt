@@ -1,9 +1,9 @@
 use Rattle.std.proofs.Common.{refl, ap, ◌∙◌, sym, subst}
 use Rattle.std.specs.Prelude.{option_map, option_copied}
 use Rattle.pat_core.specs.Views.{program_view}
-use Rattle.pat_reduce_threads.specs.ThreadViews.{thread_view}
-use Rattle.pat_commits.specs.Commits.{IsLocalRun}
-use Rattle.pat_machine_following.specs.Settling.{IsSettled}
+use Rattle.pat_reduce.specs.threads.ThreadViews.{thread_view}
+use Rattle.pat_machine_spec.specs.Commits.{IsLocalRun}
+use Rattle.pat_machine_steps.specs.shared_steps.Settling.{IsSettled}
 use Rattle.pat_machine_threads.proofs.Settlings.{run_on_enough}
 use Rattle.pat_machine.proofs.parts.Parts.settle.Goals as goal
 

@@ -1,8 +1,8 @@
 use Rattle.std.proofs.Common.{sym, ap, ◌∙◌}
 use Rattle.std.specs.Prelude.{option_map, option_copied}
 use Rattle.pat_core.specs.Views.{program_view}
-use Rattle.pat_reduce_threads.specs.ThreadViews.{thread_view}
-use Rattle.pat_reduce_threads.specs.GuardViews.{guard_view}
+use Rattle.pat_reduce.specs.threads.ThreadViews.{thread_view}
+use Rattle.pat_reduce.specs.threads.GuardViews.{guard_view}
 use Rattle.pat_machine.proofs.Guards.{guard_still}
 use Rattle.pat_machine.proofs.parts.Parts.stands_at_guard.Goals as goal
 

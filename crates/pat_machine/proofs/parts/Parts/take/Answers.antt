@@ -1,8 +1,8 @@
 use Rattle.std.proofs.Common.{◌≡◌, Some, None, inr, refl, sym, ◌∙◌, subst}
 use Rattle.pat_core.specs.Views.{program_view}
-use Rattle.pat_commits.specs.Turns.{turn, IsTurn}
-use Rattle.pat_commit_laws.proofs.Ready.{turn_ready, turn_none}
-use Rattle.pat_commit_laws.proofs.Firsts.{turn_is}
+use Rattle.pat_machine_spec.specs.Turns.{turn, IsTurn}
+use Rattle.pat_machine_laws.proofs.Ready.{turn_ready, turn_none}
+use Rattle.pat_machine_laws.proofs.Firsts.{turn_is}
 use Rattle.pat_machine.proofs.parts.Parts.take.Goals as goal
 
 pub lend-requires-clause-ready : goal.lend-requires-clause-ready

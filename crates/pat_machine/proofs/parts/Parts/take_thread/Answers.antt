@@ -1,8 +1,8 @@
 use Rattle.std.proofs.Common.{◌≡◌, true, false, refl, ap, sym, ◌∙◌}
 use Rattle.pat_core.specs.Views.{program_view}
-use Rattle.pat_model_laws.proofs.Lists.{clash}
-use Rattle.pat_commits.specs.Turns.{is_ready}
-use Rattle.pat_commit_laws.proofs.Ready.{ready_passes, passes_ready}
+use Rattle.pat_semantics_laws.proofs.Lists.{clash}
+use Rattle.pat_machine_spec.specs.Turns.{is_ready}
+use Rattle.pat_machine_laws.proofs.Ready.{ready_passes, passes_ready}
 use Rattle.pat_machine.proofs.Naming.{told}
 use Rattle.pat_machine.proofs.parts.Parts.take_thread.Goals as goal
 

@@ -1,10 +1,10 @@
 use Rattle.std.proofs.Common.{◌≡◌, Some, map, sym, ap, ◌∙◌}
 use Rattle.std.specs.Prelude.{option_map}
-use Rattle.pat_model.specs.Steps.{redex}
+use Rattle.pat_semantics_spec.specs.Steps.{redex}
 use Rattle.pat_core.specs.Views.{program_view}
-use Rattle.pat_reduce_threads.specs.ThreadViews.{control_view, frame_view, thread_view}
-use Rattle.pat_reduce_threads.specs.GuardViews.{guard_view}
-use Rattle.pat_reduce_threads.specs.ThreadActs.{guard_at}
+use Rattle.pat_reduce.specs.threads.ThreadViews.{control_view, frame_view, thread_view}
+use Rattle.pat_reduce.specs.threads.GuardViews.{guard_view}
+use Rattle.pat_reduce.specs.threads.ThreadActs.{guard_at}
 use Rattle.pat_reduce.specs.Acts.{act_at, plain_act}
 use Rattle.pat_machine_states.proofs.Reaching.{tells_guard}
 use Rattle.pat_machine_states.proofs.state.State.act_of.Goals as goal

@@ -1,14 +1,14 @@
 use Rattle.std.proofs.Common.{◌≡◌, Some, sym, ap, ◌∙◌}
 use Rattle.std.specs.Prelude.{option_map, option_copied}
-use Rattle.pat_model.specs.Configs.{thread_at}
-use Rattle.pat_model.specs.Steps.{redex}
+use Rattle.pat_semantics_spec.specs.Configs.{thread_at}
+use Rattle.pat_semantics_spec.specs.Steps.{redex}
 use Rattle.pat_core.specs.Views.{program_view}
-use Rattle.pat_reduce_threads.specs.ThreadViews.{thread_view}
-use Rattle.pat_reduce_threads.specs.GuardViews.{guard_view}
-use Rattle.pat_reduce_threads.specs.ThreadActs.{guard_at}
+use Rattle.pat_reduce.specs.threads.ThreadViews.{thread_view}
+use Rattle.pat_reduce.specs.threads.GuardViews.{guard_view}
+use Rattle.pat_reduce.specs.threads.ThreadActs.{guard_at}
 use Rattle.pat_reduce.specs.Views.{act_view}
 use Rattle.pat_machine_states.proofs.Awaiting.{waits}
-use Rattle.pat_machine_names.specs.declared.freed.Counted.TheVariants.{All}
+use Rattle.pat_machine_indexes.specs.declared.refcounts.freed.Counted.TheVariants.{All}
 use Rattle.pat_machine_states.proofs.Reaching.{tells_guard}
 use Rattle.pat_machine_states.proofs.state.State.awaited.Goals as goal
 

@@ -1,7 +1,7 @@
 use Rattle.std.proofs.Common.{◌≡◌, Some, sym, ap, ◌∙◌, subst}
-use Rattle.pat_model.specs.Configs.{thread_at, with_thread}
-use Rattle.pat_reduce_threads.specs.ThreadViews.{thread_view}
-use Rattle.pat_commits.specs.Tops.{below, over, set_over}
+use Rattle.pat_semantics_spec.specs.Configs.{thread_at, with_thread}
+use Rattle.pat_reduce.specs.threads.ThreadViews.{thread_view}
+use Rattle.pat_machine_spec.specs.Tops.{below, over, set_over}
 use Rattle.pat_machine_threads.specs.Aside.{aside_view}
 use Rattle.pat_machine_states.specs.Boxes.{state_view, IsState}
 use Rattle.pat_machine_states.proofs.state.State.cover.Goals as goal

@@ -1,6 +1,6 @@
 use Rattle.std.proofs.Common.{sym, subst}
 use Rattle.pat_core.specs.Views.{program_view}
-use Rattle.pat_reduce_threads.specs.ThreadViews.{thread_view}
+use Rattle.pat_reduce.specs.threads.ThreadViews.{thread_view}
 use Rattle.pat_reduce.specs.Acts.{EnabledAct, IsLeast}
 use Rattle.pat_reduce.proofs.Candidates.{act_found, first_found}
 use Rattle.pat_reduce.proofs.LeastActs.{least_of}

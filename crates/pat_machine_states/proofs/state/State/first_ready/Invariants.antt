@@ -1,7 +1,7 @@
 use Rattle.std.proofs.Common.{◌≡◌, drop}
 use Rattle.std.specs.Prelude.{find}
 use Rattle.pat_core.specs.Views.{program_view}
-use Rattle.pat_commits.specs.Turns.{is_ready}
+use Rattle.pat_machine_spec.specs.Turns.{is_ready}
 use Rattle.pat_machine_states.proofs.state.State.first_ready.Given as goal
 
 -- the first from here on is the first

@@ -1,9 +1,9 @@
 use Rattle.std.proofs.Common.{refl, Err, ◌≡◌, Some, sym, ap, subst}
-use Rattle.pat_model.specs.Steps.{ActFree, step}
-use Rattle.pat_model_laws.specs.Laws.{IsEnabled}
+use Rattle.pat_semantics_spec.specs.Steps.{ActFree, step}
+use Rattle.pat_semantics_laws.specs.Laws.{IsEnabled}
 use Rattle.pat_core.specs.Views.{program_view}
 use Rattle.pat_reduce_values.specs.Results.{StepGives}
-use Rattle.pat_machine_pending.specs.Mailboxes.{Contents}
+use Rattle.pat_machine_indexes.specs.messages.Mailboxes.{Contents}
 use Rattle.pat_machine_states.specs.Boxes.{state_view}
 use Rattle.pat_machine_states.proofs.Keeping.{freed_live, freed_empty, free_done, free_refused}
 use Rattle.pat_machine_states.proofs.state.State.free.Goals as goal

@@ -1,6 +1,6 @@
 use Rattle.std.proofs.Common.{◌≡◌, drop}
 use Rattle.std.specs.List.{list_any}
-use Rattle.pat_model.specs.Runs.{can_step_thread}
+use Rattle.pat_semantics_spec.specs.Runs.{can_step_thread}
 use Rattle.pat_core.specs.Views.{program_view}
 use Rattle.pat_machine_states.proofs.state.State.has_enabled.Given as goal
 

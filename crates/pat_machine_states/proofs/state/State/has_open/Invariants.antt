@@ -1,7 +1,7 @@
 use Rattle.std.proofs.Common.{◌≡◌, drop}
 use Rattle.std.specs.List.{list_any}
 use Rattle.pat_core.specs.Views.{program_view}
-use Rattle.pat_commits.specs.Opens.{can_go_on}
+use Rattle.pat_machine_spec.specs.Opens.{can_go_on}
 use Rattle.pat_machine_states.proofs.state.State.has_open.Given as goal
 
 -- what is left decides it

@@ -1,5 +1,5 @@
 use Rattle.std.proofs.Common.{sym, ap, ◌∙◌}
-use Rattle.pat_model.specs.Configs.{Config, has_pending}
+use Rattle.pat_semantics_spec.specs.Configs.{Config, has_pending}
 use Rattle.pat_machine_states.proofs.Keeping.{pending_test, none_test}
 use Rattle.pat_machine_states.proofs.state.State.has_pending.Goals as goal
 

@@ -1,6 +1,6 @@
 use Rattle.std.proofs.Common.{ap, ◌∙◌}
 use Rattle.std.specs.Prelude.{nat_lt, length}
-use Rattle.pat_model.specs.Configs.{Config}
+use Rattle.pat_semantics_spec.specs.Configs.{Config}
 use Rattle.pat_machine_states.proofs.Keeping.{counted}
 use Rattle.pat_machine_states.proofs.state.State.has_space.Goals as goal
 

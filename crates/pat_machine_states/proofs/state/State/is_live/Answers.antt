@@ -1,6 +1,6 @@
 use Rattle.std.proofs.Common.{ap, ◌∙◌}
-use Rattle.pat_model.specs.Programs.{is_among}
-use Rattle.pat_model.specs.Configs.{Config}
+use Rattle.pat_semantics_spec.specs.Programs.{is_among}
+use Rattle.pat_semantics_spec.specs.Configs.{Config}
 use Rattle.pat_machine_states.proofs.Keeping.{live_test}
 use Rattle.pat_machine_states.proofs.state.State.is_live.Goals as goal
 

@@ -1,6 +1,6 @@
 use Rattle.std.proofs.Common.{length, Some, sym, ap, ◌∙◌, arith}
-use Rattle.pat_model.specs.Configs.{Config}
-use Rattle.pat_machine_pending.proofs.Boxed.{none_pending}
+use Rattle.pat_semantics_spec.specs.Configs.{Config}
+use Rattle.pat_machine_indexes.proofs.Boxed.{none_pending}
 use Rattle.pat_machine_states.proofs.Awaiting.{some_there, last_there}
 use Rattle.pat_machine_states.proofs.state.State.last_message.Goals as goal
 

@@ -1,8 +1,8 @@
 use Rattle.std.proofs.Common.{Err, ◌≡◌, [], ◌∷◌, ◌++◌, Some, ap, ◌∙◌, subst}
-use Rattle.pat_model.specs.Steps.{ActNew, step}
+use Rattle.pat_semantics_spec.specs.Steps.{ActNew, step}
 use Rattle.pat_core.specs.Views.{program_view}
 use Rattle.pat_reduce_values.specs.Results.{StepGives}
-use Rattle.pat_machine_pending.specs.Mailboxes.{Contents}
+use Rattle.pat_machine_indexes.specs.messages.Mailboxes.{Contents}
 use Rattle.pat_machine_states.specs.Boxes.{state_view}
 use Rattle.pat_machine_states.proofs.Keeping.{new_done, new_refused}
 use Rattle.pat_machine_states.proofs.state.State.make_mailbox.Goals as goal

@@ -1,14 +1,14 @@
 use Rattle.std.proofs.Common.{◌≡◌, Some, sym, ap, ◌∙◌, subst}
 use Rattle.std.specs.Prelude.{IsTrue, ◌↔◌, option_map}
-use Rattle.pat_model.specs.Configs.{thread_at}
-use Rattle.pat_model.specs.Steps.{ActFree, redex}
-use Rattle.pat_model_laws.specs.Laws.{IsEnabled}
+use Rattle.pat_semantics_spec.specs.Configs.{thread_at}
+use Rattle.pat_semantics_spec.specs.Steps.{ActFree, redex}
+use Rattle.pat_semantics_laws.specs.Laws.{IsEnabled}
 use Rattle.pat_core.specs.Views.{program_view}
-use Rattle.pat_reduce_threads.specs.ThreadViews.{thread_view}
-use Rattle.pat_reduce_threads.specs.GuardViews.{guard_view}
-use Rattle.pat_reduce_threads.specs.ThreadActs.{guard_at}
+use Rattle.pat_reduce.specs.threads.ThreadViews.{thread_view}
+use Rattle.pat_reduce.specs.threads.GuardViews.{guard_view}
+use Rattle.pat_reduce.specs.threads.ThreadActs.{guard_at}
 use Rattle.pat_reduce.specs.Views.{act_view}
-use Rattle.pat_machine_names.specs.declared.freed.Counted.TheVariants.{All}
+use Rattle.pat_machine_indexes.specs.declared.refcounts.freed.Counted.TheVariants.{All}
 use Rattle.pat_machine_states.proofs.Reaching.{tells_guard, frees_exactly}
 use Rattle.pat_machine_states.proofs.state.State.may_free_now.Goals as goal
 

@@ -1,5 +1,5 @@
 use Rattle.std.proofs.Common.{sym, ap, ◌∙◌}
-use Rattle.pat_model.specs.Configs.{Config}
+use Rattle.pat_semantics_spec.specs.Configs.{Config}
 use Rattle.pat_core.specs.Views.{program_view}
 use Rattle.pat_machine_states.proofs.Prospected.{other_opens, sender_opens, closed, other_steps, sender_steps, none_steps, not_empty}
 use Rattle.pat_machine_states.proofs.state.State.prospect.Goals as goal

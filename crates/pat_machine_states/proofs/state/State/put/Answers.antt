@@ -1,5 +1,5 @@
-use Rattle.pat_reduce_threads.specs.ThreadViews.{thread_view}
-use Rattle.pat_locality_laws.proofs.Exchanges.{put_over}
+use Rattle.pat_reduce.specs.threads.ThreadViews.{thread_view}
+use Rattle.pat_machine_laws.proofs.Exchanges.{put_over}
 use Rattle.pat_machine_threads.specs.Aside.{aside_view}
 use Rattle.pat_machine_states.proofs.Asides.{room_for}
 use Rattle.pat_machine_states.proofs.state.State.put.Goals as goal

@@ -1,11 +1,11 @@
 use Rattle.std.proofs.Common.{◌≡◌, Some, sym, ap, subst}
-use Rattle.pat_model.specs.Configs.{thread_at}
-use Rattle.pat_model.specs.Steps.{ActReceive, message_at, step}
+use Rattle.pat_semantics_spec.specs.Configs.{thread_at}
+use Rattle.pat_semantics_spec.specs.Steps.{ActReceive, message_at, step}
 use Rattle.pat_core.specs.Views.{program_view}
-use Rattle.pat_reduce_threads.specs.ThreadViews.{control_view, message_view, thread_view}
-use Rattle.pat_machine_pending.specs.Mailboxes.{Contents}
+use Rattle.pat_reduce.specs.threads.ThreadViews.{control_view, message_view, thread_view}
+use Rattle.pat_machine_indexes.specs.messages.Mailboxes.{Contents}
 use Rattle.pat_machine_states.specs.Boxes.{state_view}
-use Rattle.pat_machine_pending.proofs.Delivering.{live_by, within_by}
+use Rattle.pat_machine_indexes.proofs.Delivering.{live_by, within_by}
 use Rattle.pat_machine_states.proofs.Keeping.{receive_done, received_is}
 use Rattle.pat_machine_states.proofs.state.State.receive.Goals as goal
 

@@ -1,13 +1,13 @@
 use Rattle.std.proofs.Common.{◌≡◌, Some, sym, ap, ◌∙◌, subst}
 use Rattle.std.specs.Prelude.{IsTrue, ◌↔◌, option_map}
-use Rattle.pat_model.specs.Configs.{Config, thread_at}
-use Rattle.pat_model.specs.Steps.{ActReceive, redex}
-use Rattle.pat_model_laws.specs.Laws.{IsEnabled}
+use Rattle.pat_semantics_spec.specs.Configs.{Config, thread_at}
+use Rattle.pat_semantics_spec.specs.Steps.{ActReceive, redex}
+use Rattle.pat_semantics_laws.specs.Laws.{IsEnabled}
 use Rattle.pat_core.specs.Views.{program_view}
-use Rattle.pat_reduce_threads.specs.ThreadViews.{thread_view, message_view}
-use Rattle.pat_reduce_threads.specs.GuardViews.{guard_view}
-use Rattle.pat_reduce_threads.specs.ThreadActs.{guard_at, takes}
-use Rattle.pat_pending_laws.specs.Pending.{Ascend}
+use Rattle.pat_reduce.specs.threads.ThreadViews.{thread_view, message_view}
+use Rattle.pat_reduce.specs.threads.GuardViews.{guard_view}
+use Rattle.pat_reduce.specs.threads.ThreadActs.{guard_at, takes}
+use Rattle.pat_machine_laws.specs.mailbox_index.Pending.{Ascend}
 use Rattle.pat_machine_states.proofs.Awaiting.{receives_last_exactly}
 use Rattle.pat_machine_states.proofs.state.State.receives_last.Goals as goal
 

@@ -1,11 +1,11 @@
 use Rattle.std.proofs.Common.{◌≡◌, ◌<◌, ◌++◌, [], ◌∷◌, Some, Err, slice_set, sym, ap, ◌∙◌, subst}
 use Rattle.std.specs.List.{AllByRecursion}
-use Rattle.pat_model.specs.Orders.{IsOrdered}
-use Rattle.pat_model.specs.Steps.{ActSend, step}
+use Rattle.pat_semantics_spec.specs.Orders.{IsOrdered}
+use Rattle.pat_semantics_spec.specs.Steps.{ActSend, step}
 use Rattle.pat_core.specs.Views.{program_view}
 use Rattle.pat_reduce_values.specs.Results.{StepGives}
-use Rattle.pat_reduce_threads.specs.declared.state.Message.{Message}
-use Rattle.pat_machine_pending.specs.Mailboxes.{Contents, IsLive, pending_at as pending_of}
+use Rattle.pat_reduce.specs.declared.threads.state.Message.{Message}
+use Rattle.pat_machine_indexes.specs.messages.Mailboxes.{Contents, IsLive, pending_at as pending_of}
 use Rattle.pat_machine_states.specs.Boxes.{state_view}
 use Rattle.pat_machine_states.specs.Stepping.{ReferToLive}
 use Rattle.pat_machine_states.proofs.Keeping.{mailbox_live, last_there, send_done, send_refused}

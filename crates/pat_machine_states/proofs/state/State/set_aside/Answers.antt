@@ -1,7 +1,7 @@
 use Rattle.std.proofs.Common.{ap, ◌∙◌}
-use Rattle.pat_model.specs.Configs.{thread_at, with_thread}
-use Rattle.pat_reduce_threads.specs.ThreadViews.{thread_view}
-use Rattle.pat_locality_laws.proofs.Locals.{there_after, with_twice, with_same}
+use Rattle.pat_semantics_spec.specs.Configs.{thread_at, with_thread}
+use Rattle.pat_reduce.specs.threads.ThreadViews.{thread_view}
+use Rattle.pat_machine_laws.proofs.Locals.{there_after, with_twice, with_same}
 use Rattle.pat_machine_states.proofs.state.State.set_aside.Goals as goal
 
 pub swap-requires : goal.swap-requires

@@ -1,17 +1,17 @@
 use Rattle.std.proofs.Common.{sym, ap, ◌∙◌, subst, arith}
 use Rattle.std.proofs.lemmas.Result.{on_ok_weaker}
-use Rattle.pat_model.specs.Configs.{thread_at, with_thread}
-use Rattle.pat_model.specs.Orders.{IsOrdered}
-use Rattle.pat_model.specs.Steps.{message_at}
+use Rattle.pat_semantics_spec.specs.Configs.{thread_at, with_thread}
+use Rattle.pat_semantics_spec.specs.Orders.{IsOrdered}
+use Rattle.pat_semantics_spec.specs.Steps.{message_at}
 use Rattle.pat_core.specs.Views.{program_view}
-use Rattle.pat_reduce_threads.specs.ThreadViews.{thread_view}
-use Rattle.pat_commits.specs.Tops.{below}
-use Rattle.pat_commits.specs.Commits.{Shares}
-use Rattle.pat_commits.specs.Machines.{IsTypedBySome}
-use Rattle.pat_locality_laws.proofs.Exchanges.{frames_after, ordered_on_top, share_over}
+use Rattle.pat_reduce.specs.threads.ThreadViews.{thread_view}
+use Rattle.pat_machine_spec.specs.Tops.{below}
+use Rattle.pat_machine_spec.specs.Commits.{Shares}
+use Rattle.pat_machine_spec.specs.Machines.{IsTypedBySome}
+use Rattle.pat_machine_laws.proofs.Exchanges.{frames_after, ordered_on_top, share_over}
 use Rattle.pat_machine_threads.specs.Aside.{aside_view}
-use Rattle.pat_machine_names.specs.Counting.{TellsAlone}
-use Rattle.pat_machine_names.specs.Telling.{says_alone}
+use Rattle.pat_machine_indexes.specs.refcounts.Counting.{TellsAlone}
+use Rattle.pat_machine_indexes.specs.refcounts.Telling.{says_alone}
 use Rattle.pat_machine_states.specs.Stepping.{ReferToLive}
 use Rattle.pat_machine_states.specs.Taking.{taken_act}
 use Rattle.pat_machine_states.proofs.Asides.{top_there, room_there, back_there, over_whole}

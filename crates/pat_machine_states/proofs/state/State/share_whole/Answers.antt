@@ -1,10 +1,10 @@
 use Rattle.std.proofs.Common.{sym, ap, ◌∙◌, subst}
-use Rattle.pat_model.specs.Configs.{thread_at, with_thread}
-use Rattle.pat_model.specs.Orders.{IsOrdered}
-use Rattle.pat_model.specs.Steps.{message_at}
+use Rattle.pat_semantics_spec.specs.Configs.{thread_at, with_thread}
+use Rattle.pat_semantics_spec.specs.Orders.{IsOrdered}
+use Rattle.pat_semantics_spec.specs.Steps.{message_at}
 use Rattle.pat_core.specs.Views.{program_view}
-use Rattle.pat_reduce_threads.specs.ThreadViews.{thread_view}
-use Rattle.pat_locality_laws.proofs.Locals.{there_after, with_twice, with_same}
+use Rattle.pat_reduce.specs.threads.ThreadViews.{thread_view}
+use Rattle.pat_machine_laws.proofs.Locals.{there_after, with_twice, with_same}
 use Rattle.pat_machine_states.specs.Stepping.{ReferToLive}
 use Rattle.pat_machine_states.proofs.Reaching.{stands_there}
 use Rattle.pat_machine_states.proofs.state.State.share_whole.Goals as goal

@@ -1,6 +1,6 @@
 use Rattle.std.proofs.Common.{ap}
 use Rattle.pat_core.specs.Views.{program_view}
-use Rattle.pat_machine_pending.specs.Mailboxes.{Contents}
+use Rattle.pat_machine_indexes.specs.messages.Mailboxes.{Contents}
 use Rattle.pat_machine_states.proofs.Keeping.{started}
 use Rattle.pat_machine_states.proofs.state.State.start.Goals as goal
 

@@ -1,5 +1,5 @@
 use Rattle.std.proofs.Common.{subst}
-use Rattle.pat_model.specs.Steps.{step}
+use Rattle.pat_semantics_spec.specs.Steps.{step}
 use Rattle.pat_core.specs.Views.{program_view}
 use Rattle.pat_reduce_values.specs.Results.{StepGives}
 use Rattle.pat_reduce.specs.Views.{act_view, step_view}

@@ -1,8 +1,8 @@
 use Rattle.std.proofs.Common.{◌≡◌, ℕ, List, slice_get, Option, Some, sym, ap, ◌∙◌, subst}
 use Rattle.std.specs.Prelude.{option_map}
 use Rattle.std.specs.Borrow.{Bor}
-use Rattle.pat_pool.specs.Queues.{Finds}
-use Rattle.pat_reduce_threads.specs.declared.state.Message.{Message}
+use Rattle.pat_mailboxes.specs.queues.Queues.{Finds}
+use Rattle.pat_reduce.specs.declared.threads.state.Message.{Message}
 use Rattle.pat_mailboxes.specs.Mailboxes.{AreInOrder}
 use Rattle.pat_mailboxes.proofs.Keeping.{live_queue}
 use Rattle.pat_mailboxes.proofs.Seeing.{first, seen_entry, seen_pending}

@@ -1,7 +1,7 @@
 use Rattle.std.proofs.Common.{◌≡◌, ℕ, List, [], slice_get, slice_set, Option, Some, None, sym, ap, ◌∙◌, subst, arith}
 use Rattle.std.specs.Option.{unwrap_or}
-use Rattle.pat_pool.specs.Queues.{values_at}
-use Rattle.pat_reduce_threads.specs.declared.state.Message.{Message}
+use Rattle.pat_mailboxes.specs.queues.Queues.{values_at}
+use Rattle.pat_reduce.specs.declared.threads.state.Message.{Message}
 use Rattle.pat_mailboxes.specs.Kept.{AreKept}
 use Rattle.pat_mailboxes.proofs.Keeping.{inside, live_queue, entry_freed}
 use Rattle.pat_mailboxes.proofs.Seeing.{seen_entry, seen_pending, freed}

@@ -1,5 +1,5 @@
 use Rattle.std.proofs.Common.{◌≡◌, ℕ, ◌<◌, List, length, slice_get, Option, Some, sym, ap, ◌∙◌, subst}
-use Rattle.pat_reduce_threads.specs.declared.state.Message.{Message}
+use Rattle.pat_reduce.specs.declared.threads.state.Message.{Message}
 use Rattle.pat_mailboxes.proofs.Keeping.{live_queue}
 use Rattle.pat_mailboxes.proofs.Seeing.{seen_entry, seen_pending}
 use Rattle.pat_mailboxes.proofs.mailboxes.Mailboxes.get.Goals as goal

@@ -1,7 +1,7 @@
 use Rattle.std.proofs.Common.{◌≡◌, ℕ, List, map, slice_get, Option, Some, sym, ap, ◌∙◌, subst}
 use Rattle.std.specs.Prelude.{IfOk}
 use Rattle.std.specs.Borrow.{Bor}
-use Rattle.pat_reduce_threads.specs.declared.state.Message.{Message}
+use Rattle.pat_reduce.specs.declared.threads.state.Message.{Message}
 use Rattle.pat_mailboxes.proofs.Keeping.{live_queue}
 use Rattle.pat_mailboxes.proofs.Seeing.{seen_entry, seen_pending}
 use Rattle.pat_mailboxes.proofs.mailboxes.Mailboxes.list.Goals as goal

@@ -1,7 +1,7 @@
 use Rattle.std.proofs.Common.{◌≡◌, ℕ, ◌<◌, List, [], ◌∷◌, ◌++◌, slice_get, Option, Some, refl, sym, ap, ◌∙◌, subst, arith, length-append}
 use Rattle.std.specs.List.{AllByRecursion}
-use Rattle.pat_pool.specs.Queues.{values_at}
-use Rattle.pat_reduce_threads.specs.declared.state.Message.{Message}
+use Rattle.pat_mailboxes.specs.queues.Queues.{values_at}
+use Rattle.pat_reduce.specs.declared.threads.state.Message.{Message}
 use Rattle.pat_mailboxes.specs.Mailboxes.{Contents, IsInOrder, all_pending}
 use Rattle.pat_mailboxes.proofs.Messages.{order_push}
 use Rattle.pat_mailboxes.proofs.Keeping.{pending_is, live_queue, queue_changed}

@@ -1,7 +1,7 @@
 use Rattle.std.proofs.Common.{◌≡◌, ℕ, ◌<◌, List, length, remove, slice_get, Option, Some, sym, ap, ◌∙◌, subst, arith}
 use Rattle.std.proofs.lemmas.List.Edits.{length-remove}
-use Rattle.pat_pool.specs.Queues.{values_at}
-use Rattle.pat_reduce_threads.specs.declared.state.Message.{Message}
+use Rattle.pat_mailboxes.specs.queues.Queues.{values_at}
+use Rattle.pat_reduce.specs.declared.threads.state.Message.{Message}
 use Rattle.pat_mailboxes.specs.Mailboxes.{IsInOrder}
 use Rattle.pat_mailboxes.proofs.Messages.{order_remove}
 use Rattle.pat_mailboxes.proofs.Keeping.{pending_is, live_queue, queue_changed}

@@ -1,7 +1,7 @@
 use Rattle.std.proofs.Common.{ap, sym, ◌∙◌, subst}
-use Rattle.pat_reduce_threads.specs.Views.{program_view}
+use Rattle.pat_reduce.specs.threads.Views.{program_view}
 use Rattle.pat_reduce.specs.Views.{act_view, config_view}
-use Rattle.pat_reduce_threads.specs.ThreadViews.{thread_view}
+use Rattle.pat_reduce.specs.threads.ThreadViews.{thread_view}
 use Rattle.pat_reduce.specs.Acts.{EnabledAct, IsFirst, IsLeast}
 use Rattle.pat_reduce.proofs.Taken.{there}
 use Rattle.pat_reduce.proofs.Candidates.{act_found, first_found}

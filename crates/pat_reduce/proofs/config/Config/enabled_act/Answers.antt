@@ -1,6 +1,6 @@
 use Rattle.std.proofs.Common.{ap, sym, ◌∙◌, nat_eq}
 use Rattle.std.specs.Map.{lookup}
-use Rattle.pat_reduce_threads.specs.Views.{program_view}
+use Rattle.pat_reduce.specs.threads.Views.{program_view}
 use Rattle.pat_reduce.specs.Views.{config_view, threads_view}
 use Rattle.pat_reduce.proofs.Candidates.{absent}
 use Rattle.pat_reduce.proofs.config.Config.enabled_act.Goals as goal

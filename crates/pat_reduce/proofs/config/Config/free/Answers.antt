@@ -1,4 +1,4 @@
-use Rattle.pat_reduce_threads.specs.Views.{program_view}
+use Rattle.pat_reduce.specs.threads.Views.{program_view}
 use Rattle.pat_reduce.proofs.Taken.{free_done, free_refused}
 use Rattle.pat_reduce.proofs.config.Config.free.Goals as goal
 

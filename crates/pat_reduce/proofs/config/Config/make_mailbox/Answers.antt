@@ -1,4 +1,4 @@
-use Rattle.pat_reduce_threads.specs.Views.{program_view}
+use Rattle.pat_reduce.specs.threads.Views.{program_view}
 use Rattle.pat_reduce.proofs.Taken.{new_done}
 use Rattle.pat_reduce.proofs.config.Config.make_mailbox.Goals as goal
 

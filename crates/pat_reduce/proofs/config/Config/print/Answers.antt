@@ -1,4 +1,4 @@
-use Rattle.pat_reduce_threads.specs.Views.{program_view}
+use Rattle.pat_reduce.specs.threads.Views.{program_view}
 use Rattle.pat_reduce.proofs.Taken.{print_done}
 use Rattle.pat_reduce.proofs.config.Config.print.Goals as goal
 

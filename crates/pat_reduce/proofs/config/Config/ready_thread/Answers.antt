@@ -1,6 +1,6 @@
 use Rattle.std.proofs.Common.{sym, ◌∙◌}
-use Rattle.pat_model.specs.Runs.{can_step_thread}
-use Rattle.pat_reduce_threads.specs.Views.{program_view}
+use Rattle.pat_semantics_spec.specs.Runs.{can_step_thread}
+use Rattle.pat_reduce.specs.threads.Views.{program_view}
 use Rattle.pat_reduce.specs.Views.{config_view}
 use Rattle.pat_reduce.proofs.LeastActs.{first_of_ready, found_here, ready_by}
 use Rattle.pat_reduce.proofs.config.Config.ready_thread.Goals as goal

@@ -1,8 +1,8 @@
 use Rattle.std.proofs.Common.{◌≡◌, drop}
 use Rattle.std.specs.Prelude.{option_map, find}
 use Rattle.std.specs.List.{list_any}
-use Rattle.pat_model.specs.Runs.{can_step, can_step_thread}
-use Rattle.pat_reduce_threads.specs.Views.{program_view}
+use Rattle.pat_semantics_spec.specs.Runs.{can_step, can_step_thread}
+use Rattle.pat_reduce.specs.threads.Views.{program_view}
 use Rattle.pat_reduce.specs.Views.{config_view, threads_view}
 use Rattle.pat_reduce.proofs.config.Config.ready_thread.Given as goal
 

@@ -1,4 +1,4 @@
-use Rattle.pat_reduce_threads.specs.Views.{program_view}
+use Rattle.pat_reduce.specs.threads.Views.{program_view}
 use Rattle.pat_reduce.proofs.Taken.{receive_done, receive_refused}
 use Rattle.pat_reduce.proofs.config.Config.receive.Goals as goal
 

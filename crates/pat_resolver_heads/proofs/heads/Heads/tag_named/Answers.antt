@@ -1,6 +1,6 @@
 use Rattle.std.proofs.Common.{◌<◌, length, arith, ap, sym, ◌∙◌}
 use Rattle.pat_core.specs.declared.program.Interface.{Interface}
-use Rattle.pat_names.specs.Heads.{tags_at}
+use Rattle.pat_resolver_spec.specs.Heads.{tags_at}
 use Rattle.pat_resolver_heads.specs.Views.{heads_view}
 use Rattle.pat_resolver_heads.proofs.Tags.{tag_found, tag_missed}
 use Rattle.pat_resolver_heads.proofs.heads.Heads.tag_named.Goals as goal

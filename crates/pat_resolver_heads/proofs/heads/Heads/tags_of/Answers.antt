@@ -1,5 +1,5 @@
 use Rattle.std.proofs.Common.{map, ap, sym, ◌∙◌}
-use Rattle.pat_model.specs.Programs.{TagDecl as Seen}
+use Rattle.pat_semantics_spec.specs.Programs.{TagDecl as Seen}
 use Rattle.pat_resolver_heads.proofs.Tags.{table_in, nothing_in, few_in}
 use Rattle.pat_resolver_heads.proofs.heads.Heads.tags_of.Goals as goal
 

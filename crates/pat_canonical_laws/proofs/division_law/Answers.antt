@@ -1,5 +1,0 @@
-use Rattle.pat_canonical_laws.proofs.Again.{divides_into}
-use Rattle.pat_canonical_laws.proofs.division_law.Goals as goal
-
-pub returns : goal.returns
-returns c = divides_into

@@ -1,5 +1,0 @@
-use Rattle.pat_canonical_laws.proofs.RoundTrip.{spelled_again}
-use Rattle.pat_canonical_laws.proofs.round_trip_law.Goals as goal
-
-pub returns : goal.returns
-returns c = spelled_again

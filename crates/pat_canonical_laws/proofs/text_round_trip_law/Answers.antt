@@ -1,5 +1,0 @@
-use Rattle.pat_canonical_laws.proofs.Again.{read_again}
-use Rattle.pat_canonical_laws.proofs.text_round_trip_law.Goals as goal
-
-pub returns : goal.returns
-returns c = read_again

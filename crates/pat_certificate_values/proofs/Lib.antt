@@ -1,0 +1,9 @@
+mod LookUps
+mod Closed
+mod Flags
+mod Grids
+mod Large
+mod FormTags
+mod Powers
+mod Pushed
+mod SamePatterns

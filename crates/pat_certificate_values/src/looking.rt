@@ -1,0 +1,96 @@
+// What stands behind a number, and patterns of an interface.
+ghost use Rattle.std.specs.Prelude.{◌≡◌, ◌<◌, option_map, option_copied, slice_get};
+ghost use Rattle.pat_semantics_spec.specs.WellFormed.{WellFormed};
+ghost use Rattle.pat_inclusion_spec.specs.Values.{var_at, has_interface as has_interface_of, is_formed as is_formed_of};
+ghost use Rattle.pat_derivation_spec.specs.Derivations.{scope_of, tag_count as tag_count_of};
+ghost use Rattle.pat_patterns.specs.Views.{pattern_view};
+ghost use Rattle.pat_core.specs.Views.{program_view};
+ghost use Rattle.pat_derivations.specs.Views.{var_view, vars_view, derivation_view};
+
+use pat_core::Program;
+use pat_derivations::{Derivation, VarValue};
+use pat_patterns::Pattern;
+
+/// How many tags an interface has: none where it isn't there.
+#[tactic(auto, using(crate::proofs::LookUps::count_is))]
+pub fn tag_count(program: &Program, interface: u32) -> usize
+    ensures { result ≡ tag_count_of (slice_get (program_view program.now).interfaces interface) }
+{
+    match program.interfaces.as_slice().get(interface as usize) {
+        None => 0,
+        Some(declared) => declared.tags.len(),
+    }
+}
+
+/// An interface has 32 tags at most.
+#[tactic(auto, using(crate::proofs::LookUps::few_tags))]
+pub fn tags_are_few(program: &Program, interface: u32)
+    requires { WellFormed (program_view program.now) }
+    ensures { tag_count_of (slice_get (program_view program.now).interfaces interface) < 33 }
+{}
+
+/// The variable at a place, if it is there.
+#[tactic(auto, using(crate::proofs::LookUps::place_get))]
+fn var_at_place(vars: &[(u32, VarValue)], place: usize) -> Option<&(u32, VarValue)>
+    ensures { option_map var_view (option_copied result) ≡ slice_get (vars_view vars.now) place }
+{
+    vars.get(place)
+}
+
+/// The variable with this number, if it is there. They are numbered from 1.
+#[tactic(auto, using(crate::proofs::LookUps::var_before))]
+pub fn var_of(vars: &[(u32, VarValue)], number: u32) -> Option<&(u32, VarValue)>
+    ensures { option_map var_view (option_copied result) ≡ var_at (vars_view vars.now) number }
+{
+    if number == 0 {
+        return None;
+    }
+    var_at_place(vars, number as usize - 1)
+}
+
+/// Whether the variable is there and has this interface.
+fn has_interface(derivation: &Derivation, interface: u32, number: u32) -> bool
+    ensures { result ≡ has_interface_of interface (var_at (derivation_view derivation.now).vars number) }
+{
+    match var_of(derivation.vars.as_slice(), number) {
+        None => false,
+        Some((own, _)) => *own == interface,
+    }
+}
+
+/// Whether the pattern is one of the interface: its tags are, and its variables, each of which has a value. Many are 1, and nothing
+/// is looked up for these.
+pub fn is_formed(
+    program: &Program,
+    derivation: &Derivation,
+    interface: u32,
+    pattern: &Pattern,
+) -> bool
+    ensures { result ≡ is_formed_of (scope_of (program_view program.now) (derivation_view derivation.now)) interface (pattern_view pattern.now) }
+{
+    match pattern {
+        Pattern::One => true,
+        _ => is_formed_within(program, derivation, interface, pattern),
+    }
+}
+
+/// So by its parts.
+fn is_formed_within(
+    program: &Program,
+    derivation: &Derivation,
+    interface: u32,
+    pattern: &Pattern,
+) -> bool
+    ensures { result ≡ is_formed_of (scope_of (program_view program.now) (derivation_view derivation.now)) interface (pattern_view pattern.now) }
+{
+    match pattern {
+        Pattern::Zero | Pattern::One => true,
+        Pattern::Tag(tag) => (*tag as usize) < tag_count(program, interface),
+        Pattern::Var(number) => has_interface(derivation, interface, *number),
+        Pattern::Sum(left, right) | Pattern::Prod(left, right) => {
+            is_formed_within(program, derivation, interface, left)
+                && is_formed_within(program, derivation, interface, right)
+        }
+        Pattern::Star(part) => is_formed_within(program, derivation, interface, part),
+    }
+}

@@ -1,6 +1,0 @@
-use Rattle.std.proofs.Common.{take}
-use Rattle.pat_certs_grids.proofs.Marking.{Marked}
-use Rattle.pat_certs_grids.proofs.cutting.marked.Given as goal
-
-abbrev pub invariant-loop-word : goal.invariant-loop-word
-invariant-loop-word l = Marked l.k l.tags l.held (take l.word-index l.words)

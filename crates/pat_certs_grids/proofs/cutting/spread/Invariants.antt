@@ -1,9 +1,0 @@
-use Rattle.pat_words.specs.Cuts.{cut_at}
-use Rattle.pat_bounds.specs.Numbers.{point_of}
-use Rattle.pat_grid_points.specs.Views.{HasPoint}
-use Rattle.pat_certs_grids.proofs.Marking.{TestsTo}
-use Rattle.pat_certs_grids.proofs.cutting.spread.Given as goal
-
-abbrev pub invariant-loop-number : goal.invariant-loop-number
-invariant-loop-number l =
-    TestsTo (λ c. HasPoint l.own (cut_at l.own.k (point_of l.k l.own.tags c))) l.points l.held l.number

@@ -1,4 +1,0 @@
-pub mod Making
-mod Standing
-mod Ending
-mod OnePeriod

@@ -1,6 +1,0 @@
-use Rattle.pat_certs_searches.proofs.Steps.{lower_chosen}
-use Rattle.pat_certs_searches.proofs.choosing.choose_lower.Goals as goal
-
-pub returns : goal.returns
-returns c =
-    lower_chosen c.args.board.now c.requires.board c.args.entries.now c.args.place c.requires.step c.args.variable c.root_of.result c.requires.symbol c.root_of.ensures

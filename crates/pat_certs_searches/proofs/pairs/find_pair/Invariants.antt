@@ -1,8 +1,0 @@
-use Rattle.std.proofs.Common.{ℕ, ◌<◌, ◌≤◌}
-use Rattle.pat_grid_tables.specs.Views.{setting_of}
-use Rattle.pat_certs_searches.specs.Choices.{ArePair}
-use Rattle.pat_certs_searches.proofs.pairs.find_pair.Given as goal
-
-abbrev pub invariant-loop-first : goal.invariant-loop-first
-invariant-loop-first l =
-    (i j : ℕ) → l.from ≤ i → i < l.first → ArePair (setting_of l.board) l.entries l.number l.size l.parts.0 i l.parts.1 j → ⊥

@@ -1,8 +1,0 @@
-use Rattle.std.proofs.Common.{ℕ, ◌<◌}
-use Rattle.pat_grid_tables.specs.Views.{setting_of}
-use Rattle.pat_certs_searches.specs.Choices.{ArePair}
-use Rattle.pat_certs_searches.proofs.pairs.find_second.Given as goal
-
-abbrev pub invariant-loop-second : goal.invariant-loop-second
-invariant-loop-second l =
-    (j : ℕ) → j < l.second → ArePair (setting_of l.board) l.entries l.number l.size l.parts.0 l.first l.parts.1 j → ⊥

@@ -1,8 +1,0 @@
-use Rattle.std.proofs.Common.{subst}
-use Rattle.std.specs.Prelude.{IfOk}
-use Rattle.pat_answers.specs.Answers.{Refuses}
-use Rattle.pat_checked.proofs.Checking.{refused_text}
-use Rattle.pat_checked.proofs.inputs.refused_text.Goals as goal
-
-pub returns : goal.returns
-returns c = λ bytes why. refused_text bytes c.in_ok-refused.field-0 (c.in_ok-refused.ensures bytes why)

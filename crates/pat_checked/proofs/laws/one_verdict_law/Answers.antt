@@ -1,5 +1,0 @@
-use Rattle.pat_checked.proofs.OneVerdict.{one_verdict_of}
-use Rattle.pat_checked.proofs.laws.one_verdict_law.Goals as goal
-
-pub returns : goal.returns
-returns c = λ bytes. one_verdict_of bytes (c.verdict_law.ensures bytes) c.text_laws.ensures.whole c.one_answer_laws.ensures.one

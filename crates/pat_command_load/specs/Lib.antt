@@ -1,2 +1,0 @@
-pub use Rattle.pat_command_run.specs.Runners
-pub mod Allowed

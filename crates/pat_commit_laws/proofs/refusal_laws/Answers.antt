@@ -1,5 +1,0 @@
-use Rattle.pat_commit_laws.proofs.Refused.{refused_none, refused_once, none_refused}
-use Rattle.pat_commit_laws.proofs.refusal_laws.Goals as goal
-
-pub returns : goal.returns
-returns c = record { refused = λ p d es. (none_refused p d es, λ i. refused_none p d es i.0 i.1); one = refused_once }

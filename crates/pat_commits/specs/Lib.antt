@@ -1,9 +1,0 @@
-pub use Rattle.pat_typing.specs.Interfaces
-pub use Rattle.pat_typing.specs.Typings
-pub mod Opens
-pub mod Commits
-pub mod Tops
-pub mod Lendings
-pub mod Turns
-pub mod Machines
-pub mod Refusals

@@ -1,0 +1,142 @@
+-- What entries say of a search is a right answer.
+use Rattle.std.proofs.Common.{◌≡◌, ℕ, ◌+◌, ◌<◌, ◌≤◌, ⊎_elim, List, [], true, sym, ap, ◌∙◌, subst, arith}
+use Rattle.std.specs.Prelude.{slice_get}
+use Rattle.std.specs.List.{AllByRecursion}
+use Rattle.std.proofs.lemmas.Bool.{cases_lt}
+use Rattle.pat_words_spec.specs.Words.{Word, no_word, plus}
+use Rattle.pat_words_laws.proofs.WordLaws.{none_plus, count_eq}
+use Rattle.pat_words_spec.specs.Patterns.{Pat}
+use Rattle.pat_words_spec.specs.Flats.{is_flat, degree_of}
+use Rattle.pat_words_spec.specs.Tags.{tags_below}
+use Rattle.pat_words_spec.specs.Cuts.{cut_at}
+use Rattle.pat_inclusion_spec.specs.Points.{grid_fits}
+use Rattle.pat_inclusion_spec.specs.bounds.Trees.{Bound, bounds_of}
+use Rattle.pat_inclusion_spec.specs.bounds.CutSets.{IsPoint}
+use Rattle.pat_inclusion_spec.specs.bounds.Symbols.{Symbol, LowerSymbol, Stands, RootStands, IsFlatOf, TagsAreBelow, ShowsAt, symbol_at}
+use Rattle.pat_inclusion_spec.specs.bounds.Layouts.{laid, laid_all, roots_all, last_of}
+use Rattle.pat_inclusion_spec.specs.bounds.Tables.{Setting, IsKnown, IsDone}
+use Rattle.pat_inclusion_spec.specs.bounds.Numbers.{points_in, number_of, point_of, table_of}
+use Rattle.pat_inclusion_spec.specs.bounds.Searches.{Search, InsideAnswer, FoundAnswer, LargeAnswer, IsAnswer}
+use Rattle.pat_inclusion_laws.specs.bounds.Laws.{SearchLaw}
+use Rattle.pat_inclusion_laws.proofs.NumberLaws.{number_small, point_number, point_fits}
+use Rattle.pat_inclusion_laws.proofs.LayoutLaws.{laid_stands, laid_goes, goes_both, kept_in, all_stand, symbols_fit, all_fit, laid_fit}
+use Rattle.pat_inclusion_laws.proofs.SearchLaws.{flat_tree}
+use Rattle.pat_grid_points.specs.symbols.Views.{symbols_view}
+use Rattle.pat_grid.specs.declared.tables.board.Board.{Board}
+use Rattle.pat_grid.specs.tables.Views.{setting_of, IsBoard, AreGrids}
+use Rattle.pat_grid.specs.tables.Moves.{entry_at}
+use Rattle.pat_counterexample_search.specs.Choices.{IsReady, HasRoom, Rebuilt}
+use Rattle.pat_counterexample_search.specs.Readings.{IsMissing, IsRead, IsReading}
+
+-- ---- the point that is found
+
+pub found_room : (b : Board) (entries : List ℕ) (s r c : ℕ) (had : Word) → IsReady b entries → IsMissing (setting_of b) entries s r b.limit c → had ≡ no_word → HasRoom b entries (record { symbol = s; number = c }) had
+found_room b entries s r c had ready missing none =
+    let n = ready.board.points in
+    let l = missing.0 in
+    let w = missing.1 in
+    let m = ready.board.limit in
+    record {
+      number = omega arith;
+      within = missing.1;
+      room = λ t. let z = count_eq had no_word none t in omega arith;
+    }
+
+pub found_read : (board : Board) (entries : List ℕ) (s r c : ℕ) (had has : Word) (b : Bound) → IsMissing (setting_of board) entries s r board.limit c → had ≡ no_word → Rebuilt (setting_of board) (record { symbol = s; number = c }) (entry_at (setting_of board) entries s c) had b has → IsReading board entries s r (FoundAnswer has b)
+found_read board entries s r c had has b missing none made =
+    let g = setting_of board in
+    let same : made.word ≡ has = sym (made.words ∙ ap (λ w. plus w made.word) none ∙ none_plus made.word) in record {
+      read = (
+        c,
+        missing,
+        subst (ShowsAt g.flat g.given b (symbol_at g.flat s)) same made.shows,
+        made.cut ∙ ap (cut_at g.bound) same,
+        made.sized,
+      );
+    }
+
+-- ---- by the law of searches
+
+module _ (g : Setting) (entries : List ℕ) (lower : ℕ → Pat) (left right : Pat) (s r : ℕ) (law : SearchLaw) (done : IsDone g (table_of g entries)) (flat : IsFlatOf lower g.flat) (sl : Stands g.flat.symbols LowerSymbol left s) (sr : Stands g.flat.symbols LowerSymbol right r) (fr : is_flat right ≡ true) (dr : degree_of right < g.bound) where
+  -- an entry of the table is that at the point's number
+  at_number : (a c : ℕ) → c < points_in g.bound g.tags → table_of g entries a (point_of g.bound g.tags c) ≡ entry_at g entries a c
+  at_number a c l = ap (entry_at g entries a) (point_number g.bound g.tags c l)
+
+  missing_at : (u : Word) (most : ℕ) → IsPoint g.bound g.tags u → table_of g entries s u ≤ most → (IsKnown g.limit (table_of g entries r u) → ⊥) → IsMissing g entries s r most (number_of g.bound g.tags u)
+  missing_at u most p l out = (number_small g.bound g.tags u p, l, out)
+
+  pub read_right : (a : Search) → IsRead g entries s r a → IsAnswer g.limit lower left right a
+  read_right InsideAnswer h =
+      let laws = law g (table_of g entries) lower left right s r done flat sl sr fr dr in
+      laws.0
+      (λ u p known. ⊎_elim
+      (λ l. absurd (h (number_of g.bound g.tags u) (missing_at u (g.limit + 1) p (omega arith) (λ k. absurd (omega arith)))))
+      (λ l. omega arith)
+      (cases_lt (g.limit + 1) (table_of g entries r u)))
+  read_right (FoundAnswer w b) h =
+      let c = h.0 in
+      let m = h.1 in
+      let size = h.4 in
+      let one = at_number s c m.0 in
+      let l = m.1 in
+      let laws = law g (table_of g entries) lower left right s r done flat sl sr fr dr in
+      laws.1 (point_of g.bound g.tags c) w b (point_fits g.bound g.tags c) (omega arith)
+      (λ k. m.2 (subst (IsKnown g.limit) (at_number r c m.0) k))
+      (flat_tree g (table_of g entries) lower left s flat sl b w h.2)
+      h.3
+      (omega arith)
+  read_right LargeAnswer h =
+      let c = h.0.0 in
+      let m = h.0.1 in
+      let one = at_number s c m.0 in
+      let l = m.1 in
+      let laws = law g (table_of g entries) lower left right s r done flat sl sr fr dr in
+      laws.2 (
+        point_of g.bound g.tags c,
+        point_fits g.bound g.tags c,
+        omega arith,
+        λ k. m.2 (subst (IsKnown g.limit) (at_number r c m.0) k),
+      )
+      (λ u p out. ⊎_elim
+      (λ k. k)
+      (λ k. absurd (h.1 (number_of g.bound g.tags u) (missing_at u g.limit p k out)))
+      (cases_lt g.limit (table_of g entries s u)))
+
+-- ---- a system and both sides, laid out
+
+abbrev with_left : List Pat → Pat → List Symbol
+with_left system left = laid LowerSymbol (laid_all [] system) left
+
+abbrev with_both : List Pat → Pat → Pat → List Symbol
+with_both system left right = laid LowerSymbol (with_left system left) right
+
+pub search_board : (b : Board) (system : List Pat) (left right : Pat) → grid_fits b.k b.tags ≡ true → AllByRecursion (λ e. tags_below b.tags e ≡ true) system → tags_below b.tags left ≡ true → tags_below b.tags right ≡ true → b.points ≡ points_in b.k b.tags → b.limit ≡ 4096 → b.given.now ≡ [] → symbols_view b.symbols.now ≡ with_both system left right → IsBoard b
+search_board b system left right fits tags tl tr points limit given symbols = record {
+  fits = fits;
+  points = points;
+  limit = omega arith;
+  tags =
+      subst (λ ys. TagsAreBelow b.tags (record { symbols = ys; roots = b.roots.now })) (sym symbols)
+      (symbols_fit b.tags (with_both system left right)
+      (laid_fit b.tags LowerSymbol (λ k. tt) (with_left system left) right tr
+      (laid_fit b.tags LowerSymbol (λ k. tt) (laid_all [] system) left tl (all_fit b.tags [] system tags tt))));
+  given = subst (AreGrids b.k b.tags) (sym given) (λ j grid e. absurd (cc));
+}
+
+pub search_right : (b : Board) (system : List Pat) (left right : Pat) (entries slice : List ℕ) (s r : ℕ) (a : Search) → SearchLaw → IsDone (setting_of b) (table_of (setting_of b) entries) → is_flat right ≡ true → degree_of right < b.k → symbols_view b.symbols.now ≡ with_both system left right → b.roots.now ≡ roots_all [] system → s ≡ last_of (with_left system left) → r ≡ last_of (with_both system left right) → IsReading b slice s r a → slice ≡ entries → IsAnswer b.limit (bounds_of system) left right a
+search_right b system left right entries slice s r a law done fr dr symbols roots is_s is_r reading same =
+    let g = setting_of b in
+    let lower = bounds_of system in
+    let both = with_both system left right in
+    let more = laid_goes LowerSymbol (with_left system left) right in
+    let goes = goes_both (laid_all [] system) (with_left system left) both (laid_goes LowerSymbol (laid_all [] system) left) more in
+    let flat : IsFlatOf lower g.flat =
+    λ k. subst (λ ys. RootStands ys (lower k) (slice_get b.roots.now k)) (sym symbols)
+    (subst (λ rs. RootStands both (lower k) (slice_get rs k)) (sym roots) (all_stand [] system both goes k)) in
+    let sl : Stands g.flat.symbols LowerSymbol left s =
+    subst (λ ys. Stands ys LowerSymbol left s) (sym symbols)
+    (subst (Stands both LowerSymbol left) (sym is_s) (kept_in (with_left system left) both LowerSymbol left (last_of (with_left system left)) more (laid_stands LowerSymbol (laid_all [] system) left))) in
+    let sr : Stands g.flat.symbols LowerSymbol right r =
+    subst (λ ys. Stands ys LowerSymbol right r) (sym symbols)
+    (subst (Stands both LowerSymbol right) (sym is_r) (laid_stands LowerSymbol (with_left system left) right)) in
+    read_right g entries lower left right s r law done flat sl sr fr dr a (subst (λ es. IsRead g es s r a) same reading.read)

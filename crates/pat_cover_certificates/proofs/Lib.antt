@@ -1,0 +1,6 @@
+mod Lists
+mod FirstCovers
+mod Making
+mod Standing
+mod Ending
+mod OnePeriod

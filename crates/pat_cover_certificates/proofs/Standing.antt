@@ -1,0 +1,229 @@
+-- A search as far as it has come: a frame more, the last frame gone, one more of its period.
+use Rattle.std.proofs.Common.{◌≡◌, ℕ, zero, suc, ◌+◌, ◌*◌, ◌-◌, ◌<◌, ◌≤◌, true, List, [], ◌∷◌, ◌++◌, length, get_or, drop, take, Bool, Option, Some, None, inl, inr, ◌⊎◌, ⊎_elim, refl, sym, ap, ◌∙◌, subst, arith, suc-mul, mul-zero, zero-mul, add-mul}
+use Rattle.std.specs.Prelude.{slice_get, slice_set}
+use Rattle.std.proofs.lemmas.List.{take_rest}
+use Rattle.std.proofs.lemmas.Bool.{cases_lt}
+use Rattle.pat_words_spec.specs.Words.{Word, no_word, plus, LiesIn}
+use Rattle.pat_words_spec.specs.Tags.{HasTagsBelow}
+use Rattle.pat_words_laws.proofs.WordLaws.{word_ext, count_eq}
+use Rattle.pat_bags.specs.declared.Bag.{Bag}
+use Rattle.pat_bags.specs.Views.{word_of}
+use Rattle.pat_inclusion_spec.specs.Counts.{most_tags, scaled}
+use Rattle.pat_inclusion_spec.specs.Covers.{makes}
+use Rattle.pat_linear.specs.Views.{words_of}
+use Rattle.pat_cover_certificates.specs.declared.coefficients.frames.Frame.{Frame}
+use Rattle.pat_cover_certificates.specs.coefficients.Numbers.{NoNumbers, tags_occur}
+use Rattle.pat_cover_certificates.specs.coefficients.Frames.{left_of, to_come, Stands, CameToNothing}
+use Rattle.pat_cover_certificates.proofs.Making.{made, makes_by, take_first}
+
+-- there are no more frames than periods
+pub stands_fits : (n : ℕ) (ps : List Word) (w : Word) (fs : List Frame) → Stands n ps w fs → length fs ≤ length ps
+stands_fits n ps w [] s = omega arith
+stands_fits n [] w (f ∷ fs) s = absurd s
+stands_fits n (p ∷ ps) w (f ∷ fs) s = let h = stands_fits n ps (word_of f.left) fs s.2 in omega arith
+
+-- the periods still to come stand behind as many as there are frames
+pub coming : (bs : List Bag) (fs : List Frame) → to_come (words_of bs) fs ≡ words_of (drop (length fs) bs)
+coming bs [] = refl
+coming [] (f ∷ fs) = refl
+coming (b ∷ bs) (f ∷ fs) = coming bs fs
+
+-- none is to come
+pub all_taken : (ps : List Word) (fs : List Frame) → length fs ≡ length ps → to_come ps fs ≡ []
+all_taken [] [] e = refl
+all_taken [] (f ∷ fs) e = absurd (omega arith)
+all_taken (p ∷ ps) [] e = absurd (omega arith)
+all_taken (p ∷ ps) (f ∷ fs) e = all_taken ps fs (omega arith)
+
+pub left_last : (w : Word) (fs : List Frame) (f : Frame) → left_of w (fs ++ f ∷ []) ≡ word_of f.left
+left_last w [] f = refl
+left_last w (g ∷ fs) f = left_last (word_of g.left) fs f
+
+-- ---- a frame more
+
+pub push_stands : (n : ℕ) (ps : List Word) (w : Word) (fs : List Frame) (f : Frame) → Stands n ps w fs → length fs < length ps → f.number ≡ 0 → word_of f.left ≡ left_of w fs → word_of f.before ≡ left_of w fs → Stands n ps w (fs ++ f ∷ [])
+push_stands n [] w fs f s l z e e1 = absurd (omega arith)
+push_stands n (p ∷ ps) w [] f s l z e e1 = (
+  word_ext (plus (word_of f.left) (scaled f.number p)) w (λ t. let x = count_eq (word_of f.left) w e t in let y : f.number * p t ≡ 0 = ap (λ c. c * p t) z ∙ zero-mul (p t) in omega arith),
+  λ m b. absurd (omega arith),
+  tt,
+  e1,
+)
+push_stands n (p ∷ ps) w (g ∷ fs) f s l z e e1 = (s.0, s.1, push_stands n ps (word_of g.left) fs f s.2 (omega arith) z e e1, s.3)
+
+-- ---- the last frame
+
+-- without it the others stand
+pub front_stands : (n : ℕ) (ps : List Word) (w : Word) (fs : List Frame) (f : Frame) → Stands n ps w (fs ++ f ∷ []) → Stands n ps w fs
+front_stands n ps w [] f s = tt
+front_stands n [] w (g ∷ fs) f s = absurd s
+front_stands n (p ∷ ps) w (g ∷ fs) f s = (s.0, s.1, front_stands n ps (word_of g.left) fs f s.2, s.3)
+
+-- what it takes and leaves lies in the word
+pub last_within : (n : ℕ) (ps : List Word) (w : Word) (fs : List Frame) (f : Frame) (p : Word) → Stands n ps w (fs ++ f ∷ []) → slice_get ps (length fs) ≡ Some p → (t : ℕ) → word_of f.left t + f.number * p t ≤ w t
+last_within n [] w [] f p s at t = absurd s
+last_within n [] w (g ∷ fs) f p s at t = absurd s
+last_within n (q ∷ ps) w [] f p s at t =
+    let same : q ≡ p = cc in
+    let x = count_eq (plus (word_of f.left) (scaled f.number q)) w s.0 t in
+    subst (λ (r : Word). word_of f.left t + f.number * r t ≤ w t) same (omega arith)
+last_within n (q ∷ ps) w (g ∷ fs) f p s at t =
+    let x = count_eq (plus (word_of g.left) (scaled g.number q)) w s.0 t in
+    let y = last_within n ps (word_of g.left) fs f p s.2 at t in
+    omega arith
+
+-- one more of its period is taken
+pub next_stands : (n : ℕ) (ps : List Word) (w : Word) (fs : List Frame) (f g : Frame) (p : Word) → Stands n ps w (fs ++ f ∷ []) → slice_get ps (length fs) ≡ Some p → g.number ≡ f.number + 1 → plus (word_of g.left) p ≡ word_of f.left → word_of g.before ≡ word_of f.before → NoNumbers n (to_come ps (fs ++ f ∷ [])) (left_of w (fs ++ f ∷ [])) → Stands n ps w (fs ++ g ∷ [])
+next_stands n [] w [] f g p s at e h eb none = absurd s
+next_stands n [] w (k ∷ fs) f g p s at e h eb none = absurd s
+next_stands n (q ∷ ps) w [] f g p s at e h eb none =
+    let same : p ≡ q = cc in
+    let taken : plus (word_of g.left) q ≡ word_of f.left = subst (λ r. plus (word_of g.left) r ≡ word_of f.left) same h in (
+      word_ext (plus (word_of g.left) (scaled g.number q)) w (λ t.
+          let x = count_eq (plus (word_of g.left) q) (word_of f.left) taken t in
+          let y = count_eq (plus (word_of f.left) (scaled f.number q)) w s.0 t in
+          let z : g.number * q t ≡ f.number * q t + q t = ap (λ c. c * q t) (e ∙ one_more f.number) ∙ suc-mul f.number (q t) in
+          omega arith),
+      λ m b cs k. ⊎_elim
+          (λ (l : m < f.number). s.1 m l cs k)
+          (λ r. let here : m ≡ f.number = omega arith in
+          none cs (take_first n f.number q ps cs (word_of f.left) w s.0 (subst (λ c. makes n (q ∷ ps) (c ∷ cs) w ≡ true) here k)))
+          (cases_lt m f.number),
+      tt,
+      eb ∙ s.3,
+    )
+  where
+    one_more : (k : ℕ) → k + 1 ≡ suc k
+    one_more k = omega arith
+next_stands n (q ∷ ps) w (k ∷ fs) f g p s at e h eb none = (s.0, s.1, next_stands n ps (word_of k.left) fs f g p s.2 at e h eb none, s.3)
+
+-- no more of its period can be taken, so nothing is made from there on
+above : (n a m : ℕ) (q : Word) (ps : List Word) (cs : List ℕ) (v w : Word) → plus v (scaled a q) ≡ w → a < m → makes n (q ∷ ps) (m ∷ cs) w ≡ true → ((t : ℕ) → t < n → q t ≤ v t)
+above n a m q ps cs v w e l h t b =
+    let x = (made n (q ∷ ps) (m ∷ cs) w h).1 t b in
+    let y = count_eq (plus v (scaled a q)) w e t in
+    let z : m * q t ≡ (m - suc a) * q t + (a * q t + q t) = ap (λ c. c * q t) (split a m l) ∙ add-mul (m - suc a) (suc a) (q t) ∙ ap (λ c. (m - suc a) * q t + c) (suc-mul a (q t)) in
+    omega arith
+  where
+    split : (a m : ℕ) → a < m → m ≡ (m - suc a) + suc a
+    split a m l = omega arith
+
+pub ends_here : (n : ℕ) (ps : List Word) (w : Word) (fs : List Frame) (f : Frame) (p : Word) → Stands n ps w (fs ++ f ∷ []) → slice_get ps (length fs) ≡ Some p → (p ≡ no_word) ⊎ (((t : ℕ) → t < n → p t ≤ word_of f.left t) → ⊥) → NoNumbers n (to_come ps (fs ++ f ∷ [])) (left_of w (fs ++ f ∷ [])) → NoNumbers n (to_come ps fs) (left_of w fs)
+ends_here n [] w [] f p s at e none cs k = absurd s
+ends_here n [] w (g ∷ fs) f p s at e none cs k = absurd s
+ends_here n (q ∷ ps) w [] f p s at e none [] k = let l = (made n (q ∷ ps) [] w k).0 in absurd (omega arith)
+ends_here n (q ∷ ps) w [] f p s at e none (m ∷ cs) k =
+    let same : p ≡ q = cc in
+    ⊎_elim
+    (λ (l : m < f.number). s.1 m l cs k)
+    (λ r. ⊎_elim
+    (λ (l : f.number < m). ⊎_elim
+    (λ z. none cs (empty (sym same ∙ z)))
+    (λ o. o (subst (λ (x : Word). (t : ℕ) → t < n → x t ≤ word_of f.left t) (sym same) (above n f.number m q ps cs (word_of f.left) w s.0 l k)))
+    e)
+    (λ b. let here : m ≡ f.number = omega arith in
+    none cs (take_first n f.number q ps cs (word_of f.left) w s.0 (subst (λ c. makes n (q ∷ ps) (c ∷ cs) w ≡ true) here k)))
+    (cases_lt f.number m))
+    (cases_lt m f.number)
+  where
+    empty : q ≡ no_word → makes n ps cs (word_of f.left) ≡ true
+    empty z =
+        let m1 = made n (q ∷ ps) (m ∷ cs) w k in
+        let l = m1.0 in
+        makes_by n ps cs (word_of f.left) (omega arith) (λ t b.
+        let x = m1.1 t b in
+        let y = count_eq (plus (word_of f.left) (scaled f.number q)) w s.0 t in
+        let q0 = count_eq q no_word z t in
+        let a : m * q t ≡ 0 = ap (λ c. m * c) q0 ∙ mul-zero m in
+        let c : f.number * q t ≡ 0 = ap (λ c. f.number * c) q0 ∙ mul-zero f.number in
+        omega arith)
+ends_here n (q ∷ ps) w (g ∷ fs) f p s at e none cs k = ends_here n ps (word_of g.left) fs f p s.2 at e none cs k
+
+-- ---- lists
+
+-- the bag that stands for one past the end of a list
+abbrev pub nowhere : Bag
+nowhere = record { counts = [] }
+
+-- the period at a place
+pub period_at : (bs : List Bag) (i : ℕ) (d : Bag) → i < length bs → slice_get (words_of bs) i ≡ Some (word_of (get_or bs i d))
+period_at [] i d l = absurd (omega arith)
+period_at (b ∷ bs) zero d l = refl
+period_at (b ∷ bs) (suc i) d l = period_at bs i d (omega arith)
+
+pub seam : (fs : List Frame) (f : Frame) (gs : List Frame) → (fs ++ f ∷ []) ++ gs ≡ fs ++ f ∷ gs
+seam [] f gs = refl
+seam (k ∷ fs) f gs = ap (λ x. k ∷ x) (seam fs f gs)
+
+-- a word without tags from the most on lies in another where its first counts do
+pub lies_all : (u v : Word) → HasTagsBelow most_tags u → ((t : ℕ) → t < most_tags → u t ≤ v t) → LiesIn u v
+lies_all u v few h t = ⊎_elim (λ l. h t l) (λ g. let none = few t g in omega arith) (cases_lt t most_tags)
+
+-- what was left before the last frame's period
+pub last_before : (n : ℕ) (ps : List Word) (w : Word) (fs : List Frame) (f : Frame) → Stands n ps w (fs ++ f ∷ []) → word_of f.before ≡ left_of w fs
+last_before n [] w [] f s = absurd s
+last_before n [] w (g ∷ fs) f s = absurd s
+last_before n (p ∷ ps) w [] f s = s.3
+last_before n (p ∷ ps) w (g ∷ fs) f s = last_before n ps (word_of g.left) fs f s.2
+
+-- ---- what came to nothing
+
+pub came_dropped : (bs : List Bag) (i : ℕ) → drop i (words_of bs) ≡ words_of (drop i bs)
+came_dropped bs zero = refl
+came_dropped [] (suc i) = refl
+came_dropped (b ∷ bs) (suc i) = came_dropped bs i
+
+set_cases : {A : Type 0} → (xs : List A) (i : ℕ) (y z : A) (j : ℕ) → slice_get (slice_set xs i y) j ≡ Some z → ((j ≡ i) × (y ≡ z)) ⊎ (slice_get xs j ≡ Some z)
+set_cases [] i y z j h = inr h
+set_cases (x ∷ xs) zero y z zero h = inl (refl, cc)
+set_cases (x ∷ xs) zero y z (suc j) h = inr h
+set_cases (x ∷ xs) (suc i) y z zero h = inr h
+set_cases (x ∷ xs) (suc i) y z (suc j) h = ⊎_elim (λ p. inl (ap suc p.0, p.1)) (λ q. inr q) (set_cases xs i y z j h)
+
+-- the periods from a place on, and those still to come there
+pub from_here : (bs : List Bag) (fs : List Frame) (i : ℕ) → i ≡ length fs → drop i (words_of bs) ≡ to_come (words_of bs) fs
+from_here bs fs i same = came_dropped bs i ∙ ap (λ k. words_of (drop k bs)) same ∙ sym (coming bs fs)
+
+-- one more is noted
+pub one_came : (n : ℕ) (bs : List Bag) (fs : List Frame) (w : Word) (failed : List (Option Bag)) (i : ℕ) (v : Bag) → i ≡ length fs → word_of v ≡ left_of w fs → NoNumbers n (to_come (words_of bs) fs) (left_of w fs) → CameToNothing n (words_of bs) failed → CameToNothing n (words_of bs) (slice_set failed i (Some v))
+one_came n bs fs w failed i v here same none old j u at =
+    ⊎_elim
+    (λ p. let own : v ≡ u = cc in
+    subst (λ l. NoNumbers n l (word_of u)) (sym (from_here bs fs j (p.0 ∙ here)))
+    (subst (λ (x : Word). NoNumbers n (to_come (words_of bs) fs) x) (sym same ∙ ap word_of own) none))
+    (λ q. old j u q)
+    (set_cases failed i (Some v) (Some u) j at)
+
+none_last : (failed : List (Option Bag)) (i : ℕ) (v : Bag) → slice_get (failed ++ None ∷ []) i ≡ Some (Some v) → slice_get failed i ≡ Some (Some v)
+none_last [] zero v h = absurd (cc)
+none_last [] (suc i) v h = absurd (cc)
+none_last (x ∷ failed) zero v h = h
+none_last (x ∷ failed) (suc i) v h = none_last failed i v h
+
+-- room for one more
+pub room_came : (n : ℕ) (ps : List Word) (failed : List (Option Bag)) → CameToNothing n ps failed → CameToNothing n ps (failed ++ None ∷ [])
+room_came n ps failed old i v at = old i v (none_last failed i v at)
+
+pub none_came : (n : ℕ) (ps : List Word) → CameToNothing n ps []
+none_came n ps i v at = absurd (cc)
+
+-- what came to nothing comes to nothing
+pub came_again : (n : ℕ) (bs : List Bag) (failed : List (Option Bag)) (i : ℕ) (left : Word) → CameToNothing n (words_of bs) failed → ((v : Bag) × (slice_get failed i ≡ Some (Some v)) × (word_of v ≡ left)) → NoNumbers n (words_of (drop i bs)) left
+came_again n bs failed i left old found =
+    subst (λ (x : Word). NoNumbers n (words_of (drop i bs)) x) found.2
+    (subst (λ l. NoNumbers n l (word_of found.0)) (came_dropped bs i) (old i found.0 found.1))
+
+-- the place is that of the last frame
+pub nothing_here : (n : ℕ) (bs : List Bag) (fs : List Frame) (w left : Word) (i : ℕ) → i ≡ length fs → left ≡ left_of w fs → NoNumbers n (words_of (drop i bs)) left → NoNumbers n (to_come (words_of bs) fs) (left_of w fs)
+nothing_here n bs fs w left i here same none =
+    subst (λ (x : Word). NoNumbers n (to_come (words_of bs) fs) x) same
+    (subst (λ l. NoNumbers n l left) (ap (λ k. words_of (drop k bs)) here ∙ sym (coming bs fs)) none)
+
+-- there is no frame
+pub nothing_at_all : (n : ℕ) (bs : List Bag) (fs : List Frame) (w : Word) → length fs ≡ 0 → NoNumbers n (to_come (words_of bs) fs) (left_of w fs) → NoNumbers n (words_of bs) w
+nothing_at_all n bs [] w e h = h
+nothing_at_all n bs (f ∷ fs) w e h = absurd (omega arith)
+
+-- the test of the periods from a place on
+pub test_says : (n : ℕ) (bs : List Bag) (i : ℕ) (left : Word) (test : Bool) → test ≡ tags_occur n (words_of (take (length bs - i) (drop i bs))) left → test ≡ tags_occur n (words_of (drop i bs)) left
+test_says n bs i left test h = h ∙ ap (λ l. tags_occur n (words_of l) left) (take_rest bs i)

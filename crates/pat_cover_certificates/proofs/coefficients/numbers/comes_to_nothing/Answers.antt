@@ -1,0 +1,24 @@
+use Rattle.std.proofs.Common.{◌≡◌, true, ap, ◌∙◌, sym, subst, drop}
+use Rattle.std.proofs.Math.Seq.{drop-length}
+use Rattle.pat_bags.specs.Views.{word_of}
+use Rattle.pat_inclusion_spec.specs.Counts.{most_tags}
+use Rattle.pat_linear.specs.Views.{words_of}
+use Rattle.pat_cover_certificates.specs.coefficients.Numbers.{tags_occur}
+use Rattle.pat_cover_certificates.proofs.Making.{none_made, nothing_left}
+use Rattle.pat_cover_certificates.proofs.Standing.{test_says, came_again}
+use Rattle.pat_cover_certificates.proofs.coefficients.numbers.comes_to_nothing.Goals as goal
+
+pub returns-then-not-tags_occur-clause-nothing : goal.returns-then-not-tags_occur-clause-nothing
+returns-then-not-tags_occur-clause-nothing c = λ _.
+    none_made most_tags (words_of (drop c.args.place c.args.periods.now)) (word_of c.args.left.now)
+    (sym (test_says most_tags c.args.periods.now c.args.place (word_of c.args.left.now) c.tags_occur.result c.tags_occur.ensures) ∙ c.if-not-tags_occur.true)
+
+pub returns-clause-nothing : goal.returns-clause-nothing
+returns-clause-nothing c = λ h.
+    came_again most_tags c.args.periods.now c.args.failed.now c.args.place (word_of c.args.left.now) c.requires.failed (c.has_failed.ensures h)
+
+pub returns-clause-end : goal.returns-clause-end
+returns-clause-end c = λ h e.
+    let test = test_says most_tags c.args.periods.now c.args.place (word_of c.args.left.now) c.tags_occur.result c.tags_occur.ensures in
+    nothing_left most_tags (word_of c.args.left.now)
+    (subst (λ l. tags_occur most_tags (words_of l) (word_of c.args.left.now) ≡ true) (ap (λ k. drop k c.args.periods.now) e ∙ drop-length c.args.periods.now) (sym test ∙ c.if-not-tags_occur.false))

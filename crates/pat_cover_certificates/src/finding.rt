@@ -1,0 +1,129 @@
+// The search for a direct cover.
+ghost use Rattle.std.specs.Prelude.{◌≡◌, ◌↔◌, true, ◌<◌, ◌^◌, length, IfOk, IfSome, IsSome};
+ghost use Rattle.pat_bags.specs.Views.{word_of};
+ghost use Rattle.pat_inclusion_spec.specs.Counts.{most_tags};
+ghost use Rattle.pat_inclusion_spec.specs.Covers.{is_cover, IsDirectlyCovered};
+ghost use Rattle.pat_linear.specs.Views.{words_of, set_view, sets_view};
+ghost use Rattle.pat_cover_certificates.specs.Views.{entries_view, entry_if, cover_if};
+ghost use Rattle.pat_cover_certificates.specs.Firsts.{FindsFrom, FindsEach, FindsEntryIn, FindsEntry, FindsCover};
+
+use crate::coefficients::{find_numbers, tags_are_few};
+use crate::cover::CoverEntry;
+use crate::few_tags::sets_are_few;
+use pat_bags::Bag;
+use pat_linear::LinearSet;
+use pat_sequences::Sequence;
+use std::alloc::{AllocError, Global};
+
+/// A direct cover of the left sets by the right ones, or `None` exactly where they are not directly covered. Each set is covered by
+/// the first one that can, and its base and each of its periods by the first numbers in the order of lists.
+pub fn find_cover(
+    alloc: Global,
+    left: &[LinearSet],
+    right: &[LinearSet],
+) -> Result<Option<Sequence<CoverEntry>>, AllocError>
+    requires { length right.now < 2 ^ 32 }
+    ensures exact { IfOk result (λ found. IsSome found ↔ IsDirectlyCovered (sets_view left.now) (sets_view right.now)) }
+    ensures checks { IfOk result (λ found. IfSome found (λ cover. is_cover most_tags (sets_view left.now) (sets_view right.now) (entries_view cover) ≡ true)) }
+    ensures first { IfOk result (λ found. FindsCover most_tags (sets_view left.now) (sets_view right.now) (cover_if found)) }
+{
+    sets_are_few(left);
+    sets_are_few(right);
+    entries_for(alloc, left, right)
+}
+
+/// For each set of the left its first entry, if there are any.
+fn entries_for(
+    alloc: Global,
+    left: &[LinearSet],
+    right: &[LinearSet],
+) -> Result<Option<Sequence<CoverEntry>>, AllocError>
+    requires { length right.now < 2 ^ 32 }
+    ensures { IfOk result (λ found. FindsCover most_tags (sets_view left.now) (sets_view right.now) (cover_if found)) }
+{
+    let mut cover = Sequence::new(alloc);
+    for set in left {
+        match entry_for(alloc, set, right)? {
+            None => return Ok(None),
+            Some(entry) => cover.push(entry)?,
+        }
+    }
+    Ok(Some(cover))
+}
+
+/// The first entry that shows that the set lies in one of the others, if there is one.
+fn entry_for(
+    alloc: Global,
+    set: &LinearSet,
+    right: &[LinearSet],
+) -> Result<Option<CoverEntry>, AllocError>
+    requires { length right.now < 2 ^ 32 }
+    ensures { IfOk result (λ found. FindsEntry most_tags (set_view set.now) (sets_view right.now) (entry_if found)) }
+{
+    let mut place = 0;
+    for other in right {
+        match entry_in(alloc, set, other, place)? {
+            None => place += 1,
+            Some(entry) => return Ok(Some(entry)),
+        }
+    }
+    Ok(None)
+}
+
+/// The first entry that shows that the set lies in the other one, which stands at this place.
+fn entry_in(
+    alloc: Global,
+    set: &LinearSet,
+    other: &LinearSet,
+    place: u32,
+) -> Result<Option<CoverEntry>, AllocError>
+    ensures covers { IfOk result (λ found. FindsEntryIn most_tags (set_view set.now) (set_view other.now) (entry_if found)) }
+    ensures place { IfOk result (λ found. IfSome found (λ entry. entry.set ≡ place)) }
+{
+    let base = match numbers_from(alloc, &other.base, other.periods.as_slice(), &set.base)? {
+        None => return Ok(None),
+        Some(base) => base,
+    };
+    match numbers_each(alloc, other.periods.as_slice(), set.periods.as_slice())? {
+        None => Ok(None),
+        Some(periods) => Ok(Some(CoverEntry {
+            set: place,
+            base,
+            periods,
+        })),
+    }
+}
+
+/// The first numbers by which the periods make the word from the base, if there are any.
+fn numbers_from(
+    alloc: Global,
+    base: &Bag,
+    periods: &[Bag],
+    word: &Bag,
+) -> Result<Option<Sequence<u32>>, AllocError>
+    ensures { IfOk result (λ found. FindsFrom most_tags (word_of base.now) (words_of periods.now) (word_of word.now) found) }
+{
+    tags_are_few(base);
+    match word.sub(base) {
+        None => Ok(None),
+        Some(rest) => find_numbers(alloc, periods, &rest),
+    }
+}
+
+/// For each word the first numbers by which the periods make it, if there are any.
+fn numbers_each(
+    alloc: Global,
+    periods: &[Bag],
+    words: &[Bag],
+) -> Result<Option<Sequence<Sequence<u32>>>, AllocError>
+    ensures { IfOk result (λ found. FindsEach most_tags (words_of periods.now) (words_of words.now) found) }
+{
+    let mut all = Sequence::new(alloc);
+    for word in words {
+        match find_numbers(alloc, periods, word)? {
+            None => return Ok(None),
+            Some(numbers) => all.push(numbers)?,
+        }
+    }
+    Ok(Some(all))
+}

@@ -1,3 +1,0 @@
-pub use Rattle.pat_environments.specs.Lists
-pub mod Views
-pub mod Listed

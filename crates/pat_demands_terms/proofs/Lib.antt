@@ -1,6 +1,0 @@
-pub mod Demanded
-pub mod Listing
-mod NodeDemands
-mod Numbers
-pub mod OpenedSignatures
-mod Turns

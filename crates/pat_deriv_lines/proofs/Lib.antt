@@ -1,2 +1,0 @@
-pub use Rattle.pat_derivation_text_laws.proofs.Cutting
-mod Names

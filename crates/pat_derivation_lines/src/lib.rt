@@ -1,0 +1,10 @@
+//! Parts of the lines of a derivation, read: patterns, types, certificates.
+#![tactic(auto)]
+
+mod certificates;
+mod patterns;
+mod types;
+
+pub use certificates::{number_of, read_certs, read_numbers};
+pub use patterns::{Unread, read_pattern};
+pub use types::{Mailbox, find_interface, read_needs, read_type};

@@ -1,0 +1,10 @@
+// Patterns of derivations, read from their text.
+
+mod parts;
+mod reading;
+mod unread;
+mod waiting;
+mod words;
+
+pub use reading::read_pattern;
+pub use unread::Unread;

@@ -1,0 +1,245 @@
+// Types of terms and of variables.
+ghost use Rattle.std.specs.Prelude.{◌≡◌, ◌∷◌, ◌<◌, length, option_map};
+ghost use Rattle.pat_core.specs.Views.{program_view};
+ghost use Rattle.pat_primitives.specs.Views.{base_view, polarity_view};
+ghost use Rattle.pat_types.specs.Views.{usage_view, type_view, result_view, need_view, needs_view};
+ghost use Rattle.pat_derivation_text_spec.specs.LineReading as reading;
+ghost use Rattle.pat_texts_spec.specs.Joined.{pieces, read_each, then_read};
+ghost use Rattle.pat_derivation_lines.specs.patterns.Answers.{Gives};
+ghost use Rattle.pat_derivation_lines.specs.patterns.Views.{names_of};
+ghost use Rattle.pat_derivation_lines.specs.Views.{mailbox_view, cut_view, used_view, found_view};
+ghost use Rattle.pat_texts.specs.Pieces.{pieces_left};
+
+use crate::certificates::number_of;
+use crate::patterns::{Unread, read_pattern};
+use pat_core::{Interface, Program};
+use pat_derivations::ascends;
+use pat_patterns::Pattern;
+use pat_primitives::{Base, Polarity};
+use pat_sequences::Sequence;
+use pat_texts::{before, behind, cut, first_piece};
+use pat_types::{MailboxType, TypeOf, Usage};
+use std::alloc::Global;
+
+/// A mailbox type without its usage.
+#[derive(Drop)]
+pub struct Mailbox {
+    pub interface: u32,
+    pub polarity: Polarity,
+    pub pattern: Pattern,
+}
+
+/// What stands before the first polarity, which, and what behind it.
+fn cut_polarity(text: &[u8]) -> Option<(&[u8], Polarity, &[u8])>
+    ensures { cut_view result ≡ reading.cut_polarity text.now }
+{
+    for (i, byte) in text.iter().enumerate() {
+        if *byte == b'!' {
+            return Some((&text[..i], Polarity::Sending, &text[i + 1..]));
+        }
+        if *byte == b'?' {
+            return Some((&text[..i], Polarity::Receiving, &text[i + 1..]));
+        }
+    }
+    None
+}
+
+/// The first interface with this name, and its place.
+pub fn find_interface<'a>(program: &'a Program, name: &[u8]) -> Option<(u32, &'a Interface)>
+    requires { length program.now.interfaces < 4294967296 }
+    ensures { found_view result ≡ reading.found name.now (program_view program.now).interfaces }
+{
+    for (i, interface) in program.interfaces.as_slice().iter().enumerate() {
+        if interface.name.as_bytes() == name {
+            return Some((i as u32, interface));
+        }
+    }
+    None
+}
+
+/// A mailbox type of an interface, from the text of its pattern.
+fn mailbox_in(
+    alloc: Global,
+    interface: u32,
+    declared: &Interface,
+    polarity: Polarity,
+    text: &[u8],
+) -> Result<Mailbox, Unread>
+    ensures { Gives mailbox_view (reading.mailbox_in (polarity_view polarity) text.now (interface, names_of declared.now.tags)) result }
+{
+    let pattern = read_pattern(alloc, declared.tags.as_slice(), text)?;
+    Ok(Mailbox {
+        interface,
+        polarity,
+        pattern,
+    })
+}
+
+/// A mailbox type without its usage.
+fn read_mailbox(alloc: Global, program: &Program, text: &[u8]) -> Result<Mailbox, Unread>
+    requires { length program.now.interfaces < 4294967296 }
+    ensures { Gives mailbox_view (reading.read_mailbox (program_view program.now) text.now) result }
+{
+    match cut_polarity(text) {
+        Some((name, polarity, more)) => match find_interface(program, name) {
+            Some((interface, declared)) => mailbox_in(alloc, interface, declared, polarity, more),
+            None => Err(Unread::NotSpelled),
+        },
+        None => Err(Unread::NotSpelled),
+    }
+}
+
+fn read_base(text: &[u8]) -> Option<Base>
+    ensures { option_map base_view result ≡ reading.read_base text.now }
+{
+    if text == b"Unit".as_slice() {
+        Some(Base::Unit)
+    } else if text == b"Bool".as_slice() {
+        Some(Base::Bool)
+    } else if text == b"Int".as_slice() {
+        Some(Base::Int)
+    } else if text == b"String".as_slice() {
+        Some(Base::Str)
+    } else {
+        None
+    }
+}
+
+/// The type of a term.
+pub fn read_type(alloc: Global, program: &Program, text: &[u8]) -> Result<TypeOf, Unread>
+    requires { length program.now.interfaces < 4294967296 }
+    ensures { Gives result_view (reading.read_type (program_view program.now) text.now) result }
+{
+    match read_base(text) {
+        Some(base) => Ok(TypeOf::Base(base)),
+        None => {
+            let mailbox = read_mailbox(alloc, program, text)?;
+            Ok(TypeOf::Mailbox {
+                interface: mailbox.interface,
+                polarity: mailbox.polarity,
+                pattern: mailbox.pattern,
+            })
+        }
+    }
+}
+
+/// A usage at the end, and what stands before it.
+fn cut_usage(text: &[u8]) -> Option<(&[u8], Usage)>
+    ensures { used_view result ≡ reading.cut_usage text.now }
+{
+    match before(text, b" sec") {
+        Some(front) => Some((front, Usage::Second)),
+        None => match before(text, b" ret") {
+            Some(front) => Some((front, Usage::Returnable)),
+            None => None,
+        },
+    }
+}
+
+/// A variable's type, behind a space.
+fn read_used(alloc: Global, program: &Program, text: &[u8]) -> Result<MailboxType, Unread>
+    requires { length program.now.interfaces < 4294967296 }
+    ensures { Gives type_view (reading.read_used (program_view program.now) text.now) result }
+{
+    match behind(text, b" ") {
+        Some(more) => match cut_usage(more) {
+            Some((front, usage)) => {
+                let mailbox = read_mailbox(alloc, program, front)?;
+                Ok(MailboxType {
+                    interface: mailbox.interface,
+                    polarity: mailbox.polarity,
+                    pattern: mailbox.pattern,
+                    usage,
+                })
+            }
+            None => Err(Unread::NotSpelled),
+        },
+        None => Err(Unread::NotSpelled),
+    }
+}
+
+/// A variable and its type.
+fn read_named(alloc: Global, program: &Program, text: &[u8]) -> Result<(u32, MailboxType), Unread>
+    requires { length program.now.interfaces < 4294967296 }
+    ensures { Gives need_view (reading.read_named (program_view program.now) text.now) result }
+{
+    match behind(text, b"v") {
+        Some(more) => match cut(more, b':') {
+            Some((own, of)) => {
+                let variable = number_of(own)?;
+                let used = read_used(alloc, program, of)?;
+                Ok((variable, used))
+            }
+            None => Err(Unread::NotSpelled),
+        },
+        None => Err(Unread::NotSpelled),
+    }
+}
+
+/// A variable and its type behind a space.
+fn read_next(alloc: Global, program: &Program, text: &[u8]) -> Result<(u32, MailboxType), Unread>
+    requires { length program.now.interfaces < 4294967296 }
+    ensures { Gives need_view (reading.read_next (program_view program.now) text.now) result }
+{
+    match behind(text, b" ") {
+        Some(more) => read_named(alloc, program, more),
+        None => Err(Unread::NotSpelled),
+    }
+}
+
+/// The first, and the others behind a space each.
+fn read_all(
+    alloc: Global,
+    program: &Program,
+    text: &[u8],
+) -> Result<Sequence<(u32, MailboxType)>, Unread>
+    requires { length program.now.interfaces < 4294967296 }
+    ensures { Gives needs_view (reading.read_all (program_view program.now) (pieces 44 text.now)) result }
+{
+    let mut needs = Sequence::new(alloc);
+    let (first, others) = first_piece(text, b',');
+    let named = read_named(alloc, program, first)?;
+    needs.push(named)?;
+    read_others(alloc, program, others, needs)
+}
+
+/// The others, each behind a space.
+fn read_others(
+    alloc: Global,
+    program: &Program,
+    others: Option<&[u8]>,
+    needs: Sequence<(u32, MailboxType)>,
+) -> Result<Sequence<(u32, MailboxType)>, Unread>
+    requires { length program.now.interfaces < 4294967296 }
+    ensures { Gives needs_view (then_read (needs_view needs) (read_each (reading.read_next (program_view program.now)) (pieces_left 44 others.entry))) result }
+{
+    let mut needs = needs;
+    let mut rest = others;
+    while let Some(more) = rest {
+        let (own, others) = first_piece(more, b',');
+        let named = read_next(alloc, program, own)?;
+        needs.push(named)?;
+        rest = others;
+    }
+    Ok(needs)
+}
+
+/// The types of variables, with a comma and a space between, in ascending order of variable.
+pub fn read_needs(
+    alloc: Global,
+    program: &Program,
+    text: &[u8],
+) -> Result<Sequence<(u32, MailboxType)>, Unread>
+    requires { length program.now.interfaces < 4294967296 }
+    ensures { Gives needs_view (reading.read_needs (program_view program.now) text.now) result }
+{
+    if text.is_empty() {
+        return Ok(Sequence::new(alloc));
+    }
+    let needs = read_all(alloc, program, text)?;
+    if ascends(needs.as_slice()) {
+        Ok(needs)
+    } else {
+        Err(Unread::NotSpelled)
+    }
+}

@@ -1,0 +1,13 @@
+pub use Rattle.pat_type_schemes_spec.specs.NodeTypes
+pub use Rattle.pat_type_system_spec.specs.Types
+pub use Rattle.pat_type_system_spec.specs.Typings
+pub mod Same
+pub mod Derivations
+pub mod Scopes
+pub mod Demands
+pub mod Conditions
+pub mod Rules
+pub mod Validity
+pub mod Spelled
+pub mod Readings
+pub mod Truth

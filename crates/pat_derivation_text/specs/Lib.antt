@@ -1,4 +1,0 @@
-pub mod Joined
-pub mod DerivationText
-pub mod LineReading
-pub mod Reading

@@ -1,0 +1,4 @@
+pub mod DerivationText
+pub mod LineReading
+pub mod Reading
+pub mod patterns

@@ -1,7 +1,0 @@
-use Rattle.std.proofs.Common.{◌≡◌, ◌++◌, drop}
-use Rattle.pat_types.specs.Views.{needs_view}
-use Rattle.pat_environments.specs.Lists.{returnable_entries}
-use Rattle.pat_environments.proofs.entries.made_returnable.Given as goal
-
-abbrev pub invariant-loop-own : goal.invariant-loop-own
-invariant-loop-own l = needs_view l.made ++ returnable_entries (needs_view (drop l.own-index l.env)) ≡ returnable_entries (needs_view l.env)

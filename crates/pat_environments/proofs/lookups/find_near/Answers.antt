@@ -1,6 +1,0 @@
-use Rattle.pat_environments.proofs.Halving.{stands_at}
-use Rattle.pat_environments.proofs.lookups.find_near.Goals as goal
-
-pub returns-then-env-place : goal.returns-then-env-place
-returns-then-env-place c =
-    stands_at c.args.env.now c.args.variable c.args.near.now c.index-env-place.result c.index-env-place-then-env-place.result c.requires c.if-place-env.true c.if-env-place.true

@@ -1,6 +1,0 @@
-use Rattle.std.proofs.Common.{◌≡◌, drop}
-use Rattle.pat_model.specs.Programs.{is_among}
-use Rattle.pat_environments.proofs.names.holds.Given as goal
-
-abbrev pub invariant-loop-own : goal.invariant-loop-own
-invariant-loop-own l = is_among l.name (drop l.own-index l.names) ≡ is_among l.name l.names

@@ -1,5 +1,0 @@
-use Rattle.pat_environments.proofs.Rising.{Rises}
-use Rattle.pat_environments.proofs.names.rising_front.Given as goal
-
-abbrev pub invariant-loop-place : goal.invariant-loop-place
-invariant-loop-place l = Rises l.names l.place l.least

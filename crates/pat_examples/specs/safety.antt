@@ -1,0 +1,5 @@
+pub mod Build
+pub mod Witnesses
+pub mod Safe
+pub mod Forms
+pub mod Unsafe

@@ -1,2 +1,0 @@
-mod VariableSets
-mod FreeLists

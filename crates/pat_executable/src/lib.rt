@@ -1,9 +1,0 @@
-//! Programs that are ready to run: with the free variables of their nodes.
-#![tactic(auto)]
-
-mod executable;
-mod free_variables;
-mod variables;
-
-pub use executable::Executable;
-use variables::Variables;

@@ -1,5 +1,0 @@
-use Rattle.pat_grammar_laws.proofs.CompleteDecl.{one_tree}
-use Rattle.pat_grammar_laws.proofs.one_tree_law.Goals as goal
-
-pub returns : goal.returns
-returns c = one_tree

@@ -1,7 +1,0 @@
-mod Reached
-mod Relaxing
-mod Closing
-mod Turns
-mod Done
-mod Waiting
-mod Walking

@@ -1,8 +1,0 @@
-use Rattle.pat_grid_tables.specs.Views.{setting_of}
-use Rattle.pat_grid_tables.specs.Moves.{Moved, AreOthers, RowsBefore}
-use Rattle.pat_grid_tables.proofs.steps.relax_parts.Given as goal
-
-abbrev pub invariant-loop-first : goal.invariant-loop-first
-invariant-loop-first l =
-    let g = setting_of l.board in
-    Moved g l.s (AreOthers l.parts.0 l.parts.1 l.s) (RowsBefore g l.s l.parts.0 l.parts.1 l.firsts l.seconds l.first-index) l.initial.sizes l.initial.changed l.sizes l.changed

@@ -1,8 +1,0 @@
-use Rattle.pat_grid_tables.specs.Views.{setting_of}
-use Rattle.pat_grid_tables.specs.Moves.{Moved, AreOthers, RowBefore}
-use Rattle.pat_grid_tables.proofs.steps.relax_row.Given as goal
-
-abbrev pub invariant-loop-second : goal.invariant-loop-second
-invariant-loop-second l =
-    let g = setting_of l.board in
-    Moved g l.s (AreOthers l.parts.0 l.parts.1 l.s) (RowBefore g l.s l.parts.0 l.parts.1 l.first l.seconds l.second-index) l.initial.sizes l.initial.changed l.sizes l.changed

@@ -1,6 +1,0 @@
-use Rattle.pat_grid_tables.specs.Views.{setting_of}
-use Rattle.pat_grid_tables.specs.Waiting.{HasUsersBefore}
-use Rattle.pat_grid_tables.proofs.users.users_of.Given as goal
-
-abbrev pub invariant-loop-s : goal.invariant-loop-s
-invariant-loop-s l = HasUsersBefore (setting_of l.board) l.s l.users

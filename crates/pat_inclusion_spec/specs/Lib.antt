@@ -1,0 +1,11 @@
+pub use Rattle.pat_words_spec.specs.Patterns
+pub mod Counts
+pub mod LinearSets
+pub mod ClosedForms
+pub mod Covers
+pub mod Points
+pub mod CutWords
+pub mod Values
+pub mod Certificates
+pub mod Under
+pub mod bounds

@@ -1,3 +1,0 @@
-pub use Rattle.pat_infer_terms.proofs.Payloads
-mod Outer
-mod Order

@@ -1,0 +1,6 @@
+mod Putting
+mod Gathered
+mod LookUps
+pub mod Listed
+mod Naming
+mod Checked

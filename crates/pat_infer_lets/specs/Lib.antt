@@ -1,3 +1,0 @@
-pub use Rattle.pat_infer_needs.specs.Gathering
-pub use Rattle.pat_infer_needs.specs.Types
-pub mod Lets

@@ -1,7 +1,0 @@
-//! Lets: what a bound part is asked for, the rules of a let, and what it needs.
-#![tactic(auto)]
-
-mod lets;
-
-pub use lets::{asked_of, join_let};
-pub use pat_infer_needs::without;

@@ -1,4 +1,0 @@
-mod Putting
-mod Gathered
-mod LookUps
-pub mod Listed

@@ -1,8 +1,0 @@
-use Rattle.std.proofs.Common.{◌≡◌, drop}
-use Rattle.pat_inference.specs.Branches.{first_need}
-use Rattle.pat_infer_needs.specs.Combining.{column_view}
-use Rattle.pat_infer_needs.proofs.branching.first_of.Given as goal
-
--- the first need is the first of those that are left
-abbrev pub invariant-loop-need : goal.invariant-loop-need
-invariant-loop-need l = first_need (column_view (drop l.need-index l.needs)) ≡ first_need (column_view l.needs)

@@ -1,7 +1,0 @@
-use Rattle.std.proofs.Common.{drop}
-use Rattle.pat_infer_needs.proofs.LookUps.{BegunWith}
-use Rattle.pat_infer_needs.proofs.looking.first_places.Given as goal
-
--- the places so far, with those of the branches that are left, are the places of all
-abbrev pub invariant-loop : goal.invariant-loop
-invariant-loop l = BegunWith l.branches (drop l.index l.branches) l.cursors

@@ -1,5 +1,0 @@
-pub mod Types
-pub mod Combining
-pub mod Stopping
-pub mod Gathering
-pub mod Looking

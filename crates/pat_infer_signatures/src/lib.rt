@@ -1,6 +1,0 @@
-//! The types of signatures, where a variable stands for each pattern that isn't written.
-#![tactic(auto)]
-
-mod signatures;
-
-pub use signatures::{Signature, open_signatures};

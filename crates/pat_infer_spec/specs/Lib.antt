@@ -1,0 +1,13 @@
+pub use Rattle.pat_type_system_spec.specs.Typings
+pub use Rattle.pat_type_schemes_spec.specs.NodeTypes
+pub use Rattle.pat_type_schemes_spec.specs.Signatures
+pub mod Constraints
+pub mod Needs
+pub mod Binders
+pub mod BothParts
+pub mod Branches
+pub mod Walk
+pub mod Solutions
+pub mod Laws
+pub mod Shapes
+pub mod Inclusions

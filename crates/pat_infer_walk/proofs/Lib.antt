@@ -1,4 +1,0 @@
-mod SignedNumbers
-mod Climbing
-mod Parts
-pub mod Functions

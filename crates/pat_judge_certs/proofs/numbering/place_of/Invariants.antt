@@ -1,6 +1,0 @@
-use Rattle.std.proofs.Common.{◌≡◌, ◌+◌, drop}
-use Rattle.pat_judge_certs.specs.Numbering.{place_of}
-use Rattle.pat_judge_certs.proofs.numbering.place_of.Given as goal
-
-abbrev pub invariant-loop-own : goal.invariant-loop-own
-invariant-loop-own l = l.place + place_of (drop l.own-index l.names) l.name ≡ place_of l.names l.name

@@ -1,4 +1,0 @@
-mod Large
-mod FormTags
-mod Powers
-mod Pushed

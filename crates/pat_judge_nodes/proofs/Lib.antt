@@ -1,0 +1,5 @@
+mod Differing
+mod Lookups
+mod Places
+mod Tables
+mod Walks

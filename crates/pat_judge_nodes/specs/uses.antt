@@ -1,0 +1,3 @@
+pub use Rattle.pat_obligations.specs.Views
+pub use Rattle.pat_obligations.specs.of_terms.Opened
+pub mod Arguments

@@ -1,4 +1,0 @@
-mod Lookups
-mod Places
-mod Tables
-mod Walks

@@ -1,9 +1,0 @@
-use Rattle.std.proofs.Common.{◌≡◌, length}
-use Rattle.pat_validity.specs.Same.{all_differ}
-use Rattle.pat_judge_uses.proofs.alias.all_differ.Given as goal
-
-abbrev pub decreases-loop-name : goal.decreases-loop-name
-decreases-loop-name l = length l.rest
-
-abbrev pub invariant-loop-name : goal.invariant-loop-name
-invariant-loop-name l = all_differ l.rest ≡ all_differ l.names

@@ -1,8 +1,0 @@
-use Rattle.std.proofs.Common.{◌≡◌, drop}
-use Rattle.std.specs.List.{list_all}
-use Rattle.pat_validity.specs.Demands.{is_used_well}
-use Rattle.pat_demands_terms.specs.Views.{demands_view}
-use Rattle.pat_judge_uses.proofs.uses.uses_well.Given as goal
-
-abbrev pub invariant-loop-demand : goal.invariant-loop-demand
-invariant-loop-demand l = list_all is_used_well (demands_view (drop l.demand-index l.demands)) ≡ list_all is_used_well (demands_view l.demands)

@@ -1,4 +1,0 @@
-mod LookUps
-mod Closed
-mod Flags
-mod Grids

@@ -1,2 +1,0 @@
-pub use Rattle.pat_derivations.specs.Views
-pub mod Tested

@@ -1,3 +1,0 @@
-mod Cuts
--- for the crates above
-pub mod WordOr

@@ -1,6 +1,0 @@
-use Rattle.std.proofs.Common.{take}
-use Rattle.pat_lexical.specs.Characters.{Each, is_digit}
-use Rattle.pat_lexer_fronts.proofs.runs.digit_run.Given as goal
-
-abbrev pub invariant-loop-i : goal.invariant-loop-i
-invariant-loop-i l = Each is_digit (take l.i l.text)

@@ -1,7 +1,0 @@
-use Rattle.std.proofs.Common.{◌≡◌, ◌++◌, drop}
-use Rattle.pat_lines.specs.RunText.{numbers_text}
-use Rattle.pat_lines.proofs.standing.push_threads.Given as goal
-
--- what is written, and the numbers that are left, are the whole text
-abbrev pub invariant-loop-thread : goal.invariant-loop-thread
-invariant-loop-thread l = l.text.items ++ numbers_text (drop l.thread-index l.threads) ≡ l.fn.text.items ++ numbers_text l.threads

@@ -1,6 +1,0 @@
-use Rattle.pat_locality_laws.proofs.Calls.{others_stay, sleepers_called}
-use Rattle.pat_locality_laws.proofs.Tops.{top_lets_go}
-use Rattle.pat_locality_laws.proofs.sleeper_laws.Goals as goal
-
-pub returns : goal.returns
-returns c = record { stay = others_stay; call = sleepers_called; top = top_lets_go }

@@ -1,0 +1,3 @@
+pub mod refcounts
+pub mod ready_sets
+pub mod messages

@@ -1,4 +1,0 @@
-mod Turns
-mod Sums
-mod Times
-mod Lists

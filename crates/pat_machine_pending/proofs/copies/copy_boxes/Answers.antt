@@ -1,5 +1,0 @@
-use Rattle.pat_machine_pending.proofs.Sorting.{copied_box}
-use Rattle.pat_machine_pending.proofs.copies.copy_boxes.Goals as goal
-
-pub loop-mailbox-preserved : goal.loop-mailbox-preserved
-loop-mailbox-preserved c = copied_box c.args.mailboxes.now.mailboxes c.loop-mailbox.own c.copy_box.new.own c.loop-mailbox.mailbox c.loop-mailbox.invariant c.in_ok-copy_box.ensures

@@ -1,9 +1,0 @@
-use Rattle.std.proofs.Common.{◌≡◌, map, take}
-use Rattle.pat_reduce_threads.specs.ThreadViews.{message_view}
-use Rattle.pat_pending_laws.specs.Pending.{all_of}
-use Rattle.pat_machine_pending.specs.Boxes.{boxes_view}
-use Rattle.pat_machine_pending.proofs.copies.copy_boxes.Given as goal
-
--- the copies so far
-abbrev pub invariant-loop-mailbox : goal.invariant-loop-mailbox
-invariant-loop-mailbox l = map message_view l.own ≡ all_of (take l.mailbox (boxes_view l.mailboxes.mailboxes))

@@ -1,8 +1,0 @@
-use Rattle.std.proofs.Common.{◌≡◌, take}
-use Rattle.pat_pending_laws.specs.Pending.{live_of}
-use Rattle.pat_machine_pending.specs.Boxes.{boxes_view}
-use Rattle.pat_machine_pending.proofs.copies.list_live.Given as goal
-
--- those so far
-abbrev pub invariant-loop-mailbox : goal.invariant-loop-mailbox
-invariant-loop-mailbox l = l.own ≡ live_of (take l.mailbox (boxes_view l.mailboxes.mailboxes))

@@ -1,6 +1,0 @@
-pub use Rattle.pat_alone_laws.specs.Alone
-pub use Rattle.pat_alone_laws.specs.Laws
-pub mod InPlace
-pub mod Placed
-pub mod Steps
-pub mod Remains

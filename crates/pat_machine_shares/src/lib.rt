@@ -1,8 +1,0 @@
-//! The end of a job on the kept configuration, with the names of mailboxes counted as they change.
-#![tactic(auto)]
-
-mod counting;
-mod sharing;
-
-pub use pat_machine_states::{Names, Prospect, Remains, State, Taken, list_top};
-pub use sharing::{share, share_in_place};

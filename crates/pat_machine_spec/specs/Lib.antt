@@ -1,0 +1,9 @@
+pub use Rattle.pat_type_system_spec.specs.Interfaces
+pub use Rattle.pat_type_system_spec.specs.Typings
+pub mod Opens
+pub mod Commits
+pub mod Tops
+pub mod Lendings
+pub mod Turns
+pub mod Machines
+pub mod Refusals

@@ -1,0 +1,2 @@
+pub mod shared_steps
+pub mod wakeups

@@ -1,0 +1,3 @@
+pub use Rattle.pat_machine_laws.specs.refcounts.Counting
+pub use Rattle.pat_machine_laws.specs.refcounts.Naming
+pub mod Sleepers

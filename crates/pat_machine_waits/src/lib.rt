@@ -1,8 +1,0 @@
-//! Which threads may go on, which are about to send, and which sleep at a guard.
-#![tactic(auto)]
-
-mod ascending;
-mod waits;
-
-pub use ascending::{Ascending, lesser};
-pub use waits::Waits;

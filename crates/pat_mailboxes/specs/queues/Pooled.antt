@@ -1,0 +1,55 @@
+-- The queues that a pool holds.
+use Rattle.std.specs.Prelude.{◌≡◌, ℕ, List, [], ◌∷◌, ◌++◌, length, map, get_or, Option, Some, None, IsSome, slice_get}
+use Rattle.std.specs.Option.{option_to_list}
+use Rattle.std.specs.List.{AllByRecursion}
+use Rattle.pat_mailboxes.specs.queues.Chained.{IsChained, queue_nodes, nodes_in}
+use Rattle.pat_mailboxes.specs.declared.queues.chains.Chains.{Chains}
+use Rattle.pat_mailboxes.specs.declared.queues.pool.Mark.{Mark}
+use Rattle.pat_mailboxes.specs.declared.queues.pool.Mark.TheVariants.{Live, Closed}
+use Rattle.pat_mailboxes.specs.declared.queues.region.Region.{Region}
+
+-- what the nodes hold
+abbrev pub values_of : {T : Type 0} → List (Option T) → List ℕ → List T
+values_of held [] = []
+values_of held (k ∷ ks) = option_to_list (get_or held k None) ++ values_of held ks
+
+-- each of the nodes holds a value
+abbrev pub AreFull : {T : Type 0} → List (Option T) → List ℕ → Type 0
+AreFull held ks = AllByRecursion (λ k. IsSome (get_or held k None)) ks
+
+-- what each queue holds
+abbrev pub contents_of : {T : Type 0} → List (Option T) → List (List ℕ) → List (List T)
+contents_of held nss = map (values_of held) nss
+
+abbrev pub contents : {T : Type 0} → Region T → List (List T)
+contents r = contents_of r.held.items (queue_nodes r.chains)
+
+-- each node stands in one place, and holds a value where that is in a queue
+pub record IsHolding {T : Type 0} (chains : Chains) (held : List (Option T)) : Type 0 where
+  pub chained : IsChained chains []
+  pub nodes : length held ≡ length chains.links.items
+  pub full : (q : ℕ) → AreFull held (nodes_in (queue_nodes chains) q)
+
+abbrev pub IsRegion : {T : Type 0} → Region T → Type 0
+IsRegion r = IsHolding r.chains r.held.items
+
+-- a queue by its mark
+abbrev pub marked : {T : Type 0} → Mark → List T → Option (List T)
+marked Live values = Some values
+marked (Closed _) values = None
+
+abbrev pub queues_of : {T : Type 0} → List Mark → List (List T) → List (Option (List T))
+queues_of [] qs = []
+queues_of (m ∷ ms) [] = []
+queues_of (m ∷ ms) (q ∷ qs) = marked m q ∷ queues_of ms qs
+
+-- a closed queue is empty
+abbrev pub IsEmptyIfClosed : {T : Type 0} → Option Mark → List T → Type 0
+IsEmptyIfClosed None values = Unit {0}
+IsEmptyIfClosed (Some Live) values = Unit {0}
+IsEmptyIfClosed (Some (Closed _)) values = values ≡ []
+
+-- each queue has a mark, and what is closed is empty
+pub record AreMarked {T : Type 0} (marks : List Mark) (queues : List (List T)) : Type 0 where
+  pub each : length marks ≡ length queues
+  pub closed : (q : ℕ) → IsEmptyIfClosed (slice_get marks q) (get_or queues q [])

@@ -1,0 +1,196 @@
+// Nodes with what they hold.
+ghost use Rattle.std.specs.Prelude.{◌≡◌, ℕ, ◌+◌, ◌<◌, ◌≤◌, List, [], ◌∷◌, ◌++◌, length, map, option_map, get_or, Some, None, IfOk, IsSome, OnOk, OnErr, slice_get, slice_set, remove, vec_len, vec_capacity};
+ghost use Rattle.pat_mailboxes.specs.queues.Pooled.{IsRegion, contents};
+ghost use Rattle.pat_mailboxes.specs.queues.Queues.{Finds};
+
+use crate::queues::Test;
+use crate::queues::chains::Chains;
+use std::alloc::{AllocError, Global};
+use std::mem;
+
+/// A region of nodes, each of which is free or holds a value of a queue.
+#[derive(Drop)]
+pub struct Region<T> {
+    pub chains: Chains,
+    /// What each node holds.
+    pub held: Vec<Option<T>>,
+}
+
+impl<T: Drop> Region<T> {
+    pub(crate) fn new(alloc: Global) -> Region<T>
+        ensures region { IsRegion result }
+        ensures none { (contents result ≡ []) × (result.chains.spare ≡ 0) }
+    {
+        Region {
+            chains: Chains::new(alloc),
+            held: Vec::new(alloc),
+        }
+    }
+
+    /// Adds free nodes. An error changes nothing that contracts see.
+    pub(crate) fn add_nodes(&mut self, more: u32) -> Result<(), AllocError>
+        requires { IsRegion self.old }
+        ensures region { IsRegion self.new }
+        ensures contents { contents self.new ≡ contents self.old }
+        ensures ok { OnOk result (self.new.chains.spare ≡ self.old.chains.spare + more) }
+        ensures err { OnErr result (self.new.chains.spare ≡ self.old.chains.spare) }
+    {
+        // Nodes are numbered with 32 bits.
+        if self.held.len() + more as usize >= 4294967296 {
+            return Err(AllocError);
+        }
+        self.make_room(more)?;
+        for _ in 0..more {
+            self.add_node();
+        }
+        Ok(())
+    }
+
+    // Makes room for further nodes.
+    fn make_room(&mut self, more: u32) -> Result<(), AllocError>
+        requires { IsRegion self.old }
+        ensures region { IsRegion self.new }
+        ensures held { self.new.held.items ≡ self.old.held.items }
+        ensures contents { contents self.new ≡ contents self.old }
+        ensures spare { self.new.chains.spare ≡ self.old.chains.spare }
+        ensures values { OnOk result (vec_len self.new.held + more ≤ vec_capacity self.new.held) }
+        ensures links { OnOk result (vec_len self.new.chains.links + more ≤ vec_capacity self.new.chains.links) }
+    {
+        self.held.reserve(more as usize)?;
+        self.chains.links.reserve(more as usize)?;
+        Ok(())
+    }
+
+    // Adds a free node, for which there is room.
+    fn add_node(&mut self)
+        requires region { IsRegion self.old }
+        requires fits { vec_len self.old.held + 1 < 4294967296 }
+        requires values { vec_len self.old.held < vec_capacity self.old.held }
+        requires links { vec_len self.old.chains.links < vec_capacity self.old.chains.links }
+        ensures region { IsRegion self.new }
+        ensures contents { contents self.new ≡ contents self.old }
+        ensures spare { self.new.chains.spare ≡ self.old.chains.spare + 1 }
+        ensures nodes { vec_len self.new.held ≡ vec_len self.old.held + 1 }
+        ensures all { vec_len self.new.chains.links ≡ vec_len self.old.chains.links + 1 }
+        ensures values { vec_capacity self.new.held ≡ vec_capacity self.old.held }
+        ensures links { vec_capacity self.new.chains.links ≡ vec_capacity self.old.chains.links }
+    {
+        self.held.push_reserved(None);
+        self.chains.add_node();
+    }
+
+    /// A further queue, which is empty. An error changes nothing.
+    pub(crate) fn add_queue(&mut self) -> Result<(), AllocError>
+        requires { IsRegion self.old }
+        ensures region { IsRegion self.new }
+        ensures spare { self.new.chains.spare ≡ self.old.chains.spare }
+        ensures ok { OnOk result (contents self.new ≡ contents self.old ++ [] ∷ []) }
+        ensures err { OnErr result (contents self.new ≡ contents self.old) }
+    {
+        self.chains.add_queue()
+    }
+
+    /// Appends a value to a queue.
+    pub(crate) fn push(&mut self, queue: u32, value: T)
+        requires region { IsRegion self.old }
+        requires there { queue < length (contents self.old) }
+        requires spare { 0 < self.old.chains.spare }
+        ensures region { IsRegion self.new }
+        ensures spare { self.new.chains.spare + 1 ≡ self.old.chains.spare }
+        ensures contents { contents self.new ≡ slice_set (contents self.old) queue (get_or (contents self.old) queue [] ++ value ∷ []) }
+    {
+        let node = self.chains.give(queue);
+        self.held[node as usize] = Some(value);
+    }
+
+    /// Takes the value at a place out of a queue.
+    pub(crate) fn take(&mut self, queue: u32, place: u32) -> T
+        requires region { IsRegion self.old }
+        requires there { place < length (get_or (contents self.old) queue []) }
+        ensures region { IsRegion self.new }
+        ensures spare { self.new.chains.spare ≡ self.old.chains.spare + 1 }
+        ensures value { slice_get (get_or (contents self.old) queue []) place ≡ Some result }
+        ensures contents { contents self.new ≡ slice_set (contents self.old) queue (remove (get_or (contents self.old) queue []) place) }
+    {
+        let node = self.chains.give_back(queue, place);
+        match take_out(&mut self.held, node) {
+            Some(value) => value,
+            // A node of a queue holds a value.
+            None => unreachable!(),
+        }
+    }
+
+    /// The value at a place of a queue.
+    pub(crate) fn get(&self, queue: u32, place: u32) -> &T
+        requires region { IsRegion self.now }
+        requires there { place < length (get_or (contents self.now) queue []) }
+        ensures { slice_get (get_or (contents self.now) queue []) place ≡ Some result.now }
+    {
+        let node = self.chains.node_at(queue, place);
+        value_at(self.held.as_slice(), node)
+    }
+
+    /// The values of a queue, in order.
+    pub(crate) fn list(&self, alloc: Global, queue: u32) -> Result<Vec<&T>, AllocError>
+        requires region { IsRegion self.now }
+        requires there { queue < length (contents self.now) }
+        ensures { IfOk result (λ vs. map (λ v. v.now) vs.items ≡ get_or (contents self.now) queue []) }
+    {
+        let chain = self.chains.queues[queue as usize];
+        let mut values = Vec::new(alloc);
+        let mut node = chain.first;
+        for _ in 0..chain.len {
+            values.push(value_at(self.held.as_slice(), node))?;
+            node = self.chains.links[node as usize];
+        }
+        Ok(values)
+    }
+
+    /// The first value of a queue that passes a test, and its place.
+    pub(crate) fn find<P: Test<T>>(&self, queue: u32, test: &P) -> Option<(u32, &T)>
+        requires region { IsRegion self.now }
+        requires there { queue < length (contents self.now) }
+        ensures { Finds (P.passes test.now) (get_or (contents self.now) queue []) (option_map (λ f. (f.0, f.1.now)) result) }
+    {
+        let chain = self.chains.queues[queue as usize];
+        let mut node = chain.first;
+        for place in 0..chain.len {
+            let value = value_at(self.held.as_slice(), node);
+            if test.passes(value) {
+                return Some((place, value));
+            }
+            node = self.chains.links[node as usize];
+        }
+        None
+    }
+
+    /// How many values a queue has.
+    pub(crate) fn len(&self, queue: u32) -> u32
+        requires region { IsRegion self.now }
+        requires there { queue < length (contents self.now) }
+        ensures { result ≡ length (get_or (contents self.now) queue []) }
+    {
+        self.chains.queues[queue as usize].len
+    }
+}
+
+// What a node holds; it holds nothing then.
+fn take_out<T>(held: &mut Vec<Option<T>>, node: u32) -> Option<T>
+    requires { node < vec_len held.old }
+    ensures value { result ≡ get_or held.old.items node None }
+    ensures after { held.new.items ≡ slice_set held.old.items node None }
+{
+    mem::replace(&mut held[node as usize], None)
+}
+
+// The value that a node holds.
+fn value_at<T>(held: &[Option<T>], node: u32) -> &T
+    requires { IsSome (get_or held.now node None) }
+    ensures { get_or held.now node None ≡ Some result.now }
+{
+    match &held[node as usize] {
+        Some(value) => value,
+        // A node of a queue holds a value.
+        None => unreachable!(),
+    }
+}

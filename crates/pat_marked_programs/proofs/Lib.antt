@@ -1,4 +1,0 @@
-mod Few
-mod Once
--- for the crates above
-pub mod Small

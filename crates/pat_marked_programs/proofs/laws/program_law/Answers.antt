@@ -1,5 +1,0 @@
-use Rattle.pat_marked_programs.proofs.Once.{one_program}
-use Rattle.pat_marked_programs.proofs.laws.program_law.Goals as goal
-
-pub returns : goal.returns
-returns c = λ mark bytes. one_program mark bytes (c.split_law.ensures mark bytes) c.verdict_law.ensures

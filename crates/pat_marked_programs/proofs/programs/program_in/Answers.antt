@@ -1,4 +1,0 @@
-use Rattle.pat_marked_programs.proofs.programs.program_in.Goals as goal
-
-pub returns-in-Ok-clause-refused : goal.returns-in-Ok-clause-refused
-returns-in-Ok-clause-refused c = c.program_of_input.ensures.refused c.args.front.now c.in-Ok.ensures

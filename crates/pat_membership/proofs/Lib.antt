@@ -1,4 +1,0 @@
-mod Rests
-mod Spans
-mod Totals
-mod CutTwice

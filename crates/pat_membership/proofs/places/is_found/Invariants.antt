@@ -1,5 +1,0 @@
-use Rattle.std.proofs.Common.{◌<◌}
-use Rattle.pat_membership.proofs.places.is_found.Given as goal
-
-abbrev pub invariant-loop : goal.invariant-loop
-invariant-loop l = l.slot < l.count

@@ -1,5 +1,0 @@
-use Rattle.std.proofs.Common.{◌≡◌, ◌<◌, length}
-use Rattle.pat_membership.proofs.places.put.Given as goal
-
-abbrev pub invariant-loop : goal.invariant-loop
-invariant-loop l = (l.slot < l.count) × (length l.slots ≡ l.count)

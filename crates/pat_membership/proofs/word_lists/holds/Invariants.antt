@@ -1,7 +1,0 @@
-use Rattle.std.proofs.Common.{drop}
-use Rattle.pat_bags.specs.Views.{word_of}
-use Rattle.pat_membership.specs.Listings.{HasWord}
-use Rattle.pat_membership.proofs.word_lists.holds.Given as goal
-
-abbrev pub invariant-loop-own : goal.invariant-loop-own
-invariant-loop-own l = HasWord l.words (word_of l.word) → HasWord (drop l.own-index l.words) (word_of l.word)

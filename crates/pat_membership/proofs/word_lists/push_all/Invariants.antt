@@ -1,9 +1,0 @@
-use Rattle.std.proofs.Common.{drop}
-use Rattle.pat_membership.specs.Listings.{HasWord}
-use Rattle.pat_words.specs.Languages.{EitherOf}
-use Rattle.pat_membership.proofs.Rests.{Same}
-use Rattle.pat_membership.proofs.word_lists.push_all.Given as goal
-
-abbrev pub invariant-loop-word : goal.invariant-loop-word
-invariant-loop-word l =
-    Same (EitherOf (HasWord l.words) (HasWord (drop l.word-index l.more))) (EitherOf (HasWord l.initial.words) (HasWord l.more))

@@ -1,5 +1,0 @@
-use Rattle.pat_model_laws.proofs.FreeVars.{free_unfolds}
-use Rattle.pat_model_laws.proofs.variable_laws.Goals as goal
-
-pub returns : goal.returns
-returns c = record { free = free_unfolds }

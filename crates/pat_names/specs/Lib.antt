@@ -1,8 +1,0 @@
-pub use Rattle.pat_grammar.specs.Trees
-pub mod Scopes
-pub mod Heads
-pub mod Findings
-pub mod Numbering
-pub mod Places
-pub mod Claims
-pub mod Resolved

@@ -1,5 +1,0 @@
-use Rattle.pat_names_laws.proofs.Given.{kind_given}
-use Rattle.pat_names_laws.proofs.kind_law.Goals as goal
-
-pub returns : goal.returns
-returns c = λ h scope v k t none. kind_given h t scope v k none

@@ -1,5 +1,0 @@
-use Rattle.pat_naming_laws.proofs.Changed.{appended_message, taken_message, appended_thread, taken_thread}
-use Rattle.pat_naming_laws.proofs.change_laws.Goals as goal
-
-pub returns : goal.returns
-returns c = record { appended_message = appended_message; taken_message = taken_message; appended_thread = appended_thread; taken_thread = taken_thread }

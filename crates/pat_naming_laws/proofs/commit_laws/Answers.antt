@@ -1,5 +1,0 @@
-use Rattle.pat_naming_laws.proofs.Committed.{step_counts, shared_step_keeps_frames, commit_counts}
-use Rattle.pat_naming_laws.proofs.commit_laws.Goals as goal
-
-pub returns : goal.returns
-returns c = record { step = step_counts; frames = shared_step_keeps_frames; commit = commit_counts }

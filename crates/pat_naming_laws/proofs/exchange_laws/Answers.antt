@@ -1,6 +1,0 @@
-use Rattle.pat_naming_laws.proofs.Joined.{over_counts, top_counts}
-use Rattle.pat_naming_laws.proofs.Changed.{exchanged_thread, exchanged_top}
-use Rattle.pat_naming_laws.proofs.exchange_laws.Goals as goal
-
-pub returns : goal.returns
-returns c = record { threads = exchanged_thread; over = over_counts; top = top_counts; tops = exchanged_top }

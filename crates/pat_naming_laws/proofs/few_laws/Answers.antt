@@ -1,6 +1,0 @@
-use Rattle.pat_naming_laws.proofs.Once.{typed_once}
-use Rattle.pat_naming_laws.proofs.Parts.{run_parts, replay_parts, machine_names}
-use Rattle.pat_naming_laws.proofs.few_laws.Goals as goal
-
-pub returns : goal.returns
-returns c = record { once = typed_once; runs = run_parts; replays = replay_parts; machine = machine_names }

@@ -1,5 +1,0 @@
-use Rattle.pat_naming_laws.proofs.Live.{start_names, named_live, next_not_named}
-use Rattle.pat_naming_laws.proofs.live_laws.Goals as goal
-
-pub returns : goal.returns
-returns c = record { start = start_names; live = named_live; next = next_not_named }

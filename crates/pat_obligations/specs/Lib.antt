@@ -1,0 +1,4 @@
+pub use Rattle.pat_derivations.specs.environments.Lists
+pub mod Views
+pub mod Listed
+pub mod of_terms

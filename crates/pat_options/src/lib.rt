@@ -1,6 +1,0 @@
-//! The options of a run, and numbers, from the words of a call.
-#![tactic(auto)]
-
-mod options;
-
-pub use options::{RunOptions, number_of, options_of};

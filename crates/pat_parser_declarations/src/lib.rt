@@ -1,8 +1,0 @@
-//! Interfaces, and the heads of functions, read by descent.
-#![tactic(auto)]
-
-mod functions;
-mod interfaces;
-
-pub use functions::{FunctionSignature, signature};
-pub use interfaces::interface;

@@ -1,9 +1,0 @@
-//! Expressions, and the terms without blocks, read from tokens.
-#![tactic(auto)]
-
-mod arguments;
-mod expressions;
-mod operands;
-mod simple;
-
-pub use simple::{TermRead, simple_term, test};

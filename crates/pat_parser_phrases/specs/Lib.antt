@@ -1,0 +1,4 @@
+pub mod tokens
+pub mod types
+pub mod expressions
+pub mod declarations

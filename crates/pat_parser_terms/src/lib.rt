@@ -1,7 +1,0 @@
-//! What the parser does where a term or a clause begins, and behind a term: a phrase at a time.
-#![tactic(auto)]
-
-mod clauses;
-mod terms;
-
-pub use terms::within;

@@ -1,5 +1,0 @@
-pub mod Choices
-pub mod Decimals
-mod ReadAgain
-pub mod Running
-pub mod Spelled

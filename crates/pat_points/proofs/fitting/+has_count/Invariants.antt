@@ -1,5 +1,0 @@
-use Rattle.std.proofs.Common.{length}
-use Rattle.pat_points.proofs.fitting.+has_count.Given as goal
-
-abbrev pub decreases-has_count : goal.decreases-has_count
-decreases-has_count l = length l.counts.now

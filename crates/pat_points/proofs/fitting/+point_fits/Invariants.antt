@@ -1,5 +1,0 @@
-use Rattle.std.proofs.Common.{length}
-use Rattle.pat_points.proofs.fitting.+point_fits.Given as goal
-
-abbrev pub decreases-point_fits : goal.decreases-point_fits
-decreases-point_fits l = length l.counts.now

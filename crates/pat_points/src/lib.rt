@@ -1,6 +1,0 @@
-//! Points of grids as counts of tags: whether they are ones of a grid, and in order.
-#![tactic(auto)]
-
-mod fitting;
-
-pub use fitting::points_fit;

@@ -1,6 +1,0 @@
-pub mod NodeLaws
-mod ChainLaws
-mod Linking
-mod Holding
-mod Marking
-mod Searching

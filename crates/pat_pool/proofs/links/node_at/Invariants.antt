@@ -1,6 +1,0 @@
-use Rattle.std.proofs.Common.{◌≡◌, slice_index}
-use Rattle.pat_pool.specs.Nodes.{path}
-use Rattle.pat_pool.proofs.links.node_at.Given as goal
-
-abbrev pub invariant-loop : goal.invariant-loop
-invariant-loop l = l.node ≡ slice_index (path l.links l.len l.first) l.counter

@@ -1,5 +1,0 @@
-use Rattle.pat_preservation_laws.proofs.Interfaces.{interfaces_stay, interfaces_join, live_matter}
-use Rattle.pat_preservation_laws.proofs.interface_laws.Goals as goal
-
-pub returns : goal.returns
-returns c = record { stay = interfaces_stay; join = interfaces_join; live = live_matter }

@@ -1,6 +1,0 @@
-use Rattle.pat_preservation_laws.proofs.Preserved.{step_keeps, run_keeps, replay_keeps, run_typed}
-use Rattle.pat_preservation_laws.proofs.StartTyped.{start_typed}
-use Rattle.pat_preservation_laws.proofs.preservation_laws.Goals as goal
-
-pub returns : goal.returns
-returns c = record { start = start_typed; steps = step_keeps; runs = run_keeps; replays = replay_keeps; reached = run_typed }

@@ -1,5 +1,0 @@
-use Rattle.pat_print_patterns.proofs.Numbered.{text_same}
-use Rattle.pat_print_patterns.proofs.numbered_pattern.pattern_text_law.Goals as goal
-
-pub returns : goal.returns
-returns c = text_same

@@ -1,5 +1,0 @@
-mod Callees
-mod Firsts
-mod FramesReversed
-mod ParametersKept
-mod Refusals

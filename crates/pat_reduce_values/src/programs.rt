@@ -1,0 +1,8 @@
+// Programs that are ready to run: with the free variables of their nodes.
+
+mod executable;
+mod free_variables;
+mod variables;
+
+pub use executable::Executable;
+use variables::Variables;

@@ -1,0 +1,42 @@
+// Programs with the free variables of their nodes.
+ghost use Rattle.std.specs.Prelude.{◌≡◌, ◌<◌, ℕ, IsTrue, IfOk};
+ghost use Rattle.pat_semantics_laws.specs.Programs.{is_free};
+ghost use Rattle.pat_semantics_laws.specs.WellFormed.{WellFormed};
+ghost use Rattle.pat_core.specs.Views.{program_view};
+ghost use Rattle.pat_reduce_values.specs.programs.FreeVariables.{is_listed};
+
+use crate::programs::Variables;
+use crate::programs::free_variables::list_free;
+use pat_core::Program;
+use pat_sequences::Sequence;
+use std::alloc::{AllocError, Global};
+
+/// A program with the free variables of its nodes, each once, which each step looks up.
+#[derive(Drop)]
+pub struct Executable {
+    pub program: Program,
+    free: Sequence<Variables>,
+    ghost listed: { (x n : ℕ) → is_listed free n x ≡ is_free (program_view program) x n },
+    ghost small: { (x n : ℕ) → IsTrue (is_free (program_view program) x n) → x < 4294967296 },
+}
+
+impl Executable {
+    /// Lists the free variables of each node.
+    pub fn new(alloc: Global, program: Program) -> Result<Self, AllocError>
+        requires { WellFormed (program_view program) }
+        ensures { IfOk result (λ x. x.program ≡ program) }
+    {
+        let free = list_free(alloc, &program)?;
+        Ok(Executable { program, free })
+    }
+
+    /// Whether the variable is free in the node. A number past the last node has no free variable.
+    pub fn is_free(&self, variable: u32, node: u32) -> bool
+        ensures { result ≡ is_free (program_view self.now.program) variable node }
+    {
+        match self.free.as_slice().get(node as usize) {
+            Some(variables) => variables.contains(variable),
+            None => false,
+        }
+    }
+}

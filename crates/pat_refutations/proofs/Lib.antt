@@ -1,0 +1,5 @@
+mod Walks
+mod Rests
+mod Spans
+mod Totals
+mod CutTwice

@@ -1,0 +1,48 @@
+-- What is answered of bytes, and of parts of them.
+use Rattle.std.specs.Prelude.{◌≡◌, ◌+◌, ℕ, List, map, Result, Some}
+use Rattle.std.specs.declared.result.Result.TheVariants.{Ok, Err}
+use Rattle.pat_semantics_spec.specs.Programs.{Program}
+use Rattle.pat_semantics_spec.specs.Configs.{start}
+use Rattle.pat_semantics_spec.specs.Runs.{Entry, replay}
+use Rattle.pat_core.specs.Views.{program_view}
+use Rattle.pat_reduce.specs.declared.config.Config.{Config as CodeConfig}
+use Rattle.pat_reduce.specs.Views.{config_view, entry_view}
+use Rattle.pat_machine_spec.specs.Refusals.{IsRefusedAt}
+use Rattle.pat_history_spec.specs.Reading.{ReadsAs, Unread}
+use Rattle.pat_front.specs.declared.front.FrontError.{FrontError}
+use Rattle.pat_front.specs.declared.front.FrontError.TheVariants as error
+use Rattle.pat_front.specs.declared.verdict.Verdict.{Verdict}
+use Rattle.pat_front.specs.declared.verdict.Verdict.TheVariants as verdict
+use Rattle.pat_replay_input.specs.declared.histories.Replayed.{Replayed}
+use Rattle.pat_replay_input.specs.Histories.{HasReplay, Unreplayed, Replays, IsReplayRefusal}
+
+-- the program, the history and the configuration of the bytes, or why they are refused; want of memory says nothing
+abbrev pub BytesGive : List ℕ → Result Replayed FrontError → Type 0
+BytesGive bytes (Ok r) = Replays bytes (program_view r.code.program) (map entry_view r.entries.items) (config_view r.config)
+BytesGive bytes (Err (error.Refused v)) = IsReplayRefusal bytes v
+BytesGive bytes (Err error.NoMemory) = Unit {0}
+
+-- the same of the text behind a program
+abbrev pub TextGives : Program → (from : ℕ) → (text : List ℕ) → Result Replayed FrontError → Type 0
+TextGives p from text (Ok r) = (program_view r.code.program ≡ p) × HasReplay p text (map entry_view r.entries.items) (config_view r.config)
+TextGives p from text (Err (error.Refused v)) = Unreplayed p from text v
+TextGives p from text (Err error.NoMemory) = Unit {0}
+
+-- why what is looked at of a text isn't replayed: a line of it isn't read, or an entry is refused
+abbrev pub RefusesPart : Program → (from : ℕ) → (part : List ℕ) → Verdict → Type 0
+RefusesPart p from part (verdict.BadText o) = (offset : ℕ) × (o ≡ from + offset) × Unread part offset
+RefusesPart p from part (verdict.RefusedAt i) = (es : List Entry) × ReadsAs part es × IsRefusedAt p (start p) es i
+RefusesPart p from part _ = ⊥
+
+abbrev pub PartGives : Program → (from : ℕ) → (part : List ℕ) → Result Replayed FrontError → Type 0
+PartGives p from part (Ok r) =
+    (program_view r.code.program ≡ p) × ReadsAs part (map entry_view r.entries.items) × (replay p (map entry_view r.entries.items) ≡ Some (config_view r.config))
+PartGives p from part (Err (error.Refused v)) = RefusesPart p from part v
+PartGives p from part (Err error.NoMemory) = Unit {0}
+
+-- the configuration that entries lead to, or which of them is refused
+abbrev pub EntriesGive : Program → List Entry → Result CodeConfig FrontError → Type 0
+EntriesGive p es (Ok c) = replay p es ≡ Some (config_view c)
+EntriesGive p es (Err (error.Refused (verdict.RefusedAt i))) = IsRefusedAt p (start p) es i
+EntriesGive p es (Err (error.Refused _)) = ⊥
+EntriesGive p es (Err error.NoMemory) = Unit {0}

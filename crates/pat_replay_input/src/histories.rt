@@ -1,0 +1,101 @@
+// The replay of a history behind the text of its program.
+ghost use Rattle.std.specs.Prelude.{◌<◌, ◌≤◌, ◌+◌, IfOk, length, map};
+ghost use Rattle.pat_semantics_spec.specs.WellFormed.{WellFormed};
+ghost use Rattle.pat_core.specs.Views.{program_view};
+ghost use Rattle.pat_reduce.specs.Views.{entry_view};
+ghost use Rattle.pat_replay_input.specs.Histories.{IsHistoryPart};
+ghost use Rattle.pat_replay_input.specs.Gives.{BytesGive, TextGives, PartGives, EntriesGive};
+
+use pat_core::Program;
+use pat_front::{FrontError, Verdict};
+use pat_history::read;
+use pat_input_split::{place_of_mark, program_before};
+use pat_reduce::{Config, Entry};
+use pat_reduce_values::Executable;
+use pat_replay::{ReplayError, replay};
+use pat_texts::TextError;
+use std::alloc::Global;
+
+/// A program, a history of it, and the configuration that this leads to.
+#[derive(Drop)]
+pub struct Replayed {
+    pub code: Executable,
+    pub entries: Vec<Entry>,
+    pub config: Config,
+}
+
+/// The bytes are the text of a program, and behind it that of a history: what this leads to.
+pub fn replay_bytes(alloc: Global, bytes: &[u8]) -> Result<Replayed, FrontError>
+    ensures gives { BytesGive bytes.now result }
+    ensures few { IfOk result (λ r. length r.entries.items < 4294967295) }
+{
+    match program_before(alloc, bytes, b"%%history") {
+        Ok((program, at)) => replay_text(alloc, program, &bytes[at..], at as u32),
+        Err(error) => Err(error),
+    }
+}
+
+// The history that a text spells whose first byte has this offset.
+fn replay_text(
+    alloc: Global,
+    program: Program,
+    text: &[u8],
+    from: u32,
+) -> Result<Replayed, FrontError>
+    requires well_formed { WellFormed (program_view program) }
+    requires room { from + length text.now ≤ 67108864 }
+    ensures gives { TextGives (program_view program) from text.now result }
+    ensures few { IfOk result (λ r. length r.entries.items < 4294967295) }
+{
+    match Executable::new(alloc, program) {
+        Ok(code) => replay_part(alloc, code, before_output(text), from),
+        Err(_) => Err(FrontError::NoMemory),
+    }
+}
+
+// What is looked at of a text: nothing from the first line `%%output` on.
+fn before_output(text: &[u8]) -> &[u8]
+    ensures part { IsHistoryPart text.now result.now }
+    ensures within { length result.now ≤ length text.now }
+{
+    match place_of_mark(text, b"%%output") {
+        Some(at) => &text[..at],
+        None => text,
+    }
+}
+
+fn replay_part(
+    alloc: Global,
+    code: Executable,
+    part: &[u8],
+    from: u32,
+) -> Result<Replayed, FrontError>
+    requires { from + length part.now ≤ 67108864 }
+    ensures gives { PartGives (program_view code.program) from part.now result }
+    ensures few { IfOk result (λ r. length r.entries.items < 4294967295) }
+{
+    match read(alloc, part, from) {
+        Ok(entries) => match replay_entries(alloc, &code, &entries) {
+            Ok(config) => Ok(Replayed {
+                code,
+                entries,
+                config,
+            }),
+            Err(error) => Err(error),
+        },
+        Err(TextError::BadText(offset)) => Err(FrontError::Refused(Verdict::BadText(offset))),
+        Err(TextError::NoMemory) => Err(FrontError::NoMemory),
+    }
+}
+
+// What the entries lead to.
+fn replay_entries(alloc: Global, code: &Executable, entries: &[Entry]) -> Result<Config, FrontError>
+    requires { length entries.now < 4294967295 }
+    ensures { EntriesGive (program_view code.now.program) (map entry_view entries.now) result }
+{
+    match replay(alloc, code, entries) {
+        Ok(config) => Ok(config),
+        Err(ReplayError::RefusedAt(entry)) => Err(FrontError::Refused(Verdict::RefusedAt(entry))),
+        Err(ReplayError::NoMemory) => Err(FrontError::NoMemory),
+    }
+}

@@ -1,8 +1,0 @@
-//! What the words of a pattern are: the residual by a tag, and tests of all words at once.
-#![tactic(auto)]
-
-mod reading;
-mod residuals;
-
-pub use reading::{covers, degree, inhabited, is_flat, nullable};
-pub use residuals::residual;

@@ -1,2 +1,0 @@
--- for the crates above
-pub mod Firsts

@@ -1,4 +1,0 @@
-mod Differing
-mod Keys
-mod Places
-mod Tops

@@ -1,5 +1,0 @@
-use Rattle.pat_run.proofs.Serving.{is_over}
-use Rattle.pat_run.proofs.running.outcome_of.Goals as goal
-
-pub unreachable-requires : goal.unreachable-requires
-unreachable-requires c = is_over c.args.machine.now c.requires c.in-None.ensures

@@ -1,0 +1,5 @@
+use Rattle.pat_run.proofs.Serving.{is_over}
+use Rattle.pat_run.proofs.single.running.outcome_of.Goals as goal
+
+pub unreachable-requires : goal.unreachable-requires
+unreachable-requires c = is_over c.args.machine.now c.requires c.in-None.ensures

@@ -1,5 +1,0 @@
-use Rattle.pat_runners.proofs.Given.{several_give}
-use Rattle.pat_runners.proofs.running.run_in_threads.Goals as goal
-
-pub returns : goal.returns
-returns g c = several_give c.args.accepted c.args.options c.in_ok-finished.finished c.if-workers-eq1.false c.in_ok-finished.ensures

@@ -1,0 +1,10 @@
+pub use Rattle.pat_words_spec.specs.Words
+pub use Rattle.pat_words_spec.specs.Patterns
+pub mod Values
+pub mod Programs
+pub mod WellFormed
+pub mod Configs
+pub mod Orders
+pub mod Steps
+pub mod Runs
+pub mod Faults

@@ -1,5 +1,0 @@
-mod Pairs
-mod FirstTurns
-mod SecondTurns
-mod Steps
-mod Ties

@@ -1,2 +1,0 @@
-pub use Rattle.pat_solve_replacing.specs.Replacing
-pub mod Results

@@ -1,0 +1,5 @@
+mod Sums
+pub mod Limited
+mod Turns
+mod Lookups
+mod Slopes

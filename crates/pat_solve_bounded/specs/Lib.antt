@@ -1,0 +1,4 @@
+pub mod Variables
+pub mod Limits
+pub mod Views
+pub mod replacing

@@ -1,0 +1,6 @@
+pub use Rattle.pat_solve_bounds.specs.lower_bounds.Indexes
+pub mod Sides
+pub mod Rounds
+pub mod Forms
+pub mod Findings
+pub mod Values

@@ -1,5 +1,0 @@
-use Rattle.pat_solve_covers.proofs.Fitting.{fits}
-use Rattle.pat_solve_covers.proofs.fits_law.Goals as goal
-
-pub returns : goal.returns
-returns c n cs ks = fits n cs ks

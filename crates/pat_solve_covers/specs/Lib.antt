@@ -1,2 +1,0 @@
-pub use Rattle.pat_solve_assigned.specs.Results
-pub mod Fits

@@ -1,0 +1,12 @@
+// Certificates of the inclusions that a node needs, where the values of variables show the constraints of a program.
+
+mod adding;
+mod closed;
+mod context;
+mod covers;
+mod sides;
+
+pub use adding::certificates;
+pub use closed::closed_values;
+pub use context::Solved;
+pub use pat_certificate_checks::plain_values;

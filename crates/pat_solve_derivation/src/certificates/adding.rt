@@ -1,0 +1,138 @@
+// Certificates of inclusions.
+ghost use Rattle.std.specs.Prelude.{◌≡◌, [], ◌∷◌, Some, option_map, IsTrue, IfOk, OnOk};
+ghost use Rattle.std.specs.List.{AllByRecursion, flat_map};
+ghost use Rattle.pat_inclusion_spec.specs.Values.{is_formed};
+ghost use Rattle.pat_derivation_spec.specs.Demands.{inclusions_of};
+ghost use Rattle.pat_patterns.specs.Views.{pattern_view};
+ghost use Rattle.pat_derivations.specs.Views.{cert_view, certs_view};
+ghost use Rattle.pat_obligations.specs.Views.{demand_view, demands_view};
+ghost use Rattle.pat_certificate_checks.specs.Views.{inclusion_view};
+ghost use Rattle.pat_solve_spec.specs.Derived.{AreCertsFor};
+ghost use Rattle.pat_solve_bounds.specs.results.Views.{form_of, forms_of};
+ghost use Rattle.pat_solve_derivation.specs.certificates.Making.{scope_in, forms_in, IsSolved, IsMet, IsMetIn, IsCertIf, Adds};
+
+use crate::certificates::context::Solved;
+use crate::certificates::covers::cover_between;
+use pat_certificate_checks::{Inclusion, inclusion_of, is_trivial, reflexive_of};
+use pat_derivations::Cert;
+use pat_obligations::Demand;
+use pat_patterns::Pattern;
+use pat_sequences::Sequence;
+use std::alloc::{AllocError, Global};
+
+/// The bound of the grids that are the interface's values, if these are grids.
+fn bound_at(bounds: &[Option<u32>], interface: u32) -> Option<u32>
+    ensures { form_of (Some result) ≡ forms_of bounds.now interface }
+{
+    match bounds.get(interface as usize) {
+        None => None,
+        Some(bound) => *bound,
+    }
+}
+
+/// The certificate of an inclusion that is trivial or shown by the values; none where it is trivial. Both sides are patterns of the
+/// interface.
+fn certificate(
+    alloc: Global,
+    solved: &Solved,
+    interface: u32,
+    left: &Pattern,
+    right: &Pattern,
+) -> Result<Option<Cert>, AllocError>
+    requires solved { IsSolved solved.now }
+    requires left { IsTrue (is_formed (scope_in solved.now) interface (pattern_view left.now)) }
+    requires right { IsTrue (is_formed (scope_in solved.now) interface (pattern_view right.now)) }
+    requires met { IsMetIn (scope_in solved.now) (forms_in solved.now) interface (pattern_view left.now) (pattern_view right.now) }
+    ensures { IfOk result (λ cert. IsCertIf (scope_in solved.now) interface (pattern_view left.now) (pattern_view right.now) (forms_in solved.now interface) (option_map cert_view cert)) }
+{
+    if is_trivial(alloc, solved.plain, left, right)? {
+        return Ok(None);
+    }
+    match bound_at(solved.bounds, interface) {
+        Some(k) => Ok(Some(Cert::Grid(k))),
+        None => {
+            let cover = cover_between(alloc, solved, interface, left, right)?;
+            Ok(Some(Cert::Cover(cover)))
+        }
+    }
+}
+
+/// Adds the certificate of an inclusion, unless it is trivial.
+fn push_certificate(
+    alloc: Global,
+    solved: &Solved,
+    needed: &Inclusion,
+    certs: &mut Sequence<Cert>,
+) -> Result<(), AllocError>
+    requires solved { IsSolved solved.now }
+    requires met { IsMet (scope_in solved.now) (forms_in solved.now) (inclusion_view needed.now) }
+    ensures { OnOk result (Adds (scope_in solved.now) (forms_in solved.now) (inclusion_view needed.now ∷ []) certs.old certs.new) }
+{
+    match needed.interface {
+        // It is of an interface.
+        None => unreachable!(),
+        Some(interface) => {
+            let left = needed.left.as_pattern();
+            match certificate(alloc, solved, interface, left, needed.right)? {
+                None => Ok(()),
+                Some(cert) => certs.push(cert),
+            }
+        }
+    }
+}
+
+/// Adds the certificate of the inclusion that the demand needs, unless it is trivial.
+#[inline(always)]
+#[tactic(auto, using(crate::proofs::Added::adds_reflexive))]
+fn push_for(
+    alloc: Global,
+    solved: &Solved,
+    demand: &Demand,
+    certs: &mut Sequence<Cert>,
+) -> Result<(), AllocError>
+    requires solved { IsSolved solved.now }
+    requires met { AllByRecursion (IsMet (scope_in solved.now) (forms_in solved.now)) (inclusions_of (demand_view demand.now)) }
+    ensures { OnOk result (Adds (scope_in solved.now) (forms_in solved.now) (inclusions_of (demand_view demand.now)) certs.old certs.new) }
+{
+    match reflexive_of(demand) {
+        // It is trivial.
+        Some(_) => Ok(()),
+        None => push_for_inclusion(alloc, solved, demand, certs),
+    }
+}
+
+/// Adds the certificate of the inclusion that the demand needs, unless it is trivial.
+#[inline(never)]
+fn push_for_inclusion(
+    alloc: Global,
+    solved: &Solved,
+    demand: &Demand,
+    certs: &mut Sequence<Cert>,
+) -> Result<(), AllocError>
+    requires solved { IsSolved solved.now }
+    requires met { AllByRecursion (IsMet (scope_in solved.now) (forms_in solved.now)) (inclusions_of (demand_view demand.now)) }
+    ensures { OnOk result (Adds (scope_in solved.now) (forms_in solved.now) (inclusions_of (demand_view demand.now)) certs.old certs.new) }
+{
+    match inclusion_of(alloc, demand)? {
+        None => Ok(()),
+        Some(needed) => push_certificate(alloc, solved, &needed, certs),
+    }
+}
+
+/// Certificates of the inclusions that the demands need, in order, but of those that are trivial. Each of them is trivial or shown by
+/// the values.
+pub fn certificates(
+    alloc: Global,
+    solved: &Solved,
+    demands: &[Demand],
+) -> Result<Sequence<Cert>, AllocError>
+    requires solved { IsSolved solved.now }
+    requires met { AllByRecursion (IsMet (scope_in solved.now) (forms_in solved.now)) (flat_map inclusions_of (demands_view demands.now)) }
+    ensures { IfOk result (λ certs. AreCertsFor (scope_in solved.now) (forms_in solved.now) (flat_map inclusions_of (demands_view demands.now)) (certs_view certs)) }
+{
+    let mut certs = Sequence::new(alloc);
+    for demand in demands {
+        push_for(alloc, solved, demand, &mut certs)?;
+    }
+    Ok(certs)
+}

@@ -1,0 +1,2 @@
+pub use Rattle.pat_solve_bounded.specs.replacing.Replacing
+pub mod Results

@@ -1,3 +1,0 @@
-mod Valued
-mod Turning
-mod Giving

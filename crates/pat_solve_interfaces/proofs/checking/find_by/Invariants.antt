@@ -1,6 +1,0 @@
-use Rattle.pat_solve_interfaces.specs.Forms.{values_by}
-use Rattle.pat_solve_interfaces.specs.Findings.{Finds}
-use Rattle.pat_solve_interfaces.proofs.checking.find_by.Given as goal
-
-abbrev pub invariant-loop-number : goal.invariant-loop-number
-invariant-loop-number l = Finds (values_by l.by) l.constraints l.numbers l.number-index l.found

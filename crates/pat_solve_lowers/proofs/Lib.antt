@@ -1,4 +1,0 @@
-pub mod Numbering
-mod Indexed
-mod Adding
-pub mod Ties

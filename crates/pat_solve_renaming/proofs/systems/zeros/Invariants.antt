@@ -1,7 +1,0 @@
-use Rattle.std.proofs.Common.{◌≡◌, replicate}
-use Rattle.pat_words.specs.Patterns.{Zero}
-use Rattle.pat_patterns.specs.Views.{patterns_view}
-use Rattle.pat_solve_renaming.proofs.systems.zeros.Given as goal
-
-abbrev pub invariant-loop : goal.invariant-loop
-invariant-loop l = patterns_view l.system ≡ replicate l.counter Zero

@@ -1,5 +1,0 @@
-mod TestLaws
-mod Noting
-mod Turns
-mod Counted
-mod Answered

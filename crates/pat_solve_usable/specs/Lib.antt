@@ -1,7 +1,0 @@
-pub use Rattle.pat_solve_lowers.specs.Indexes
-pub mod Flags
-pub mod Rights
-pub mod Users
-pub mod Spreading
-pub mod Counts
-pub mod Found

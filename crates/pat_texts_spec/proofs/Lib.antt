@@ -1,0 +1,4 @@
+pub mod Choices
+pub mod Decimals
+pub mod Cutting
+pub mod CutAgain

@@ -1,5 +1,0 @@
-use Rattle.pat_validity_laws.proofs.Tested.{word_tested, drop_tested}
-use Rattle.pat_validity_laws.proofs.tested_laws.Goals as goal
-
-pub returns : goal.returns
-returns c = record { tested = λ s i e. (word_tested s e, drop_tested s i e) }

@@ -1,6 +1,0 @@
-use Rattle.pat_board.specs.Seats.{AreSeatsOf}
-use Rattle.test_board.proofs.threads.take_turns.Given as goal
-
--- they are all seats still
-abbrev pub invariant-loop : goal.invariant-loop
-invariant-loop g l = AreSeatsOf l.board l.seats.items

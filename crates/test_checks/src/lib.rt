@@ -1,5 +1,0 @@
-//! Texts of programs, with what `check` and `derive` answer: each kind of refusal, and derivations in both forms. Tests only.
-#![tactic(auto)]
-
-#[cfg(test)]
-mod tests;

@@ -1,7 +1,0 @@
-// Whole texts from text to tree and back. Tests only.
-#![tactic(auto)]
-
-#[cfg(test)]
-mod programs;
-#[cfg(test)]
-mod tests;

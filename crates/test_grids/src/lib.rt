@@ -1,5 +1,0 @@
-// Grids on worked rows, with answers by hand, and at the greatest number of points.
-#![tactic(auto)]
-
-#[cfg(test)]
-mod worked;

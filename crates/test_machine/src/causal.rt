@@ -1,0 +1,5 @@
+// Independent commits, with answers by hand.
+
+mod histories;
+mod pairs;
+mod tests;

@@ -1,0 +1,3 @@
+// Patterns on worked rows, with answers by hand.
+
+mod worked;

@@ -1,5 +1,0 @@
-//! Searches for refutations on rows worked by hand, and where the least tree is as large as it may be.
-#![tactic(auto)]
-
-#[cfg(test)]
-mod worked;

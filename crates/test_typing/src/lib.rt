@@ -1,0 +1,11 @@
+//! What `check`, `derive` and `verify` answer on whole inputs, and derivations judged.
+#![tactic(auto)]
+
+#[cfg(test)]
+mod checking;
+#[cfg(test)]
+mod checks;
+#[cfg(test)]
+mod derivations;
+#[cfg(test)]
+mod verify;

@@ -1,0 +1,3 @@
+// `verify` on whole inputs.
+
+mod rows;

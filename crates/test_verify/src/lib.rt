@@ -1,5 +1,0 @@
-//! `verify` on whole inputs.
-#![tactic(auto)]
-
-#[cfg(test)]
-mod rows;
