@@ -3,6 +3,7 @@
 // Both stand on stacks, so nothing here recurses, however deep the pattern.
 ghost use Rattle.std.specs.Prelude.{◌≡◌, ◌+◌, max};
 ghost use Rattle.pat_patterns.specs.Views.{pattern_view};
+ghost use Rattle.pat_texts_spec.specs.Fronts.{agree as agree_of};
 ghost use Rattle.pat_derivation_text_spec.specs.patterns.PatternText.{is_sum, is_sum_or_product};
 ghost use Rattle.pat_derivation_text_spec.specs.patterns.PatternReading as reading;
 ghost use Rattle.pat_derivation_lines.specs.patterns.Views.{part_view, parts_view, ops_view, stage_view};
@@ -52,7 +53,7 @@ pub struct Stage {
 
 /// Whether both are so, or neither.
 fn agree(one: bool, other: bool) -> bool
-    ensures { result ≡ reading.agree one other }
+    ensures { result ≡ agree_of one other }
 {
     if one { other } else { !other }
 }
