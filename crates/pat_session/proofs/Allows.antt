@@ -21,7 +21,9 @@ use Rattle.pat_command_check.specs.Allowed.{AllowedCheck}
 use Rattle.pat_command_check.proofs.Statuses.{check_status}
 use Rattle.pat_command_derive.specs.Allowed.{AllowedDerive}
 use Rattle.pat_command_derive.proofs.Statuses.{derive_status}
-use Rattle.pat_command_run.specs.load.Allowed.{Whole, Summary, RunShows, ShowsOne, AllowedRun, AllowedLoad}
+use Rattle.pat_command_run.specs.declared.command.Detail.TheVariants.{Whole, Summary}
+use Rattle.pat_command_run.specs.Allowed.{RunShows, ShowsOne, AllowedRun}
+use Rattle.pat_command_run.specs.load.Allowed.{AllowedLoad}
 use Rattle.pat_command_run.proofs.LoadStatuses.{load_status, run_status}
 use Rattle.pat_command_replay.specs.Allowed.{AllowedReplay}
 use Rattle.pat_command_replay.proofs.Statuses.{replay_status}

@@ -13,7 +13,9 @@ use Rattle.pat_command_derive.specs.Allowed.{AllowedDerive}
 use Rattle.pat_command_print.specs.Allowed.{AllowedPrint}
 use Rattle.pat_run.specs.declared.options.options.RunOptions.{RunOptions}
 use Rattle.pat_run.specs.options.Options.{IsWithin}
-use Rattle.pat_command_run.specs.load.Allowed.{AllowedLoad, Whole, AllowedRun}
+use Rattle.pat_command_run.specs.declared.command.Detail.TheVariants.{Whole}
+use Rattle.pat_command_run.specs.Allowed.{AllowedRun}
+use Rattle.pat_command_run.specs.load.Allowed.{AllowedLoad}
 use Rattle.pat_command_replay.specs.Allowed.{AllowedReplay}
 use Rattle.pat_command_order.specs.Allowed.{AllowedOrder}
 use Rattle.pat_command_verify.specs.Allowed.{AllowedVerify}

@@ -5,7 +5,9 @@ use Rattle.pat_front.specs.declared.exit_answers.status.Status.TheVariants.{Ok, 
 use Rattle.pat_command_check.specs.Allowed.{AllowedCheck}
 use Rattle.pat_command_derive.specs.Allowed.{AllowedDerive}
 use Rattle.pat_command_print.specs.Allowed.{AllowedPrint}
-use Rattle.pat_command_run.specs.load.Allowed.{AllowedLoad, Whole, AllowedRun}
+use Rattle.pat_command_run.specs.declared.command.Detail.TheVariants.{Whole}
+use Rattle.pat_command_run.specs.Allowed.{AllowedRun}
+use Rattle.pat_command_run.specs.load.Allowed.{AllowedLoad}
 use Rattle.pat_command_replay.specs.Allowed.{AllowedReplay}
 use Rattle.pat_command_order.specs.Allowed.{AllowedOrder}
 use Rattle.pat_command_verify.specs.Allowed.{AllowedVerify}

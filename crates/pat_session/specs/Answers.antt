@@ -13,7 +13,8 @@ use Rattle.pat_front.specs.declared.verdict.Verdict.{Verdict}
 use Rattle.pat_front.specs.declared.exit_answers.status.Status.{Status}
 use Rattle.pat_front.specs.declared.exit_answers.status.Status.TheVariants.{Ok, Refused, Usage, ReadFault, WriteFault, NoMemory, Budget, Waiting, Full}
 use Rattle.pat_run.specs.declared.options.options.RunOptions.{RunOptions}
-use Rattle.pat_command_run.specs.load.Allowed.{Whole, Summary, RunShows}
+use Rattle.pat_command_run.specs.declared.command.Detail.TheVariants.{Whole, Summary}
+use Rattle.pat_command_run.specs.Allowed.{RunShows}
 use Rattle.pat_load.specs.LoadText.{load_text}
 use Rattle.pat_command_replay.specs.Allowed.{IsReplayed}
 use Rattle.pat_command_order.specs.Allowed.{IsOrdered}
