@@ -5,7 +5,7 @@ ghost use Rattle.pat_reduce.specs.Views.{config_view};
 ghost use Rattle.pat_machine_spec.specs.Commits.{IsLocalRun};
 ghost use Rattle.pat_machine.specs.Remains.{remains_of};
 ghost use Rattle.pat_machine.specs.Shown.{program_of, IsMachine, IsNew};
-ghost use Rattle.pat_machine.specs.Gives.{TakeGives, TakeThreadGives, StateGives, CommitGives, GivesBack, OutcomeGives, all_back};
+ghost use Rattle.pat_machine.specs.Gives.{IsLent, TakeGives, TakeThreadGives, StateGives, Committed, CommitGives, GivesBack, OutcomeGives, all_back};
 ghost use Rattle.pat_machine.specs.Driving.{IsDriven, IsStopped};
 ghost use Rattle.pat_machine.specs.declared.job.Receipt.{Receipt as ReceiptOf};
 
@@ -111,6 +111,15 @@ impl Machine {
         ensures { CommitGives self.old worker job result self.new }
     {
         self.parts.commit(worker, job, run)
+    }
+
+    /// Commits a job that is out, with its local steps taken inside. Where memory runs out the job goes back.
+    pub fn serve(&mut self, worker: u32, job: Job) -> Result<Receipt, AllocError>
+        requires { IsLent self.old job }
+        ensures ok { IfOk result (λ r. Committed self.old worker job r self.new) }
+        ensures err { OnErr result (GivesBack self.old job self.new) }
+    {
+        self.parts.serve(worker, job)
     }
 
     /// Takes a job back, if it is out. It takes no memory.
