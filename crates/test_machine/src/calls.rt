@@ -31,3 +31,16 @@ pub fn no_job_is_taken_without_a_step(rt: &impl Abort, alloc: Global) {
     check(rt, machine.take() == None);
     check(rt, machine.take_thread(0) == Err(TakeRefused::Spent));
 }
+
+pub fn a_job_is_served(rt: &impl Abort, alloc: Global) {
+    let program = one_message(alloc).expect(rt, "memory");
+    let mut machine = Machine::new(alloc, program, 300, 1).expect(rt, "memory");
+    match machine.take() {
+        Some(job) => {
+            let receipt = machine.serve(3, job).expect(rt, "memory");
+            check(rt, receipt.index == Some(0) && receipt.entry.worker == 3);
+        }
+        None => panic!(rt; "no job"),
+    }
+    check(rt, machine.history().len() == 1);
+}
