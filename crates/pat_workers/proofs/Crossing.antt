@@ -1,4 +1,4 @@
--- The machine and the program may cross threads: what they are made of, one after another.
+-- A machine behind a turn and the program may cross threads: what they are made of, one after another.
 use Rattle.std.proofs.Crossing.{crosses, Box-send, Box-sync}
 use base.Fml.{Lft}
 use mir.Syntax.{Lifetime, Sym}
@@ -124,7 +124,7 @@ pass_send = passes.the_send machine.the_row named.the_row entry.the_row ghosts m
 pub worker_send : IsSend worker.the_row
 worker_send = declared_send worker.the_type (pass_send, (search (crosses, receipts.the_send) depth 20, (search (crosses, as_row_send) depth 20, tt)))
 
-turn_sync : IsSync (the_turn.the_row machine.the_row named.the_row entry.the_row ghosts)
+pub turn_sync : IsSync (the_turn.the_row machine.the_row named.the_row entry.the_row ghosts)
 turn_sync = turns.the_sync machine.the_row named.the_row entry.the_row ghosts machine_send
 
 -- ---- shared
@@ -183,7 +183,7 @@ node_sync = declared_sync node.the_type (search (crosses, u8_sync, u32_sync, i64
 program_sync : IsSync program.the_row
 program_sync = declared_sync program.the_type (search (crosses, u8_sync, u32_sync, i64_sync, bool_sync, u8_field_sync, u32_field_sync, sequence_sync, interface_sync, function_sync, node_sync) depth 20)
 
-executable_sync : IsSync executable.the_row
+pub executable_sync : IsSync executable.the_row
 executable_sync = declared_sync executable.the_type (search (crosses, u8_sync, u32_sync, i64_sync, bool_sync, u8_field_sync, u32_field_sync, sequence_sync, variables.the_sync, program_sync) depth 20)
 
 -- ---- what the workers' closure borrows
