@@ -183,7 +183,7 @@ node_sync = declared_sync node.the_type (search (crosses, u8_sync, u32_sync, i64
 program_sync : IsSync program.the_row
 program_sync = declared_sync program.the_type (search (crosses, u8_sync, u32_sync, i64_sync, bool_sync, u8_field_sync, u32_field_sync, sequence_sync, interface_sync, function_sync, node_sync) depth 20)
 
-pub executable_sync : IsSync executable.the_row
+executable_sync : IsSync executable.the_row
 executable_sync = declared_sync executable.the_type (search (crosses, u8_sync, u32_sync, i64_sync, bool_sync, u8_field_sync, u32_field_sync, sequence_sync, variables.the_sync, program_sync) depth 20)
 
 -- ---- what the workers' closure borrows
