@@ -7,9 +7,11 @@ ghost use Rattle.pat_machine.specs.Remains.{remains_of};
 ghost use Rattle.pat_machine.specs.Shown.{program_of, IsMachine, IsNew};
 ghost use Rattle.pat_machine.specs.Gives.{IsLent, TakeGives, TakeThreadGives, StateGives, Committed, CommitGives, GivesBack, OutcomeGives, all_back};
 ghost use Rattle.pat_machine.specs.Driving.{IsDriven, IsStopped};
+ghost use Rattle.pat_machine.specs.Reading.{ShowsMailboxes};
 ghost use Rattle.pat_machine.specs.declared.job.Receipt.{Receipt as ReceiptOf};
 
 use crate::job::{CommitRefused, Job, Named, Outcome, Receipt, StateRefused, TakeRefused};
+use crate::mailboxes::MailboxesOf;
 use crate::parts::Parts;
 use pat_core::Program;
 use pat_logged_value::Kept;
@@ -172,6 +174,13 @@ impl Machine {
         ensures facts { IsMachine self.now }
     {
         self.parts.history.as_slice()
+    }
+
+    /// The mailboxes: which are live, what is pending in each, and how often each is named. It takes no memory.
+    pub fn mailboxes(&self) -> MailboxesOf<'_>
+        ensures { ShowsMailboxes self.now result }
+    {
+        self.parts.mailboxes()
     }
 
     /// The configuration, by itself.

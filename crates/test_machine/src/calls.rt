@@ -44,3 +44,17 @@ pub fn a_job_is_served(rt: &impl Abort, alloc: Global) {
     }
     check(rt, machine.history().len() == 1);
 }
+
+pub fn mailboxes_are_read(rt: &impl Abort, alloc: Global) {
+    let program = turned(alloc).expect(rt, "memory");
+    let mut machine = Machine::new(alloc, program, 300, 1).expect(rt, "memory");
+    machine.run(0).expect(rt, "memory");
+    // One message is pending, and a second one is held back.
+    let mailboxes = machine.mailboxes();
+    check(rt, mailboxes.messages.pending() == 1);
+    check(
+        rt,
+        mailboxes.messages.is_live(0) && !mailboxes.messages.is_live(1),
+    );
+    check(rt, mailboxes.named(0) > 0 && mailboxes.named(1) == 0);
+}
