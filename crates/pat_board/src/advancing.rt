@@ -1,34 +1,26 @@
 // What an advance does to a machine while it is held.
-ghost use Rattle.std.specs.Prelude.{◌≡◌, None, Err, IfOk, OnErr};
-ghost use Rattle.pat_core.specs.Views.{program_view};
-ghost use Rattle.pat_reduce.specs.threads.ThreadViews.{thread_view};
-ghost use Rattle.pat_machine_spec.specs.Commits.{IsLocalRun};
+ghost use Rattle.std.specs.Prelude.{None, Err, OnErr};
 ghost use Rattle.pat_machine_spec.specs.Lendings.{NoneOut};
-ghost use Rattle.pat_machine.specs.Shown.{program_of, IsMachine};
-ghost use Rattle.pat_machine.specs.Gives.{Committed, IsOver, OutcomeGives};
-ghost use Rattle.pat_board.specs.Advancing.{TakingGives, Keeps, Advances};
+ghost use Rattle.pat_machine.specs.Shown.{IsMachine};
+ghost use Rattle.pat_machine.specs.Gives.{IsOver, OutcomeGives};
+ghost use Rattle.pat_board.specs.Advancing.{TakingGives, Advances};
 
 use crate::answers::{Advance, AdvanceRefused};
-use pat_machine::{CommitRefused, Job, Machine, Outcome, Receipt, TakeRefused};
-use pat_machine_threads::{LocalRun, local_run};
-use pat_reduce_values::Executable;
+use pat_machine::{Job, Machine, Outcome, TakeRefused};
 use pat_semantics_laws::outcome_laws;
-use std::alloc::{AllocError, Global};
+use std::alloc::AllocError;
 
 /// Takes all jobs back, and serves one job of the thread that is named, or of the one whose turn it is.
 pub fn advance(
-    alloc: Global,
-    code: &Executable,
     machine: &mut Machine,
     worker: u32,
     thread: Option<u32>,
 ) -> Result<Advance, AdvanceRefused>
-    requires { program_of machine.old ≡ program_view code.now.program }
     ensures { Advances machine.old worker thread result machine.new }
 {
     machine.give_back_all();
     match take(machine, thread) {
-        Ok(job) => match serve(alloc, code, machine, worker, job) {
+        Ok(job) => match machine.serve(worker, job) {
             Ok(receipt) => Ok(Advance {
                 receipt,
                 outcome: outcome_of(machine),
@@ -84,50 +76,4 @@ fn outcome_of(machine: &Machine) -> Option<Outcome>
 {
     let _history = machine.history();
     machine.outcome()
-}
-
-// Takes a job's local steps and commits it. Where memory runs out the job goes back, and nothing was added.
-fn serve(
-    alloc: Global,
-    code: &Executable,
-    machine: &mut Machine,
-    worker: u32,
-    job: Job,
-) -> Result<Receipt, AllocError>
-    requires { program_of machine.old ≡ program_view code.now.program }
-    ensures ok { IfOk result (λ r. Committed machine.old worker job r machine.new) }
-    ensures err { OnErr result (Keeps machine.old machine.new) }
-{
-    match run_of(alloc, code, machine, job) {
-        Ok(run) => match machine.commit(worker, job, run) {
-            Ok(receipt) => Ok(receipt),
-            // A job that was taken just now is out, so it is memory that ran out.
-            Err(CommitRefused::NotOut(job) | CommitRefused::NoMemory(job)) => {
-                machine.give_back(job);
-                Err(AllocError)
-            }
-        },
-        Err(AllocError) => {
-            machine.give_back(job);
-            Err(AllocError)
-        }
-    }
-}
-
-// The local steps of a job.
-fn run_of(
-    alloc: Global,
-    code: &Executable,
-    machine: &Machine,
-    job: Job,
-) -> Result<LocalRun, AllocError>
-    ensures { IfOk result (λ r. IsLocalRun (program_view code.now.program) job.allowance (thread_view r.start) r.steps (thread_view r.end)) }
-{
-    match machine.state_of(&job) {
-        Ok(state) => match local_run(alloc, code, state, job.allowance) {
-            Ok(run) => Ok(run),
-            Err(_) => Err(AllocError),
-        },
-        Err(_) => Err(AllocError),
-    }
 }

@@ -11,7 +11,6 @@ use crate::advancing::advance;
 use crate::answers::{Advance, AdvanceRefused};
 use pat_machine::Machine;
 use pat_reduce::Config;
-use pat_reduce_values::Executable;
 use pat_turn::{News, Pass, Turn};
 use pat_typed_program::Accepted;
 use std::alloc::{AllocError, Global};
@@ -26,17 +25,12 @@ pub type Seat = Pass<Machine>;
 #[derive(Drop)]
 pub struct Board {
     turn: Turn<Machine>,
-    /// The program once more, for local steps.
-    code: Executable,
-    alloc: Global,
 }
 
 impl Model for Board {
-    ghost use Rattle.std.specs.Prelude.{◌≡◌};
     ghost use Rattle.std.specs.Coded.{codes};
     ghost use Rattle.pat_patterns.specs.contracts.pattern.Pattern as the_pattern;
     ghost use Rattle.pat_core.specs.contracts.expression.Expr as the_expression;
-    ghost use Rattle.pat_core.specs.Views.{program_view};
     ghost use Rattle.pat_machine.specs.declared.job.Named.{Named};
     ghost use Rattle.pat_turn.specs.Shown.{ShownTurn};
 
@@ -45,8 +39,6 @@ impl Model for Board {
     ghost coded = { Prim.hlevel (codes, the_pattern.the_row.coded, the_expression.the_row.coded) };
 
     ghost view = { λ b. b.turn };
-
-    ghost invariant = { λ b. program_view b.turn.name.program ≡ program_view b.code.program };
 }
 
 impl Board {
@@ -66,11 +58,9 @@ impl Board {
         ensures new { IfOk result (λ r. AreNew r.0 r.1.items) }
         ensures seats { IfOk result (λ r. AreSeatsOf r.0 r.1.items) }
     {
-        let program = accepted.into_program();
-        let code = Executable::new(alloc, program.copy(alloc)?)?;
-        let machine = Machine::new(alloc, Accepted::of(program), steps, messages)?;
+        let machine = Machine::new(alloc, accepted, steps, messages)?;
         let (turn, seats) = Turn::new(alloc, machine, seats)?;
-        Ok((Board { turn, code, alloc }, seats))
+        Ok((Board { turn }, seats))
     }
 
     /// Serves one job of the thread that is named, or of the one whose turn it is, in one hold of the turn. What is refused adds
@@ -89,7 +79,7 @@ impl Board {
         let mut machine = self.turn.hold(rt, seat);
         // What is always true of a machine is said beside its history.
         let _history = machine.history();
-        let result = advance(self.alloc, &self.code, &mut machine, number, thread);
+        let result = advance(&mut machine, number, thread);
         self.turn.put_back(seat, machine, News::Nothing);
         result
     }
@@ -114,11 +104,7 @@ impl Board {
         ensures history { IsOfAll worker_of seats.items result.history }
         ensures back { NoneOut result.out }
     {
-        let Board {
-            turn,
-            code: _,
-            alloc: _,
-        } = self;
+        let Board { turn } = self;
         let mut machine = turn.close(seats);
         machine.give_back_all();
         machine

@@ -35,12 +35,13 @@ MayTake m t = IsReady (program_of m) m.config m.named.limit m.out t
 abbrev pub Rests : Shown → Type 0
 Rests m = IsAtRest (program_of m) m.config m.named.limit m.out m.left
 
--- the job leaves with at most 256 of the steps left
+-- the job leaves with at most 256 of the steps left, and is out then
 pub record Lends (old : Shown) (j : Job) (new : Shown) : Type 0 where
   pub ready : MayTake old j.thread
   pub some : 0 < old.left
   pub allowance : j.allowance ≡ min old.left 256
   pub changes : new ≡ record old { left = old.left - j.allowance; out = slice_set old.out j.thread (Some j.allowance); last = Some j.thread }
+  pub out : IsLent new j
 
 -- it is the thread's turn
 abbrev pub HasTurn : Shown → ℕ → Type 0

@@ -44,8 +44,8 @@ impl Parts {
         Ok(())
     }
 
-    // Commits a job that is out, with its local steps taken inside; or takes it back.
-    fn serve(&mut self, worker: u32, job: Job) -> Result<Receipt, AllocError>
+    /// Commits a job that is out, with its local steps taken inside; or takes it back.
+    pub fn serve(&mut self, worker: u32, job: Job) -> Result<Receipt, AllocError>
         requires kept { IsKept self.old }
         requires lent { IsLent (shown self.old) job }
         ensures kept { IsKept self.new }

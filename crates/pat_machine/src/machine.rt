@@ -5,11 +5,13 @@ ghost use Rattle.pat_reduce.specs.Views.{config_view};
 ghost use Rattle.pat_machine_spec.specs.Commits.{IsLocalRun};
 ghost use Rattle.pat_machine.specs.Remains.{remains_of};
 ghost use Rattle.pat_machine.specs.Shown.{program_of, IsMachine, IsNew};
-ghost use Rattle.pat_machine.specs.Gives.{TakeGives, TakeThreadGives, StateGives, CommitGives, GivesBack, OutcomeGives, all_back};
+ghost use Rattle.pat_machine.specs.Gives.{IsLent, TakeGives, TakeThreadGives, StateGives, Committed, CommitGives, GivesBack, OutcomeGives, all_back};
 ghost use Rattle.pat_machine.specs.Driving.{IsDriven, IsStopped};
+ghost use Rattle.pat_machine.specs.Reading.{ShowsMailboxes};
 ghost use Rattle.pat_machine.specs.declared.job.Receipt.{Receipt as ReceiptOf};
 
 use crate::job::{CommitRefused, Job, Named, Outcome, Receipt, StateRefused, TakeRefused};
+use crate::mailboxes::MailboxesOf;
 use crate::parts::Parts;
 use pat_core::Program;
 use pat_logged_value::Kept;
@@ -113,6 +115,15 @@ impl Machine {
         self.parts.commit(worker, job, run)
     }
 
+    /// Commits a job that is out, with its local steps taken inside. Where memory runs out the job goes back.
+    pub fn serve(&mut self, worker: u32, job: Job) -> Result<Receipt, AllocError>
+        requires { IsLent self.old job }
+        ensures ok { IfOk result (λ r. Committed self.old worker job r self.new) }
+        ensures err { OnErr result (GivesBack self.old job self.new) }
+    {
+        self.parts.serve(worker, job)
+    }
+
     /// Takes a job back, if it is out. It takes no memory.
     pub fn give_back(&mut self, job: Job)
         ensures { GivesBack self.old job self.new }
@@ -163,6 +174,13 @@ impl Machine {
         ensures facts { IsMachine self.now }
     {
         self.parts.history.as_slice()
+    }
+
+    /// The mailboxes: which are live, what is pending in each, and how often each is named. It takes no memory.
+    pub fn mailboxes(&self) -> MailboxesOf<'_>
+        ensures { ShowsMailboxes self.now result }
+    {
+        self.parts.mailboxes()
     }
 
     /// The configuration, by itself.

@@ -8,3 +8,4 @@ mod Asides
 mod Keeping
 mod Referring
 mod Reaching
+mod Reading

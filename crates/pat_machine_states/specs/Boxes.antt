@@ -1,9 +1,11 @@
 -- A configuration whose messages are kept by mailbox.
-use Rattle.std.specs.Prelude.{◌≡◌, ℕ, ◌+◌, List, [], length, Option, Some}
+use Rattle.std.specs.Prelude.{◌≡◌, ℕ, ◌+◌, nat_eq, List, [], filter, length, map, Option, Some, is_some}
 use Rattle.std.specs.List.{AllByRecursion}
+use Rattle.pat_semantics_spec.specs.Programs.{is_among}
 use Rattle.pat_semantics_spec.specs.Configs.{Message, Config}
+use Rattle.pat_reduce.specs.threads.ThreadViews.{message_view}
 use Rattle.pat_machine_laws.specs.mailbox_index.Pending.{messages_of, live_of, AreKept}
-use Rattle.pat_machine_indexes.specs.messages.Mailboxes.{Mailbox}
+use Rattle.pat_machine_indexes.specs.messages.Mailboxes.{Mailbox, all_pending, mailbox_at, pending_at}
 use Rattle.pat_machine_indexes.specs.messages.Boxes.{boxes_view}
 
 -- the configuration, with the messages that are kept by mailbox, and the mailboxes that are live
@@ -25,3 +27,9 @@ pub record IsState (c : Config) (latest : Option ℕ) (ms : List (Option Mailbox
   pub messages : c.messages ≡ []
   pub live : c.live ≡ []
   pub boxes : AreOf (state_view c ms) latest (boxes_view ms)
+
+-- the mailboxes that are live are those of the configuration, each has its messages that are pending there, in order, and there are no others
+pub record AreMailboxesOf (c : Config) (ms : List (Option Mailbox)) : Type 0 where
+  pub live : (b : ℕ) → is_some (mailbox_at ms b) ≡ is_among b c.live
+  pub pending : (b : ℕ) → map message_view (pending_at ms b) ≡ filter (λ m. nat_eq m.mailbox b) c.messages
+  pub all : all_pending ms ≡ length c.messages

@@ -5,6 +5,7 @@ ghost use Rattle.pat_core.specs.Views.{program_view};
 ghost use Rattle.pat_reduce.specs.threads.ThreadViews.{thread_view};
 ghost use Rattle.pat_reduce.specs.Views.{config_view};
 ghost use Rattle.pat_machine_threads.specs.store.Remains.{remains_of};
+ghost use Rattle.pat_machine_states.specs.Boxes.{AreMailboxesOf};
 
 use pat_machine_indexes::{Mailboxes, copy_pending, count_live, list_live};
 use pat_machine_threads::{Placed, Remains};
@@ -86,6 +87,13 @@ impl State {
         ensures { result.now ≡ self.now.printed }
     {
         self.placed.printed()
+    }
+
+    /// The mailboxes: which are live, and what is pending in each. It takes no memory.
+    pub fn mailboxes(&self) -> &Mailboxes
+        ensures { AreMailboxesOf self.now result.now.mailboxes }
+    {
+        &self.mailboxes
     }
 
     /// A copy of the configuration.

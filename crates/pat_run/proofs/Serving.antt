@@ -1,28 +1,26 @@
 -- The rounds of a drive are jobs one after another, each of the thread whose turn it is.
-use Rattle.std.proofs.Common.{◌≡◌, ℕ, zero, suc, ◌+◌, ◌-◌, ◌<◌, ◌≤◌, ◌⊎◌, min, List, [], ◌∷◌, ◌++◌, length, map, Option, Some, None, refl, sym, ap, ◌∙◌, subst, arith, ⊎_elim, slice_set}
-use Rattle.std.specs.Prelude.{option_map}
+use Rattle.std.proofs.Common.{◌≡◌, ℕ, suc, ◌+◌, ◌-◌, ◌≤◌, min, List, [], ◌∷◌, ◌++◌, length, map, Option, Some, None, refl, sym, ap, ◌∙◌, subst, arith}
 use Rattle.std.specs.List.{AllByRecursion}
 use Rattle.pat_semantics_spec.specs.Programs.{Program}
 use Rattle.pat_semantics_spec.specs.Configs.{Config, start}
-use Rattle.pat_semantics_spec.specs.Runs.{Entry, entry_steps, step_count, outcome}
+use Rattle.pat_semantics_spec.specs.Runs.{Entry, step_count, outcome}
 use Rattle.pat_core.specs.declared.program.Program.{Program as CodeProgram}
 use Rattle.pat_core.specs.Views.{program_view}
-use Rattle.pat_reduce.specs.Views.{act_view, entry_view}
+use Rattle.pat_reduce.specs.Views.{entry_view}
 use Rattle.pat_machine_spec.specs.Commits.{IsCommit}
-use Rattle.pat_machine_spec.specs.Lendings.{Out, allowance_of, allowances, committed_out, NoneOut, SomeOut}
-use Rattle.pat_machine_spec.specs.Turns.{IsReady, IsTurn}
+use Rattle.pat_machine_spec.specs.Lendings.{Out, allowances, NoneOut}
+use Rattle.pat_machine_spec.specs.Turns.{IsTurn}
 use Rattle.pat_machine_laws.proofs.Runs.{commit_within}
-use Rattle.pat_machine_laws.proofs.Tables.{set_elsewhere, committed_still_out}
 use Rattle.pat_machine_laws.proofs.Takings.{none_in}
 use Rattle.pat_machine.specs.declared.job.Named.{Named}
 use Rattle.pat_machine.specs.declared.job.Job.{Job}
 use Rattle.pat_machine.specs.declared.job.Receipt.{Receipt}
 use Rattle.pat_machine.specs.declared.job.Outcome.{Outcome as CodeOutcome}
 use Rattle.pat_machine.specs.Shown.{Shown, IsNew, program_of, entries_of, steps_in}
-use Rattle.pat_machine.specs.Gives.{IsOver, Lends, MayTake, Rests, HasTurn, TakeGives, Committed, OutcomeGives, outcome_view, all_back}
-use Rattle.pat_machine.specs.Driving.{IsRound, Rounds, AreInOrder, IsDriven}
-use Rattle.pat_run.specs.declared.single.running.Finished.{Finished}
-use Rattle.pat_run.specs.single.Runs.{Served, IsRun, RunGives}
+use Rattle.pat_machine.specs.Gives.{Lends, HasTurn, Committed, OutcomeGives, outcome_view, all_back}
+use Rattle.pat_machine.specs.Driving.{Rounds, AreInOrder, IsDriven}
+use Rattle.pat_machine.proofs.Rounds.{round_named, round_none_out}
+use Rattle.pat_run.specs.single.Runs.{Served, RunGives}
 
 -- ---- nobody is out
 
@@ -41,23 +39,6 @@ same_served p q l k m n a b c es d pq lk mn ab h =
     subst (λ x. Served x k n b c es d) pq (subst (λ x. Served p x n b c es d) lk (subst (λ x. Served p l x b c es d) mn (subst (λ x. Served p l m x c es d) ab h)))
 
 module _ (old lent new : Shown) (j : Job) (r : Receipt) (none : NoneOut old.out) (lends : Lends old j lent) (done : Committed lent 0 j r new) where
-  none_out : NoneOut new.out
-  none_out u = go (allowance_of new.out u) refl
-    where
-      go : (o : Option ℕ) → allowance_of new.out u ≡ o → o ≡ None
-      go None is = refl
-      go (Some n) is =
-          let a = option_map act_view r.entry.shared in
-          let at : allowance_of (committed_out lent.out j.thread a) u ≡ Some n = sym (ap (λ (x : Shown). allowance_of x.out u) done.changes) ∙ is in
-          let q = committed_still_out lent.out j.thread u n a at in
-          let out : allowance_of (slice_set old.out j.thread (Some j.allowance)) u ≡ Some n = sym (ap (λ (x : Shown). allowance_of x.out u) lends.changes) ∙ q.1 in
-          let was : allowance_of old.out u ≡ Some n = sym (set_elsewhere old.out j.thread u (Some j.allowance) q.0) ∙ out in
-          let no = none u in
-          cc
-
-  same_named : new.named ≡ old.named
-  same_named = ap (λ (x : Shown). x.named) done.changes ∙ ap (λ (x : Shown). x.named) lends.changes
-
   commit_is : IsCommit (program_of old) (min old.left 256) old.named.limit old.config (entry_view r.entry) new.config
   commit_is =
       let own : IsCommit (program_of old) j.allowance old.named.limit old.config (entry_view r.entry) new.config =
@@ -89,8 +70,8 @@ served old new [] none rounds = ap (λ (x : Shown). x.config) (sym rounds)
 served old new (r ∷ rs) none (m, round, rounds) =
     let lends = round.taken.1 in
     let done = round.committed in
-    let named = same_named old round.lent m round.job r none lends done in
-    let more = served m new rs (none_out old round.lent m round.job r none lends done) rounds in (
+    let named = round_named old round.lent m 0 round.job r none lends done in
+    let more = served m new rs (round_none_out old round.lent m 0 round.job r none lends done) rounds in (
       lends.some,
       turn_is old round.lent m round.job r none lends done round.taken.0,
       (
@@ -103,18 +84,6 @@ served old new (r ∷ rs) none (m, round, rounds) =
 workers : (n : ℕ) (rs : List Receipt) → AreInOrder n 0 rs → AllByRecursion (λ (e : Entry). e.worker ≡ 0) (entries_in rs)
 workers n [] h = tt
 workers n (r ∷ rs) h = (h.1, workers (n + 1) rs h.2)
-
--- where it is over there is an outcome
-pub is_over : (m : Shown) → IsOver m → OutcomeGives m None → ⊥
-is_over m over h =
-    ⊎_elim
-    (λ (some : SomeOut m.out). let no = over.0 some.0 in let is = some.2 in let clash : None ≡ Some some.1 = sym no ∙ is in cc)
-    (λ (more : (0 < m.left) × ((t : ℕ) × MayTake m t)).
-    ⊎_elim
-    (λ (spent : m.left ≡ 0). omega (arith, more.0, spent))
-    (λ (still : (t : ℕ) → MayTake m t → ⊥). still more.1.0 more.1.1)
-    over.1)
-    h
 
 -- what a machine that was new and was driven gives
 pub run_gives : (program : CodeProgram) (steps messages : ℕ) (old new : Shown) (rs : List Receipt) (o : CodeOutcome) → IsNew program steps messages old → IsDriven old 0 rs new → OutcomeGives new (Some o) → RunGives program steps messages (record { machine = new; outcome = o })

@@ -1,4 +1,4 @@
--- The machine and the program may cross threads: what they are made of, one after another.
+-- A machine behind a turn and the program may cross threads: what they are made of, one after another.
 use Rattle.std.proofs.Crossing.{crosses, Box-send, Box-sync}
 use base.Fml.{Lft}
 use mir.Syntax.{Lifetime, Sym}
@@ -124,7 +124,7 @@ pass_send = passes.the_send machine.the_row named.the_row entry.the_row ghosts m
 pub worker_send : IsSend worker.the_row
 worker_send = declared_send worker.the_type (pass_send, (search (crosses, receipts.the_send) depth 20, (search (crosses, as_row_send) depth 20, tt)))
 
-turn_sync : IsSync (the_turn.the_row machine.the_row named.the_row entry.the_row ghosts)
+pub turn_sync : IsSync (the_turn.the_row machine.the_row named.the_row entry.the_row ghosts)
 turn_sync = turns.the_sync machine.the_row named.the_row entry.the_row ghosts machine_send
 
 -- ---- shared

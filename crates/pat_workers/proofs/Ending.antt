@@ -1,9 +1,8 @@
 -- The end of a run: the machine that comes back, driven on.
-use Rattle.std.proofs.Common.{◌≡◌, ℕ, zero, suc, ◌+◌, ◌<◌, false, List, [], ◌∷◌, ◌++◌, length, map, slice_get, refl, ap, sym, ◌∙◌, subst, arith, Some, None, ⊎_elim, Vec, Global}
+use Rattle.std.proofs.Common.{◌≡◌, ℕ, zero, suc, ◌+◌, ◌<◌, false, List, ◌++◌, length, map, slice_get, ap, sym, ◌∙◌, subst, arith, Some, Vec, Global}
 use Rattle.std.proofs.lemmas.List.{append-nil, length-map}
 use Rattle.std.proofs.lemmas.List.Elements.{All-append}
 use Rattle.std.specs.List.{All}
-use mathlib.Core.List.{IsPrefix}
 use Rattle.pat_semantics_spec.specs.Runs.{step_count, outcome}
 use Rattle.pat_core.specs.declared.program.Program.{Program}
 use Rattle.pat_core.specs.Views.{program_view}
@@ -11,14 +10,13 @@ use Rattle.pat_reduce.specs.declared.history.Entry.{Entry}
 use Rattle.pat_machine.specs.declared.job.Named.{Named}
 use Rattle.pat_machine.specs.declared.job.Receipt.{Receipt}
 use Rattle.pat_machine.specs.Shown.{Shown, entries_of}
-use Rattle.pat_machine_spec.specs.Lendings.{SomeOut}
-use Rattle.pat_machine.specs.Gives.{IsOver, MayTake, OutcomeGives, outcome_view}
-use Rattle.pat_machine.specs.Driving.{IsDriven, AreInOrder}
+use Rattle.pat_machine.specs.Gives.{outcome_view}
+use Rattle.pat_machine.specs.Driving.{AreInOrder}
 use Rattle.pat_turn.specs.Shown.{ShownPass, ShownTurn, newcomer, IsOfAll, AreAll}
 use Rattle.pat_workers.specs.turns.Holds.{worker_of}
 use Rattle.pat_workers.specs.declared.serving.Worker.{Worker}
 use Rattle.pat_workers.specs.declared.finishing.Finished.{Finished}
-use Rattle.pat_workers.specs.Receipts.{placed, placed_from, told, AreReceiptsOf}
+use Rattle.pat_workers.specs.Receipts.{placed, told, AreReceiptsOf}
 use Rattle.pat_workers.specs.Workers.{IsWorked}
 use Rattle.pat_workers.specs.Runs.{Rows, IsFinished, AreReceipts, RunGives}
 use Rattle.pat_workers.proofs.Placed.{placed_stay, placed_on, told_append, order_told, order_others, order_workers, order_below, receipts_stand, receipts_once}
@@ -98,11 +96,3 @@ run_gives program workers steps messages t ws closed rows f some name passes man
       over = (fin.ends.0, fin.ends.1);
       ends = subst (λ (n : Named). outcome (program_view n.program) f.machine.config (step_count (entries_of f.machine)) n.budget (Some n.limit) ≡ Some (outcome_view f.outcome)) who fin.ends.2;
     }
-
--- where it is over there is an outcome
-pub is_over : (m : Shown) → IsOver m → OutcomeGives m None → ⊥
-is_over m over h =
-    ⊎_elim
-    (λ (some : SomeOut m.out). let no = over.0 some.0 in let is = some.2 in let clash : None ≡ Some some.1 = sym no ∙ is in cc)
-    (λ (more : (0 < m.left) × ((t : ℕ) × MayTake m t)). ⊎_elim (λ (spent : m.left ≡ 0). omega (arith, more.0, spent)) (λ (still : (t : ℕ) → MayTake m t → ⊥). still more.1.0 more.1.1) over.1)
-    h

@@ -31,3 +31,30 @@ pub fn no_job_is_taken_without_a_step(rt: &impl Abort, alloc: Global) {
     check(rt, machine.take() == None);
     check(rt, machine.take_thread(0) == Err(TakeRefused::Spent));
 }
+
+pub fn a_job_is_served(rt: &impl Abort, alloc: Global) {
+    let program = one_message(alloc).expect(rt, "memory");
+    let mut machine = Machine::new(alloc, program, 300, 1).expect(rt, "memory");
+    match machine.take() {
+        Some(job) => {
+            let receipt = machine.serve(3, job).expect(rt, "memory");
+            check(rt, receipt.index == Some(0) && receipt.entry.worker == 3);
+        }
+        None => panic!(rt; "no job"),
+    }
+    check(rt, machine.history().len() == 1);
+}
+
+pub fn mailboxes_are_read(rt: &impl Abort, alloc: Global) {
+    let program = turned(alloc).expect(rt, "memory");
+    let mut machine = Machine::new(alloc, program, 300, 1).expect(rt, "memory");
+    machine.run(0).expect(rt, "memory");
+    // One message is pending, and a second one is held back.
+    let mailboxes = machine.mailboxes();
+    check(rt, mailboxes.messages.pending() == 1);
+    check(
+        rt,
+        mailboxes.messages.is_live(0) && !mailboxes.messages.is_live(1),
+    );
+    check(rt, mailboxes.named(0) > 0 && mailboxes.named(1) == 0);
+}

@@ -1,10 +1,15 @@
 // All in one test: each costs the gate a third of a minute.
-use crate::calls::{jobs_are_taken_and_given_back, no_job_is_taken_without_a_step};
+use crate::calls::{
+    a_job_is_served, jobs_are_taken_and_given_back, mailboxes_are_read,
+    no_job_is_taken_without_a_step,
+};
 use crate::runs::drives_to_an_outcome;
 
 #[test]
 fn the_machine(rt: HostRuntime) {
     jobs_are_taken_and_given_back(&rt, rt.alloc());
     no_job_is_taken_without_a_step(&rt, rt.alloc());
+    a_job_is_served(&rt, rt.alloc());
+    mailboxes_are_read(&rt, rt.alloc());
     drives_to_an_outcome(&rt, rt.alloc());
 }

@@ -29,11 +29,12 @@ pub(crate) fn take(machine: &mut Machine) -> Taken
     match machine.take() {
         Some(job) => match machine.state_of(&job) {
             Ok(state) => Taken::Job(job, state),
-            // A job that was taken just now is out, so it is memory that ran out.
-            Err(StateRefused::NotOut | StateRefused::NoMemory) => {
+            Err(StateRefused::NoMemory) => {
                 machine.give_back(job);
                 Taken::NoMemory
             }
+            // A job that was taken just now is out.
+            Err(StateRefused::NotOut) => unreachable!(),
         },
         None => match machine.outcome() {
             Some(_) => Taken::Over,

@@ -1,5 +1,6 @@
 // A whole history in order.
-use crate::causal::pairs::{check, entry};
+use crate::causal::pairs::entry;
+use crate::checking::check;
 use pat_causal::order;
 use pat_reduce::Act;
 use std::alloc::Global;

@@ -13,10 +13,6 @@ pub fn entry(thread: u32, local: u32, shared: Option<Act>) -> Entry {
     }
 }
 
-pub fn check(rt: &impl Abort, holds: bool) {
-    check(rt, holds);
-}
-
 // Whether entries of threads 1 and 2 are independent, behind a spawn and a send of thread 0: the next thread is 2, the next message 1.
 fn are(first: Option<Act>, second: Option<Act>) -> bool {
     let entries = [

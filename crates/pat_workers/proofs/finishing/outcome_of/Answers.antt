@@ -1,4 +1,4 @@
-use Rattle.pat_workers.proofs.Ending.{is_over}
+use Rattle.pat_machine.proofs.Rounds.{is_over}
 use Rattle.pat_workers.proofs.finishing.outcome_of.Goals as goal
 
 pub unreachable-requires : goal.unreachable-requires

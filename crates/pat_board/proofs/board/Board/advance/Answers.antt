@@ -1,5 +1,4 @@
 use Rattle.std.proofs.Common.{List, Some, ap, sym, ◌∙◌, subst}
-use Rattle.pat_core.specs.Views.{program_view}
 use Rattle.pat_reduce.specs.declared.history.Entry.{Entry}
 use Rattle.pat_machine.specs.declared.job.Named.{Named}
 use Rattle.pat_turn.specs.Shown.{GoesOn}
@@ -9,11 +8,6 @@ use Rattle.pat_board.specs.Advancing.{Advances}
 use Rattle.pat_board.proofs.Seats.{found_name}
 use Rattle.pat_board.proofs.Seen.{named_on, log_on, advance_gives}
 use Rattle.pat_board.proofs.board.Board.advance.Goals as goal
-
-pub advance-result-requires : goal.advance-result-requires
-advance-result-requires g c =
-    ap (λ (n : Named). program_view n.program) (found_name c.args.self.now c.args.seat.now c.hold-machine.result.named c.requires c.hold-machine.ensures.name ∙ sym (ap (λ t. t.name) c.self.view_is))
-    ∙ c.self.invariant
 
 pub put_back-requires-clause-name : goal.put_back-requires-clause-name
 put_back-requires-clause-name g c =

@@ -1,7 +1,7 @@
 use Rattle.std.proofs.Common.{[], ◌∷◌, ◌++◌, ap, ◌∙◌, subst, sym}
 use Rattle.pat_machine.specs.Parted.{shown}
 use Rattle.pat_machine.specs.Driving.{GoesOn}
-use Rattle.pat_machine.proofs.Rounds.{lent_now, round_less, all_back_go_on, round_more}
+use Rattle.pat_machine.proofs.Rounds.{round_less, all_back_go_on, round_more}
 use Rattle.pat_machine.proofs.parts.Parts.drive.Goals as goal
 
 pub loop-job-init : goal.loop-job-init
@@ -11,11 +11,11 @@ loop-job-init c = record {
 }
 
 pub serve-requires-clause-lent : goal.serve-requires-clause-lent
-serve-requires-clause-lent c = lent_now c.loop-job.self c.in-Some.job (shown c.take.new.self) c.loop-job.invariant.kept c.in-Some.ensures.taken.1
+serve-requires-clause-lent c = c.in-Some.ensures.taken.1.out
 
 pub loop-job-smaller : goal.loop-job-smaller
 loop-job-smaller c =
-    round_less (shown c.args.self.now) (shown c.loop-job.self) (shown c.take.new.self) (shown c.serve.new.self) c.args.worker c.in-Some.job c.in_ok-receipt.receipt c.loop-job.receipts.items c.loop-job.invariant.goes_on.none_out c.in-Some.ensures.taken.1 c.in_ok-receipt.ensures.ok
+    round_less (shown c.loop-job.self) (shown c.take.new.self) (shown c.serve.new.self) c.args.worker c.in-Some.job c.in_ok-receipt.receipt c.loop-job.invariant.goes_on.none_out c.in-Some.ensures.taken.1 c.in_ok-receipt.ensures.ok
 
 pub loop-job-preserved : goal.loop-job-preserved
 loop-job-preserved c = record {

@@ -1,7 +1,7 @@
-use Rattle.std.proofs.Common.{◌≡◌, ◌<◌, min, None, Some, map, arith, subst, sym}
+use Rattle.std.proofs.Common.{◌≡◌, ◌<◌, min, None, Some, map, arith, refl, subst, sym}
 use Rattle.pat_core.specs.Views.{program_view}
 use Rattle.pat_reduce.specs.Views.{entry_view}
-use Rattle.pat_machine_laws.proofs.Tables.{allowances_set}
+use Rattle.pat_machine_laws.proofs.Tables.{allowances_set, set_here}
 use Rattle.pat_machine_laws.proofs.Takings.{take_stands, thread_within, entry_within}
 use Rattle.pat_machine_laws.proofs.Ready.{ready_there}
 use Rattle.pat_machine.proofs.parts.Parts.lend.Goals as goal
@@ -32,4 +32,18 @@ returns-clause-kept c =
       counted = c.requires.kept.counted;
       noted = c.requires.kept.noted;
       lent = omega arith;
+    }
+
+pub returns-clause-lent : goal.returns-clause-lent
+returns-clause-lent c =
+    let m = c.args.self.now in
+    let p = program_view m.code.program in
+    let s = ready_there p m.state m.limit m.out.items c.args.thread c.requires.ready in
+    let within = thread_within p m.budget m.limit m.state (map entry_view m.history.items) m.left m.out.items c.requires.kept.stands c.args.thread s.0 s.1 in
+    record {
+      ready = c.requires.ready;
+      some = c.requires.some;
+      allowance = c.min-allowance.ensures;
+      changes = refl;
+      out = set_here m.out.items c.args.thread (Some c.min-allowance.result) within;
     }

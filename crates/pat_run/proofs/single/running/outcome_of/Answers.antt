@@ -1,4 +1,4 @@
-use Rattle.pat_run.proofs.Serving.{is_over}
+use Rattle.pat_machine.proofs.Rounds.{is_over}
 use Rattle.pat_run.proofs.single.running.outcome_of.Goals as goal
 
 pub unreachable-requires : goal.unreachable-requires

@@ -1,0 +1,8 @@
+use Rattle.std.proofs.Common.{arith}
+use Rattle.pat_machine.proofs.parts.Parts.mailboxes.Goals as goal
+
+pub returns : goal.returns
+returns c = record {
+  mailboxes = c.mailboxes.ensures;
+  named = λ b. let times = c.requires.counted.times b in omega arith;
+}
