@@ -11,9 +11,9 @@ use Rattle.pat_semantics_spec.specs.Programs.{Program}
 use Rattle.pat_inclusion_spec.specs.Points.{grid_fits, point_fits, points_ascend, points_fit}
 use Rattle.pat_inclusion_spec.specs.Values.{VarValue, PatternForm, GridForm, VarLine, value_fits}
 use Rattle.pat_derivation_spec.specs.Derivations.{Line, Derivation, ascends_from, scope_of}
-use Rattle.pat_derivation_spec.specs.Spelled.{is_number, are_numbers, is_plain_value, spells_var, spells_type, spells_named, spells_cert, spells_line, can_be_spelled}
+use Rattle.pat_derivation_spec.specs.Spelled.{has_numbers, is_shallow, is_number, are_numbers, is_plain_value, spells_var, spells_type, spells_named, spells_cert, spells_line, can_be_spelled}
 use Rattle.pat_texts_spec.specs.Numbers.{read_number}
-use Rattle.pat_derivation_text_spec.specs.patterns.PatternText.{pat_text, has_numbers, is_shallow}
+use Rattle.pat_derivation_text_spec.specs.patterns.PatternText.{pat_text}
 use Rattle.pat_texts_spec.specs.Fronts.{behind}
 use Rattle.pat_derivation_text_laws.specs.patterns.Laws.{PatternIsRead}
 use Rattle.pat_texts_spec.proofs.Choices.{passed, negated}

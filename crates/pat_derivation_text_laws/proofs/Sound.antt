@@ -15,9 +15,9 @@ use Rattle.pat_inclusion_spec.specs.Values.{VarValue, PatternForm, GridForm, Var
 use Rattle.pat_inclusion_spec.specs.Certificates.{Cert, CoverCert, GridCert}
 use Rattle.pat_type_schemes_spec.specs.NodeTypes.{Needs}
 use Rattle.pat_derivation_spec.specs.Derivations.{Line, Derivation, ascends_from, scope_of}
-use Rattle.pat_derivation_spec.specs.Spelled.{is_number, are_numbers, is_plain_value, spells_pattern, spells_var, spells_type, spells_named, spells_entry, spells_cert, spells_line, can_be_spelled, has_numbers as numbers_fit, is_shallow as levels_fit}
+use Rattle.pat_derivation_spec.specs.Spelled.{is_number, are_numbers, is_plain_value, spells_pattern, spells_var, spells_type, spells_named, spells_entry, spells_cert, spells_line, can_be_spelled, has_numbers, is_shallow}
 use Rattle.pat_texts_spec.specs.Numbers.{read_number}
-use Rattle.pat_derivation_text_spec.specs.patterns.PatternText.{has_numbers, is_shallow, is_readable}
+use Rattle.pat_derivation_text_spec.specs.patterns.PatternText.{is_readable}
 use Rattle.pat_derivation_text_spec.specs.patterns.PatternReading.{read_pattern}
 use Rattle.pat_texts_spec.specs.Fronts.{behind}
 use Rattle.pat_texts_spec.proofs.Choices.{taken, made, made_next}
@@ -29,7 +29,7 @@ use Rattle.pat_derivation_text_spec.specs.LineReading.{cut_polarity, found, mail
 use Rattle.pat_derivation_text_spec.specs.Reading.{ReadsTo, first, another}
 use Rattle.pat_derivation_text_laws.specs.Readable.{has_whole_points, lines_have_numbers, can_be_read}
 use Rattle.pat_texts_spec.proofs.CutAgain.{all_append}
-use Rattle.pat_derivation_text_laws.proofs.TypesRead.{Fits, numbers_same, count_is}
+use Rattle.pat_derivation_text_laws.proofs.TypesRead.{Fits, count_is}
 use Rattle.pat_derivation_text_laws.proofs.TypesSpelled.{found_is}
 
 -- ---- lists
@@ -125,8 +125,8 @@ spells_back p d i e f =
     let k = and_parts (tags_below (length (tag_names p i)) e) (has_numbers e && is_shallow e) f.readable in
     let l = and_parts (has_numbers e) (is_shallow e) k.1 in
     let tags : tags_below ((scope_of p d).tags i) e ≡ true = ap (λ j. tags_below j e) (count_is (slice_get p.interfaces i)) ∙ k.0 in
-    and_from (nat_lt i (length p.interfaces)) (tags_below ((scope_of p d).tags i) e && (numbers_fit e && levels_fit e)) (lt-ltb i (length p.interfaces) f.there)
-    (and_from (tags_below ((scope_of p d).tags i) e) (numbers_fit e && levels_fit e) tags (and_from (numbers_fit e) (levels_fit e) (numbers_same e ∙ l.0) l.1))
+    and_from (nat_lt i (length p.interfaces)) (tags_below ((scope_of p d).tags i) e && (has_numbers e && is_shallow e)) (lt-ltb i (length p.interfaces) f.there)
+    (and_from (tags_below ((scope_of p d).tags i) e) (has_numbers e && is_shallow e) tags (and_from (has_numbers e) (is_shallow e) l.0 l.1))
 
 module _ (p : Program) where
   mailbox_sound : (bytes : List ℕ) (m : ℕ × Polarity × Pat) → read_mailbox p bytes ≡ Some m → Fits p m.0 m.2

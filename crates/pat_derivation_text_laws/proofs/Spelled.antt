@@ -9,7 +9,8 @@ use Rattle.pat_words_spec.specs.Patterns.{Pat, Zero, One, Tag, Sum, Prod, Star, 
 use Rattle.pat_words_spec.specs.Sizes.{levels_of}
 use Rattle.pat_words_spec.specs.Tags.{tags_below}
 use Rattle.pat_texts_spec.specs.Numbers.{read_number}
-use Rattle.pat_derivation_text_spec.specs.patterns.PatternText.{enclosed, is_sum, is_sum_or_product, pat_text, is_shallow, has_numbers, is_readable, is_mark}
+use Rattle.pat_derivation_spec.specs.Spelled.{has_numbers, is_shallow}
+use Rattle.pat_derivation_text_spec.specs.patterns.PatternText.{enclosed, is_sum, is_sum_or_product, pat_text, is_readable, is_mark}
 use Rattle.pat_derivation_text_spec.specs.patterns.PatternReading.{Op, Stars, Opens, Sums, Prods, Part, Stage, wanting, having, begun, part_of, star_part, product_part, sum_part, star_top, product_top, sum_top, settled, summed, bracket_top, bracket_closed, pattern_whole, with_op, place_of, tag_pattern, word_pattern, word_front, word_rest, beside, with_word, with_sum, with_bracket, want, have, step, at_end, run, read_pattern}
 use Rattle.pat_texts_spec.specs.Fronts.{agree, behind}
 use Rattle.pat_texts_spec.proofs.Choices.{taken, untaken, Made, made, made_next, agree_same, negated}

@@ -14,8 +14,8 @@ use Rattle.pat_semantics_spec.specs.Programs.{Polarity, Sending, Receiving, Inte
 use Rattle.pat_type_system_spec.specs.Types.{Usage, Second, Returnable, MailboxType, mailbox_type, TypeOf, BaseTerm, MailboxTerm}
 use Rattle.pat_type_schemes_spec.specs.NodeTypes.{Needs}
 use Rattle.pat_derivation_spec.specs.Derivations.{Derivation, ascends_from, tag_count, scope_of}
-use Rattle.pat_derivation_spec.specs.Spelled.{spells_pattern, spells_type, spells_named, is_number, has_numbers as numbers_fit, is_shallow as levels_fit}
-use Rattle.pat_derivation_text_spec.specs.patterns.PatternText.{pat_text, enclosed, is_sum, is_sum_or_product, has_numbers, is_shallow, is_readable}
+use Rattle.pat_derivation_spec.specs.Spelled.{spells_pattern, spells_type, spells_named, is_number, has_numbers, is_shallow}
+use Rattle.pat_derivation_text_spec.specs.patterns.PatternText.{pat_text, enclosed, is_sum, is_sum_or_product, is_readable}
 use Rattle.pat_derivation_text_laws.specs.patterns.Laws.{AreNames, PatternIsRead}
 use Rattle.pat_texts_spec.proofs.Choices.{passed, skipped, negated}
 use Rattle.pat_texts_spec.proofs.Decimals.{number_read}
@@ -126,15 +126,6 @@ pattern_inner names n (Prod e f) h =
     let k = and_parts (has_numbers e) (has_numbers f) h in
     all_append is_inner (enclosed (is_sum e) (pat_text names e)) (46 ∷ enclosed (is_sum_or_product f) (pat_text names f)) (enclosed_inner (is_sum e) (pat_text names e) (pattern_inner names n e k.0)) (enclosed_inner (is_sum_or_product f) (pat_text names f) (pattern_inner names n f k.1))
 
-pub numbers_same : (e : Pat) → numbers_fit e ≡ has_numbers e
-numbers_same Zero = refl
-numbers_same One = refl
-numbers_same (Tag m) = refl
-numbers_same (Var k) = refl
-numbers_same (Star e) = numbers_same e
-numbers_same (Sum e f) = ap (λ t. t && numbers_fit f) (numbers_same e) ∙ ap (λ t. has_numbers e && t) (numbers_same f)
-numbers_same (Prod e f) = ap (λ t. t && numbers_fit f) (numbers_same e) ∙ ap (λ t. has_numbers e && t) (numbers_same f)
-
 pub count_is : (o : Option Interface) → tag_count o ≡ length (tags_named o)
 count_is None = refl
 count_is (Some i) = sym (length-map i.tags (λ t. t.name))
@@ -147,15 +138,14 @@ pub record Fits (p : Program) (i : ℕ) (e : Pat) : Type 0 where
 
 pub pattern_fits : (p : Program) (d : Derivation) (i : ℕ) (e : Pat) → spells_pattern p d i e ≡ true → Fits p i e
 pattern_fits p d i e h =
-    let k = and_parts (nat_lt i (length p.interfaces)) (tags_below ((scope_of p d).tags i) e && (numbers_fit e && levels_fit e)) h in
-    let m = and_parts (tags_below ((scope_of p d).tags i) e) (numbers_fit e && levels_fit e) k.1 in
-    let n = and_parts (numbers_fit e) (levels_fit e) m.1 in
-    let own : has_numbers e ≡ true = sym (numbers_same e) ∙ n.0 in
+    let k = and_parts (nat_lt i (length p.interfaces)) (tags_below ((scope_of p d).tags i) e && (has_numbers e && is_shallow e)) h in
+    let m = and_parts (tags_below ((scope_of p d).tags i) e) (has_numbers e && is_shallow e) k.1 in
+    let n = and_parts (has_numbers e) (is_shallow e) m.1 in
     let tags : tags_below (length (tag_names p i)) e ≡ true = ap (λ j. tags_below j e) (sym (count_is (slice_get p.interfaces i))) ∙ m.0 in
     record {
       there = ltb-true i (length p.interfaces) k.0;
-      numbers = own;
-      readable = and_from (tags_below (length (tag_names p i)) e) (has_numbers e && is_shallow e) tags (and_from (has_numbers e) (is_shallow e) own n.1);
+      numbers = n.0;
+      readable = and_from (tags_below (length (tag_names p i)) e) (has_numbers e && is_shallow e) tags (and_from (has_numbers e) (is_shallow e) n.0 n.1);
     }
 
 -- ---- types

@@ -1,7 +1,6 @@
 // Branches of choices and guards that have been walked: their rules, their names, and what they need together.
 
 mod arms;
-mod covering;
 mod guards;
 
 pub use arms::{WalkedArm, check_arms, gather_arms};

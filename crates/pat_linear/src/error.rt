@@ -3,13 +3,16 @@ ghost use Rattle.std.specs.Prelude.{◌≡◌};
 ghost use Rattle.pat_linear.specs.declared.error.FormError.TheVariants.{NoMemory};
 
 use std::alloc::AllocError;
+use thiserror::Error;
 
 /// Why `closed_form` gives no list.
-#[derive(Debug, Drop)]
+#[derive(Debug, Drop, Error)]
 pub enum FormError {
     /// The pattern, or a list that is made on the way, is larger than what is worked with.
+    #[error("TooLarge")]
     TooLarge,
     /// There was no memory.
+    #[error("NoMemory")]
     NoMemory,
 }
 

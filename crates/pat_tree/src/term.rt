@@ -11,10 +11,21 @@ pub struct Term {
     pub span: Span,
 }
 
+// A loop over what statements stand in a row, of which there may be thousands: only braces nest as calls.
 impl Drop for Term {
     #[cycle(drop_term)]
-    fn drop(self) {
-        let Term { form: _, span: _ } = self;
+    fn drop(mut self) {
+        loop {
+            let Term { form, span: _ } = self;
+            match form {
+                Form::Let {
+                    name: _,
+                    bound: _,
+                    body,
+                } => self = Box::into_inner(body),
+                _ => return,
+            }
+        }
     }
 }
 

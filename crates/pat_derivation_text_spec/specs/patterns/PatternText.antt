@@ -1,11 +1,10 @@
 -- The text of a pattern over the tags of an interface.
-use Rattle.std.specs.Prelude.{ℕ, Bool, true, false, ◌&&◌, ◌||◌, ◌==◌, not, nat_le, nat_lt, List, [], ◌∷◌, ◌++◌, length, slice_index_or}
+use Rattle.std.specs.Prelude.{ℕ, Bool, true, false, ◌&&◌, ◌||◌, ◌==◌, not, nat_lt, List, [], ◌∷◌, ◌++◌, length, slice_index_or}
 use Rattle.std.specs.List.{list_all}
 use Rattle.std.specs.Fmt.{decimal}
 use Rattle.pat_words_spec.specs.Patterns.{Pat, Zero, One, Tag, Sum, Prod, Star, Var}
-use Rattle.pat_words_spec.specs.Sizes.{levels_of}
 use Rattle.pat_words_spec.specs.Tags.{tags_below}
-use Rattle.pat_texts_spec.specs.Numbers.{is_number}
+use Rattle.pat_derivation_spec.specs.Spelled.{has_numbers, is_shallow}
 
 -- what stands before a part that needs brackets, and what behind it
 abbrev pub opening : Bool → List ℕ
@@ -41,18 +40,6 @@ pat_text names (Prod p q) = enclosed (is_sum p) (pat_text names p) ++ 46 ∷ enc
 pat_text names (Star p) = 42 ∷ enclosed (is_sum_or_product p) (pat_text names p)
 
 -- ---- what is read again
-
--- no more levels than a reader takes
-abbrev pub is_shallow : Pat → Bool
-is_shallow e = nat_le (levels_of e) 16384
-
--- the numbers of the pattern's variables are ones that a text may have
-abbrev pub has_numbers : Pat → Bool
-has_numbers (Var k) = is_number k
-has_numbers (Sum e f) = has_numbers e && has_numbers f
-has_numbers (Prod e f) = has_numbers e && has_numbers f
-has_numbers (Star e) = has_numbers e
-has_numbers _ = true
 
 -- a pattern over n tags that a reader takes
 abbrev pub is_readable : ℕ → Pat → Bool

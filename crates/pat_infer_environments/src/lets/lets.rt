@@ -17,13 +17,13 @@ ghost use Rattle.pat_infer_problems.specs.Walked.{Infers};
 
 use crate::gathering::gather_parts;
 use crate::looking::{find_next, first_place};
-use crate::{find, is_receiver, is_second};
+use crate::{find, is_receiver};
 use pat_core::{Kind, Program};
 use pat_infer_problems::{InferError, Problem, Rule, check_node};
 use pat_patterns::Pattern;
 use pat_primitives::{Base, Polarity};
 use pat_sequences::Sequence;
-use pat_types::{MailboxType, TypeOf};
+use pat_types::{MailboxType, TypeOf, join_usage};
 use std::alloc::{AllocError, Global};
 
 /// What a bound part is asked for, where the body needs this of the name: `I!1` where it needs nothing.
@@ -122,12 +122,12 @@ fn are_in_order(bound: &[(u32, MailboxType)], body: &[(u32, MailboxType)]) -> bo
     true
 }
 
-/// What the bound part needs as returnable, the body doesn't need.
+/// Whether the usages join: what the bound part needs as returnable, the body doesn't need.
 fn is_in_order(bound: Option<&MailboxType>, body: Option<&MailboxType>) -> bool
     ensures { result ≡ in_order (need_ref bound.entry) (need_ref body.entry) }
 {
     match (bound, body) {
-        (Some(bound), Some(_)) => is_second(bound.usage),
+        (Some(bound), Some(body)) => join_usage(bound.usage, body.usage).is_some(),
         _ => true,
     }
 }

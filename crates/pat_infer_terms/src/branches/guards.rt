@@ -21,7 +21,6 @@ ghost use Rattle.pat_infer_terms.specs.branches.Guards.{own_guard};
 ghost use Rattle.pat_infer_problems.specs.Walked.{Infers};
 
 use crate::branches::arms::{WalkedArm, check_arms, clause_names, gather_arms};
-use crate::branches::covering::is_covered;
 use crate::names::{bind, bind_all};
 use crate::terms::{tag_of, types_of_tag};
 use crate::{Binder, check_names, constrain_names};
@@ -31,7 +30,7 @@ use pat_infer_problems::{InferError, Problem, Rule, check_node};
 use pat_patterns::{Pattern, residual};
 use pat_primitives::Polarity;
 use pat_sequences::Sequence;
-use pat_types::{MailboxType, Usage, is_mailbox};
+use pat_types::{MailboxType, Usage, is_covered, is_mailbox};
 use std::alloc::{AllocError, Global};
 
 /// A guard of a pattern on a variable: its function, its node, and the interface of the variable.
