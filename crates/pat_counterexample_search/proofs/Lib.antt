@@ -1,3 +1,4 @@
 mod Steps
 mod Trees
 pub mod Search
+mod Best

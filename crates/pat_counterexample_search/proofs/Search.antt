@@ -1,5 +1,5 @@
 -- What entries say of a search is a right answer.
-use Rattle.std.proofs.Common.{◌≡◌, ℕ, ◌+◌, ◌<◌, ◌≤◌, ⊎_elim, List, [], true, sym, ap, ◌∙◌, subst, arith}
+use Rattle.std.proofs.Common.{◌≡◌, ℕ, ◌+◌, ◌<◌, ◌≤◌, ⊎_elim, List, [], true, refl, sym, ap, ◌∙◌, subst, arith}
 use Rattle.std.specs.Prelude.{slice_get}
 use Rattle.std.specs.List.{AllByRecursion}
 use Rattle.std.proofs.lemmas.Bool.{cases_lt}
@@ -10,23 +10,27 @@ use Rattle.pat_words_spec.specs.Flats.{is_flat, degree_of}
 use Rattle.pat_words_spec.specs.Tags.{tags_below}
 use Rattle.pat_words_spec.specs.Cuts.{cut_at}
 use Rattle.pat_inclusion_spec.specs.Points.{grid_fits}
-use Rattle.pat_inclusion_spec.specs.bounds.Trees.{Bound, bounds_of}
+use Rattle.pat_inclusion_spec.specs.bounds.Trees.{Bound, bounds_of, tree_size}
 use Rattle.pat_inclusion_spec.specs.bounds.CutSets.{IsPoint}
 use Rattle.pat_inclusion_spec.specs.bounds.Symbols.{Symbol, LowerSymbol, Stands, RootStands, IsFlatOf, TagsAreBelow, ShowsAt, symbol_at}
 use Rattle.pat_inclusion_spec.specs.bounds.Layouts.{laid, laid_all, roots_all, last_of}
 use Rattle.pat_inclusion_spec.specs.bounds.Tables.{Setting, IsKnown, IsDone}
 use Rattle.pat_inclusion_spec.specs.bounds.Numbers.{points_in, number_of, point_of, table_of}
-use Rattle.pat_inclusion_spec.specs.bounds.Searches.{Search, InsideAnswer, FoundAnswer, LargeAnswer, IsAnswer}
+use Rattle.pat_inclusion_spec.specs.bounds.Searches.{Search, InsideAnswer, FoundAnswer, LargeAnswer, Refutes, IsAnswer}
 use Rattle.pat_inclusion_laws.specs.bounds.Laws.{SearchLaw}
 use Rattle.pat_inclusion_laws.proofs.NumberLaws.{number_small, point_number, point_fits}
 use Rattle.pat_inclusion_laws.proofs.LayoutLaws.{laid_stands, laid_goes, goes_both, kept_in, all_stand, symbols_fit, all_fit, laid_fit}
-use Rattle.pat_inclusion_laws.proofs.SearchLaws.{flat_tree}
+use Rattle.pat_inclusion_laws.proofs.CutSetLaws.{in_by_cut}
+use Rattle.pat_inclusion_laws.proofs.TableLaws.{shown_point, entry_least}
+use Rattle.pat_inclusion_laws.proofs.ClosedLaws.{flat_closed, known_right}
+use Rattle.pat_inclusion_laws.proofs.SearchLaws.{flat_tree, tree_flat}
 use Rattle.pat_grid_points.specs.symbols.Views.{symbols_view}
 use Rattle.pat_grid.specs.declared.tables.board.Board.{Board}
 use Rattle.pat_grid.specs.tables.Views.{setting_of, IsBoard, AreGrids}
 use Rattle.pat_grid.specs.tables.Moves.{entry_at}
+use Rattle.pat_counterexample_search.specs.Least.{IsLeastAnswer}
 use Rattle.pat_counterexample_search.specs.Choices.{IsReady, HasRoom, Rebuilt}
-use Rattle.pat_counterexample_search.specs.Readings.{IsMissing, IsRead, IsReading}
+use Rattle.pat_counterexample_search.specs.Readings.{IsMissing, IsFirstLeast, IsRead, IsReading}
 
 -- ---- the point that is found
 
@@ -42,16 +46,17 @@ found_room b entries s r c had ready missing none =
       room = λ t. let z = count_eq had no_word none t in omega arith;
     }
 
-pub found_read : (board : Board) (entries : List ℕ) (s r c : ℕ) (had has : Word) (b : Bound) → IsMissing (setting_of board) entries s r board.limit c → had ≡ no_word → Rebuilt (setting_of board) (record { symbol = s; number = c }) (entry_at (setting_of board) entries s c) had b has → IsReading board entries s r (FoundAnswer has b)
-found_read board entries s r c had has b missing none made =
+pub found_read : (board : Board) (entries : List ℕ) (s r c : ℕ) (had has : Word) (b : Bound) → IsFirstLeast (setting_of board) entries s r board.limit c → had ≡ no_word → Rebuilt (setting_of board) (record { symbol = s; number = c }) (entry_at (setting_of board) entries s c) had b has → IsReading board entries s r (FoundAnswer has b)
+found_read board entries s r c had has b best none made =
     let g = setting_of board in
     let same : made.word ≡ has = sym (made.words ∙ ap (λ w. plus w made.word) none ∙ none_plus made.word) in record {
       read = (
         c,
-        missing,
+        best.missing,
         subst (ShowsAt g.flat g.given b (symbol_at g.flat s)) same made.shows,
         made.cut ∙ ap (cut_at g.bound) same,
         made.sized,
+        best,
       );
     }
 
@@ -101,6 +106,32 @@ module _ (g : Setting) (entries : List ℕ) (lower : ℕ → Pat) (left right : 
       (λ k. k)
       (λ k. absurd (h.1 (number_of g.bound g.tags u) (missing_at u g.limit p k out)))
       (cases_lt g.limit (table_of g entries s u)))
+
+  -- a tree that refutes, cut, is one of a point that is missing
+  refuting_known : (w : Word) (b : Bound) → Refutes lower left right w b → IsKnown g.limit (table_of g entries r (cut_at g.bound w)) → ⊥
+  refuting_known w b h known =
+      let t = tree_flat g (table_of g entries) lower left s flat sl b w h.0 in
+      let p = shown_point g done.fit b s (symbol_at g.flat s) w refl t in
+      h.1 (in_by_cut g.bound right w fr dr (known_right g (table_of g entries) lower right r (cut_at g.bound w) done flat sr (flat_closed right fr) p known))
+
+  -- of all trees that refute the one that is found is least
+  pub read_least : (a : Search) → IsRead g entries s r a → IsLeastAnswer lower left right a
+  read_least InsideAnswer h = tt
+  read_least LargeAnswer h = tt
+  read_least (FoundAnswer w b) h = λ w' b' refutes.
+      let c = h.0 in
+      let size = h.4 in
+      let l = h.1.1 in
+      let t = tree_flat g (table_of g entries) lower left s flat sl b' w' refutes.0 in
+      let p = shown_point g done.fit b' s (symbol_at g.flat s) w' refl t in
+      let low = entry_least g (table_of g entries) done.fit done.closed s w' b' t in
+      ⊎_elim
+      (λ less.
+      let there = missing_at (cut_at g.bound w') g.limit p (omega (arith, low, less, size, l)) (refuting_known w' b' refutes) in
+      let k = h.5.least (number_of g.bound g.tags (cut_at g.bound w')) there in
+      omega (arith, k, low, size))
+      (λ more. more)
+      (cases_lt (tree_size b') (tree_size b))
 
 -- ---- a system and both sides, laid out
 

@@ -8,5 +8,5 @@ mod reading;
 mod rebuilding;
 mod searching;
 
-pub use reading::read_answer;
+pub use reading::{is_large, read_answer};
 pub use searching::refute;

@@ -1,7 +1,8 @@
 -- Several constraints searched by one table.
-use Rattle.std.proofs.Common.{◌≡◌, ℕ, zero, suc, ◌+◌, ◌-◌, ◌<◌, ◌≤◌, true, List, [], ◌∷◌, ◌++◌, length, map, Option, Some, None, take, drop, refl, sym, ap, ap₂, ◌∙◌, subst, arith, append_assoc}
+use Rattle.std.proofs.Common.{◌≡◌, ℕ, zero, suc, ◌+◌, ◌-◌, ◌<◌, ◌≤◌, true, List, [], ◌∷◌, ◌++◌, length, map, Option, Some, None, take, drop, refl, sym, ap, ap₂, ◌∙◌, subst, arith, append_assoc, ⊎_elim}
 use Rattle.std.specs.Prelude.{get_or, slice_get}
 use Rattle.std.specs.List.{AllByRecursion}
+use Rattle.std.proofs.lemmas.Bool.{cases_lt}
 use Rattle.std.proofs.lemmas.List.{drop_more, get_or-take, get_or-drop, get_or-map, length-map, length-take-le, length-drop, append-nil, drop_all}
 use Rattle.pat_words_spec.specs.Patterns.{Pat}
 use Rattle.pat_words_spec.specs.Tags.{tags_below}
@@ -12,7 +13,7 @@ use Rattle.pat_inclusion_spec.specs.bounds.Symbols.{Symbol, LowerSymbol, Stands,
 use Rattle.pat_inclusion_spec.specs.bounds.Layouts.{laid, laid_all, roots_all, last_of}
 use Rattle.pat_inclusion_spec.specs.bounds.Tables.{IsDone}
 use Rattle.pat_inclusion_spec.specs.bounds.Numbers.{points_in, table_of}
-use Rattle.pat_inclusion_spec.specs.bounds.Searches.{IsAnswer}
+use Rattle.pat_inclusion_spec.specs.bounds.Searches.{Search, InsideAnswer, FoundAnswer, LargeAnswer, IsAnswer}
 use Rattle.pat_inclusion_laws.specs.bounds.Laws.{SearchLaw}
 use Rattle.pat_inclusion_laws.proofs.LayoutLaws.{Goes, goes_none, goes_both, kept_in, laid_goes, laid_stands, all_stand, TagFits, laid_fit, all_fit, symbols_fit}
 use Rattle.pat_grid_points.specs.declared.grid.Grid.{Grid}
@@ -21,7 +22,7 @@ use Rattle.pat_grid.specs.declared.tables.board.Board.{Board}
 use Rattle.pat_grid.specs.tables.Views.{setting_of, IsBoard, AreGrids}
 use Rattle.pat_grid.specs.Rows.{AreRows}
 use Rattle.pat_grid.proofs.Meaning.{rows_many, rows_point, least_like}
-use Rattle.pat_counterexample_search.specs.Readings.{IsRead}
+use Rattle.pat_counterexample_search.specs.Readings.{IsRead, IsReading}
 use Rattle.pat_counterexample_search.proofs.Search.{read_right}
 use Rattle.pat_solve_spec.specs.Answers.{most_nodes}
 use Rattle.pat_solve_bounds.specs.renumbered.Renaming.{renamed}
@@ -30,6 +31,7 @@ use Rattle.pat_solve_bounds.proofs.Renames.{renamed_tags}
 use Rattle.pat_solve_grids.specs.Findings.{Findings, SidesSearched, IsSearchable, RightSearchable, AreFound}
 use Rattle.pat_solve_grids.specs.Laying.{laid_if, last_if, laid_side, side_places, laid_sides, all_places, IsReadyFor, AreReady, IsNoted}
 use Rattle.pat_solve_grids.specs.Least.{AreLeastOf}
+use Rattle.pat_solve_grids.specs.Limits.{limited, IsTold, IsSettled}
 use Rattle.pat_solve_grids.proofs.Turning.{turn, each_at}
 
 -- ---- layouts
@@ -115,16 +117,40 @@ module _ (rename : Pat → Pat) (zs : List Constraint) (ns : List ℕ) where
 
 -- ---- the table
 
-pub batch_board : (b : Board) (symbols : List Symbol) → grid_fits b.k b.tags ≡ true → b.points ≡ points_in b.k b.tags → b.limit ≡ 4096 → b.given.now ≡ [] → symbols_view b.symbols.now ≡ symbols → AllByRecursion (TagFits b.tags) symbols → IsBoard b
+pub batch_board : (b : Board) (symbols : List Symbol) → grid_fits b.k b.tags ≡ true → b.points ≡ points_in b.k b.tags → b.limit ≤ 4096 → b.given.now ≡ [] → symbols_view b.symbols.now ≡ symbols → AllByRecursion (TagFits b.tags) symbols → IsBoard b
 batch_board b symbols fits points limit given same fit = record {
   fits = fits;
   points = points;
-  limit = omega arith;
+  limit = limit;
   tags = symbols_fit b.tags (symbols_view b.symbols.now) (subst (AllByRecursion (TagFits b.tags)) (sym same) fit);
   given = subst (AreGrids b.k b.tags) (sym given) (λ j grid e. absurd (cc));
 }
 
-module _ (b : Board) (system : List Pat) (place : ℕ → ℕ) (zs : List Constraint) (ns : List ℕ) (from to : ℕ) (entries slice : List ℕ) (law : SearchLaw) (done : IsDone (setting_of b) (table_of (setting_of b) entries)) (limit : b.limit ≡ most_nodes) (lo : from ≤ to) (hi : to ≤ length ns) where
+-- ---- the limit
+
+pub limited_board : (b : Board) (limit : ℕ) → IsBoard b → limit ≤ 4096 → IsBoard (limited b limit)
+limited_board b limit board most = record {
+  fits = board.fits;
+  points = board.points;
+  limit = most;
+  tags = board.tags;
+  given = board.given;
+}
+
+-- below the greatest limit an answer that isn't "larger trees alone" is right for the greatest as well
+raised : (b : Board) (entries : List ℕ) (lower : ℕ → Pat) (left f : Pat) (s r : ℕ) → b.limit < most_nodes → (IsReading b entries s r LargeAnswer → ⊥) → (a : Search) → IsReading b entries s r a → IsAnswer b.limit lower left f a → IsAnswer most_nodes lower left f a
+raised b entries lower left f s r less told InsideAnswer reading h = h
+raised b entries lower left f s r less told (FoundAnswer w t) reading h = let size = h.1 in (h.0, omega (arith, less, size))
+raised b entries lower left f s r less told LargeAnswer reading h = absurd (told reading)
+
+told_right : (b : Board) (entries : List ℕ) (lower : ℕ → Pat) (left f : Pat) (s r : ℕ) → b.limit ≤ most_nodes → ((b.limit ≡ most_nodes → ⊥) → IsReading b entries s r LargeAnswer → ⊥) → (a : Search) → IsReading b entries s r a → IsAnswer b.limit lower left f a → IsAnswer most_nodes lower left f a
+told_right b entries lower left f s r most told a reading h =
+    ⊎_elim
+    (λ less. raised b entries lower left f s r less (told (λ same. omega (arith, less, same))) a reading h)
+    (λ more. subst (λ m. IsAnswer m lower left f a) (omega (arith, most, more)) h)
+    (cases_lt b.limit most_nodes)
+
+module _ (b : Board) (system : List Pat) (place : ℕ → ℕ) (zs : List Constraint) (ns : List ℕ) (from to : ℕ) (entries slice : List ℕ) (law : SearchLaw) (done : IsDone (setting_of b) (table_of (setting_of b) entries)) (limit : b.limit ≤ most_nodes) (lo : from ≤ to) (hi : to ≤ length ns) where
   abbrev those : List ℕ
   those = take (to - from) (drop from ns)
 
@@ -162,27 +188,28 @@ module _ (b : Board) (system : List Pat) (place : ℕ → ℕ) (zs : List Constr
       points = rows_point b (bounds_of system) entries slice grids rows same points done flat;
     }
 
-    ready_by : (left : Pat) (r : Right) (side : Option (ℕ × ℕ)) → RightSearchable b.k b.tags r → StandFor (renamed place) all left r side → IsReadyFor b slice (bounds_of system) left r side
-    ready_by left (VarRight k) side fits stand = stand
-    ready_by left (PatternRight f) side fits stand = (
+    ready_by : (left : Pat) (r : Right) (side : Option (ℕ × ℕ)) → RightSearchable b.k b.tags r → ((b.limit ≡ most_nodes → ⊥) → IsTold b slice side) → StandFor (renamed place) all left r side → IsReadyFor b slice (bounds_of system) left r side
+    ready_by left (VarRight k) side fits told stand = stand
+    ready_by left (PatternRight f) side fits told stand = (
       stand.0,
       stand.1,
       stand.2,
-      λ a reading. subst (λ m. IsAnswer m (bounds_of system) left f a) limit
+      λ a reading. told_right b slice (bounds_of system) left f stand.0 stand.1 limit
+          (λ less. subst (IsTold b slice) stand.2 (told less)) a reading
           (read_right (setting_of b) entries (bounds_of system) left f stand.0 stand.1 law done flat
           (subst (λ ys. Stands ys LowerSymbol left stand.0) (sym symbols) stand.3)
           (subst (λ ys. Stands ys LowerSymbol f stand.1) (sym symbols) stand.4)
           fits.1 fits.2 a (subst (λ es. IsRead (setting_of b) es stand.0 stand.1 a) same reading.read)),
     )
 
-    pub batch_ready : AllByRecursion (IsSearchable b.k b.tags) (picked zs ns) → (sides : List (Option (ℕ × ℕ))) → sides ≡ all_places (renamed place) base cs → AreReady b slice (bounds_of system) (renamed place) zs ns from sides
-    batch_ready fits sides e j l =
+    pub batch_ready : AllByRecursion (IsSearchable b.k b.tags) (picked zs ns) → (sides : List (Option (ℕ × ℕ))) → IsSettled b slice sides → sides ≡ all_places (renamed place) base cs → AreReady b slice (bounds_of system) (renamed place) zs ns from sides
+    batch_ready fits sides settled e j l =
         let many = those_many in
         let count : length sides ≡ to - from = ap length e ∙ places_many (renamed place) base cs ∙ length-map those (side_at zs) ∙ many in
         let inside : j < to - from = omega (arith, l, count) in
         let searchable = each_at (IsSearchable b.k b.tags) (side_at zs) ns (from + j) (omega (arith, inside, lo, hi)) fits in
         let stands = sides_stand (renamed place) base all cs j (let c = length-map those (side_at zs) in omega (arith, inside, c, many)) (goes_none all) in
-        ready_by (renamed place (side_at zs (get_or ns (from + j) 0)).left) (side_at zs (get_or ns (from + j) 0)).right (get_or sides j None) searchable.right
+        ready_by (renamed place (side_at zs (get_or ns (from + j) 0)).left) (side_at zs (get_or ns (from + j) 0)).right (get_or sides j None) searchable.right (settled j l)
         (subst (λ ss. StandFor (renamed place) all (renamed place (side_at zs (get_or ns (from + j) 0)).left) (side_at zs (get_or ns (from + j) 0)).right (get_or ss j None)) (sym e)
         (subst (λ (c : Constraint). StandFor (renamed place) all (renamed place c.left) c.right (get_or (all_places (renamed place) base cs) j None)) (side_same j inside) stands))
 

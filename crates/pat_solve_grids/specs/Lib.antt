@@ -6,3 +6,4 @@ pub mod Points
 pub mod Grids
 pub mod Laying
 pub mod Least
+pub mod Limits

@@ -2,14 +2,15 @@
 //
 // A table is made for the system and the sides of several constraints, which are about as large as the system is. So all tables
 // together take time in proportion to the system and the sides, and each of them memory in proportion to the system.
-ghost use Rattle.std.specs.Prelude.{◌≡◌, ◌<◌, ◌≤◌, ◌+◌, ℕ, List, length, true, IfOk, IsTrue};
+ghost use Rattle.std.specs.Prelude.{◌≡◌, ◌<◌, ◌≤◌, ◌+◌, ℕ, List, length, get_or, None, true, IfOk, IsTrue, IsFalse};
 ghost use Rattle.std.specs.List.{AllByRecursion};
 ghost use Rattle.pat_words_spec.specs.Tags.{tags_below};
 ghost use Rattle.pat_inclusion_spec.specs.Points.{grid_fits};
 ghost use Rattle.pat_words_spec.specs.Patterns.{Pat};
 ghost use Rattle.pat_inclusion_spec.specs.bounds.Trees.{bounds_of};
 ghost use Rattle.pat_inclusion_spec.specs.bounds.Assignments.{Constraint as GhostConstraint};
-ghost use Rattle.pat_inclusion_spec.specs.bounds.Numbers.{HasAllEntries};
+ghost use Rattle.pat_inclusion_spec.specs.bounds.Tables.{IsDone};
+ghost use Rattle.pat_inclusion_spec.specs.bounds.Numbers.{HasAllEntries, table_of};
 ghost use Rattle.pat_patterns.specs.Views.{patterns_view};
 ghost use Rattle.pat_grid.specs.tables.Views.{setting_of, IsBoard};
 ghost use Rattle.pat_grid.specs.Rows.{AreRows};
@@ -21,11 +22,12 @@ ghost use Rattle.pat_solve_bounds.specs.renumbered.Systems.{side_at, picked};
 ghost use Rattle.pat_solve_grids.specs.Findings.{IsSearchable, AreFound};
 ghost use Rattle.pat_solve_grids.specs.Laying.{AreReady, IsNoted};
 ghost use Rattle.pat_solve_grids.specs.Least.{AreLeastOf};
+ghost use Rattle.pat_solve_grids.specs.Limits.{limited, IsTold, IsSettled};
 ghost use Rattle.pat_solve_grids.specs.Views.{findings_view};
 
 use crate::findings::{Findings, note};
 use crate::laying::lay_each;
-use pat_counterexample_search::read_answer;
+use pat_counterexample_search::{is_large, read_answer};
 use pat_grid::{Board, least_sizes, row_grids};
 use pat_grid_points::{Grid, SparseList, count_points, lay_out_all};
 use pat_inclusion_laws::closed_laws;
@@ -133,20 +135,82 @@ pub fn search_batch(
         variables,
         &mut symbols,
     )?;
-    let board = Board {
+    let listed = sides.as_slice();
+    let first = Board {
         k,
         tags,
         points: count_points(k, tags),
-        limit: MOST_NODES,
+        limit: 0,
         symbols: symbols.as_slice(),
         roots: roots.as_slice(),
         given: &[],
     };
-    let entries = least_sizes(alloc, &board)?;
+    let (limit, entries) = settled_sizes(alloc, &first, listed)?;
+    let board = Board { limit, ..first };
     let grids = rows_if(alloc, from == 0, &board, &entries)?;
-    let listed = sides.as_slice();
     let found = read_each(alloc, &board, &entries, listed, numbers, from, findings)?;
     Ok((grids, found))
+}
+
+/// A table at the first of some rising limits at which no side has larger trees alone, and the limit. Where all sides are
+/// inside no size is worked out, and a refutation costs what its own tree does.
+fn settled_sizes(
+    alloc: Global,
+    board: &Board,
+    sides: &[Option<(usize, usize)>],
+) -> Result<(u16, SparseList<u16>), AllocError>
+    requires { IsBoard board.now }
+    ensures limit { IfOk result (λ r. r.0 ≤ 4096) }
+    ensures all { IfOk result (λ r. HasAllEntries (setting_of (limited board.now r.0)) r.1) }
+    ensures done { IfOk result (λ r. let g = setting_of (limited board.now r.0) in IsDone g (table_of g r.1)) }
+    ensures settled { IfOk result (λ r. IsSettled (limited board.now r.0) r.1 sides.now) }
+{
+    let mut limit: u16 = 0;
+    loop {
+        let now = Board { limit, ..*board };
+        let entries = least_sizes(alloc, &now)?;
+        if limit == MOST_NODES {
+            return Ok((limit, entries));
+        }
+        if !is_any_large(&now, &entries, sides) {
+            return Ok((limit, entries));
+        }
+        limit = next_limit(limit);
+    }
+}
+
+/// A greater limit: 32, then four times as much, and at last the greatest.
+fn next_limit(limit: u16) -> u16
+    requires { limit < 4096 }
+    ensures more { limit < result }
+    ensures most { result ≤ 4096 }
+{
+    (limit * 4).max(32).min(MOST_NODES)
+}
+
+/// Whether at this limit one of the sides has larger trees alone.
+fn is_any_large(board: &Board, entries: &SparseList<u16>, sides: &[Option<(usize, usize)>]) -> bool
+    requires board { IsBoard board.now }
+    requires all { HasAllEntries (setting_of board.now) entries.now }
+    ensures { IsFalse result → (j : ℕ) → j < length sides.now → IsTold board.now entries.now (get_or sides.now j None) }
+{
+    for side in sides {
+        if is_side_large(board, entries, *side) {
+            return true;
+        }
+    }
+    false
+}
+
+fn is_side_large(board: &Board, entries: &SparseList<u16>, side: Option<(usize, usize)>) -> bool
+    requires board { IsBoard board.now }
+    requires all { HasAllEntries (setting_of board.now) entries.now }
+    ensures { IsFalse result → IsTold board.now entries.now side }
+{
+    match side {
+        None => false,
+        Some((left, right)) => is_large(board, entries, left, right),
+    }
 }
 
 /// The rows of the roots, if they are asked for.

@@ -1,12 +1,12 @@
-use Rattle.std.proofs.Common.{ℕ, ◌<◌, ◌≤◌, ◌-◌}
+use Rattle.std.proofs.Common.{◌≤◌, ◌-◌}
 use Rattle.pat_grid.specs.tables.Views.{setting_of}
-use Rattle.pat_counterexample_search.specs.Readings.{IsMissing}
+use Rattle.pat_counterexample_search.specs.Readings.{IsBest}
 use Rattle.pat_counterexample_search.proofs.reading.find_missing.Given as goal
 
 abbrev pub invariant-loop-number : goal.invariant-loop-number
 invariant-loop-number l =
     (l.number ≤ l.board.points)
-    × ((c : ℕ) → c < l.number → IsMissing (setting_of l.board) l.entries l.left l.right l.most c → ⊥)
+    × IsBest (setting_of l.board) l.entries l.left l.right l.most l.number l.best.found l.best.above
 
 abbrev pub decreases-loop-number : goal.decreases-loop-number
 decreases-loop-number l = l.board.points - l.number
