@@ -11,6 +11,7 @@ use Rattle.pat_bags.specs.Views.{word_of}
 use Rattle.pat_inclusion_spec.specs.Counts.{most_tags, scaled}
 use Rattle.pat_inclusion_spec.specs.Covers.{makes}
 use Rattle.pat_linear.specs.Views.{words_of}
+use Rattle.pat_cover_certificates.specs.declared.coefficients.failed.Note.{Note}
 use Rattle.pat_cover_certificates.specs.declared.coefficients.frames.Frame.{Frame}
 use Rattle.pat_cover_certificates.specs.coefficients.Numbers.{NoNumbers, tags_occur}
 use Rattle.pat_cover_certificates.specs.coefficients.Frames.{left_of, to_come, Stands, CameToNothing}
@@ -184,34 +185,38 @@ set_cases (x ∷ xs) (suc i) y z (suc j) h = ⊎_elim (λ p. inl (ap suc p.0, p.
 pub from_here : (bs : List Bag) (fs : List Frame) (i : ℕ) → i ≡ length fs → drop i (words_of bs) ≡ to_come (words_of bs) fs
 from_here bs fs i same = came_dropped bs i ∙ ap (λ k. words_of (drop k bs)) same ∙ sym (coming bs fs)
 
--- one more is noted
-pub one_came : (n : ℕ) (bs : List Bag) (fs : List Frame) (w : Word) (failed : List (Option Bag)) (i : ℕ) (v : Bag) → i ≡ length fs → word_of v ≡ left_of w fs → NoNumbers n (to_come (words_of bs) fs) (left_of w fs) → CameToNothing n (words_of bs) failed → CameToNothing n (words_of bs) (slice_set failed i (Some v))
-one_came n bs fs w failed i v here same none old j u at =
-    ⊎_elim
-    (λ p. let own : v ≡ u = cc in
-    subst (λ l. NoNumbers n l (word_of u)) (sym (from_here bs fs j (p.0 ∙ here)))
-    (subst (λ (x : Word). NoNumbers n (to_come (words_of bs) fs) x) (sym same ∙ ap word_of own) none))
-    (λ q. old j u q)
-    (set_cases failed i (Some v) (Some u) j at)
+-- what the periods from the last frame on don't make, by its place
+pub none_from : (n : ℕ) (bs : List Bag) (fs : List Frame) (w v : Word) (i : ℕ) → i ≡ length fs → v ≡ left_of w fs → NoNumbers n (to_come (words_of bs) fs) (left_of w fs) → NoNumbers n (drop i (words_of bs)) v
+none_from n bs fs w v i here same none =
+    subst (λ l. NoNumbers n l v) (sym (from_here bs fs i here))
+    (subst (λ (x : Word). NoNumbers n (to_come (words_of bs) fs) x) (sym same) none)
 
-none_last : (failed : List (Option Bag)) (i : ℕ) (v : Bag) → slice_get (failed ++ None ∷ []) i ≡ Some (Some v) → slice_get failed i ≡ Some (Some v)
+-- one more is noted
+pub one_came : (n : ℕ) (ps : List Word) (failed : List (Option Note)) (slot : ℕ) (new : Note) → CameToNothing n ps failed → NoNumbers n (drop new.place ps) (word_of new.left) → CameToNothing n ps (slice_set failed slot (Some new))
+one_came n ps failed slot new old none j u at =
+    ⊎_elim
+    (λ p. let own : new ≡ u = cc in subst (λ (x : Note). NoNumbers n (drop x.place ps) (word_of x.left)) own none)
+    (λ q. old j u q)
+    (set_cases failed slot (Some new) (Some u) j at)
+
+none_last : (failed : List (Option Note)) (i : ℕ) (v : Note) → slice_get (failed ++ None ∷ []) i ≡ Some (Some v) → slice_get failed i ≡ Some (Some v)
 none_last [] zero v h = absurd (cc)
 none_last [] (suc i) v h = absurd (cc)
 none_last (x ∷ failed) zero v h = h
 none_last (x ∷ failed) (suc i) v h = none_last failed i v h
 
 -- room for one more
-pub room_came : (n : ℕ) (ps : List Word) (failed : List (Option Bag)) → CameToNothing n ps failed → CameToNothing n ps (failed ++ None ∷ [])
+pub room_came : (n : ℕ) (ps : List Word) (failed : List (Option Note)) → CameToNothing n ps failed → CameToNothing n ps (failed ++ None ∷ [])
 room_came n ps failed old i v at = old i v (none_last failed i v at)
 
 pub none_came : (n : ℕ) (ps : List Word) → CameToNothing n ps []
 none_came n ps i v at = absurd (cc)
 
 -- what came to nothing comes to nothing
-pub came_again : (n : ℕ) (bs : List Bag) (failed : List (Option Bag)) (i : ℕ) (left : Word) → CameToNothing n (words_of bs) failed → ((v : Bag) × (slice_get failed i ≡ Some (Some v)) × (word_of v ≡ left)) → NoNumbers n (words_of (drop i bs)) left
-came_again n bs failed i left old found =
-    subst (λ (x : Word). NoNumbers n (words_of (drop i bs)) x) found.2
-    (subst (λ l. NoNumbers n l (word_of found.0)) (came_dropped bs i) (old i found.0 found.1))
+pub came_again : (n : ℕ) (ps : List Word) (failed : List (Option Note)) (slot place : ℕ) (left : Word) (note : Note) → slice_get failed slot ≡ Some (Some note) → note.place ≡ place → word_of note.left ≡ left → CameToNothing n ps failed → NoNumbers n (drop place ps) left
+came_again n ps failed slot place left note at here same came =
+    subst (λ (x : Word). NoNumbers n (drop place ps) x) same
+    (subst (λ i. NoNumbers n (drop i ps) (word_of note.left)) here (came slot note at))
 
 -- the place is that of the last frame
 pub nothing_here : (n : ℕ) (bs : List Bag) (fs : List Frame) (w left : Word) (i : ℕ) → i ≡ length fs → left ≡ left_of w fs → NoNumbers n (words_of (drop i bs)) left → NoNumbers n (to_come (words_of bs) fs) (left_of w fs)

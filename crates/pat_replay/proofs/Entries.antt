@@ -2,11 +2,13 @@
 use Rattle.std.proofs.Common.{◌≡◌, ℕ, zero, suc, ◌+◌, ◌-◌, List, [], ◌∷◌, ◌++◌, Option, Some, None, refl, sym, ap, ◌∙◌, subst, arith}
 use Rattle.std.specs.Prelude.{option_and_then, replicate}
 use Rattle.std.proofs.lemmas.List.{replicate-append-replicate}
-use Rattle.pat_semantics_spec.specs.Programs.{Program}
-use Rattle.pat_semantics_spec.specs.Configs.{Config}
+use Rattle.pat_semantics_spec.specs.Programs.{Program, Function, function_at}
+use Rattle.pat_semantics_spec.specs.Configs.{Config, start, start_of}
+use Rattle.pat_semantics_spec.specs.Orders.{IsOrdered}
 use Rattle.pat_semantics_spec.specs.Steps.{Act, Step, step}
 use Rattle.pat_semantics_spec.specs.Runs.{Entry, run_from, shared_step, entry_steps, entry_from}
 use Rattle.pat_semantics_laws.proofs.Inversion.{step_of, local_step_of}
+use Rattle.pat_semantics_laws.proofs.Ordered.{run_keeps_order}
 use Rattle.pat_semantics_laws.proofs.Replays.{runs_join, first_of}
 use Rattle.pat_machine_spec.specs.Commits.{local_of}
 use Rattle.pat_reduce.proofs.StepNumbers.{step_ahead}
@@ -100,3 +102,15 @@ numbers_on p c d e n h taken =
     let run = sym (runs_join p c locals (shared_step e.thread e.shared)) ∙ of_entry p c d (entry_steps e) h in
     let q = first_of (λ m. run_from p m (shared_step e.thread e.shared)) d (run_from p c locals) run in
     shared_taken p q.0 d e.thread e.shared n q.2 (locals_taken p c q.0 e.thread e.local_steps n q.1 taken)
+
+-- and leads from order to order
+pub order_on : (p : Program) (c d : Config) (e : Entry) → IsOrdered c → entry_from p c (entry_steps e) ≡ Some d → IsOrdered d
+order_on p c d e o h = run_keeps_order p (entry_steps e) c d o (of_entry p c d (entry_steps e) h)
+
+-- at the start one number is taken at most
+starts_of : (f : Option Function) → HasTaken (start_of f) 1
+starts_of None = record { threads = omega arith; mailboxes = omega arith; messages = omega arith }
+starts_of (Some f) = record { threads = omega arith; mailboxes = omega arith; messages = omega arith }
+
+pub starts_below : (p : Program) → HasTaken (start p) 1
+starts_below p = starts_of (function_at p p.main)

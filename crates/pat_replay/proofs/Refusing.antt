@@ -4,13 +4,14 @@ use Rattle.std.specs.Prelude.{option_and_then}
 use Rattle.std.proofs.lemmas.List.{drop_more}
 use Rattle.pat_semantics_spec.specs.Programs.{Program}
 use Rattle.pat_semantics_spec.specs.Configs.{Config}
+use Rattle.pat_semantics_spec.specs.Orders.{IsOrdered}
 use Rattle.pat_semantics_spec.specs.Runs.{Entry, entry_steps, entry_from, replay_from}
 use Rattle.pat_machine_spec.specs.Refusals.{IsRefusedAt}
 use Rattle.std.specs.declared.result.Result.TheVariants.{Err}
 use Rattle.pat_reduce_values.specs.declared.error.StepError.{StepError}
 use Rattle.pat_reduce_values.specs.declared.error.StepError.TheVariants.{Disabled, NoMemory}
 use Rattle.pat_replay.specs.Replays.{HasTaken, EntryGives}
-use Rattle.pat_replay.proofs.Entries.{numbers_on}
+use Rattle.pat_replay.proofs.Entries.{numbers_on, order_on}
 use Rattle.pat_reduce.specs.declared.history.Entry.{Entry as CodeEntry}
 use Rattle.pat_reduce.specs.Views.{entry_view}
 
@@ -50,3 +51,6 @@ module _ (p : Program) (b c : Config) (entries : List CodeEntry) (i : ℕ) (noth
 
     pub numbers_next : HasTaken c (i + 1) → HasTaken d (i + 1 + 1)
     numbers_next taken = numbers_on p c d (entry_view e) (i + 1) leads taken
+
+    pub order_next : IsOrdered c → IsOrdered d
+    order_next ordered = order_on p c d (entry_view e) ordered leads

@@ -2,6 +2,7 @@
 #![tactic(auto)]
 
 mod error;
+mod places;
 mod replaying;
 
 pub use error::ReplayError;

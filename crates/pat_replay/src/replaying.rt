@@ -1,11 +1,16 @@
 // The steps of a history, entry after entry.
 ghost use Rattle.std.specs.Prelude.{◌≡◌, ◌<◌, [], length, map, option_map, IsTrue, IsFalse};
+ghost use Rattle.pat_semantics_spec.specs.Orders.{IsOrdered};
 ghost use Rattle.pat_semantics_spec.specs.Runs.{entry_steps};
+ghost use Rattle.pat_semantics_spec.specs.Steps.{step as after_step};
 ghost use Rattle.pat_core.specs.Views.{program_view};
-ghost use Rattle.pat_reduce.specs.Views.{act_view, config_view, entry_view};
+ghost use Rattle.pat_reduce_values.specs.Results.{StepGives};
+ghost use Rattle.pat_reduce.specs.declared.history.Act.TheVariants.{New, Send, Spawn};
+ghost use Rattle.pat_reduce.specs.Views.{act_view, config_view, entry_view, step_view};
 ghost use Rattle.pat_replay.specs.Replays.{HasTaken, ReplayGives, EntryGives, LocalsGive, SharedGives};
 
 use crate::error::ReplayError;
+use crate::places::place_among;
 use pat_reduce::{Act, Config, Entry, Step, StepError};
 use pat_reduce_values::Executable;
 use std::alloc::Global;
@@ -34,7 +39,8 @@ fn take_entry(
     config: &mut Config,
     entry: Entry,
 ) -> Result<(), StepError>
-    requires { HasTaken (config_view config.old) 4294967294 }
+    requires taken { HasTaken (config_view config.old) 4294967294 }
+    requires ordered { IsOrdered (config_view config.old) }
     ensures { EntryGives (program_view code.now.program) (config_view config.old) (entry_view entry) (config_view config.new) result }
 {
     if !has_step(&entry) {
@@ -61,6 +67,7 @@ fn take_locals(
     thread: u32,
     count: u32,
 ) -> Result<(), StepError>
+    requires { IsOrdered (config_view config.old) }
     ensures { LocalsGive (program_view code.now.program) (config_view config.old) thread count (config_view config.new) result }
 {
     let step = Step {
@@ -68,7 +75,7 @@ fn take_locals(
         act: Act::Local,
     };
     for taken in 0..count {
-        match config.step(alloc, code, &step) {
+        match take_step(alloc, code, config, &step) {
             Ok(()) => {}
             Err(error) => return Err(error),
         }
@@ -84,11 +91,31 @@ fn take_shared(
     thread: u32,
     shared: Option<Act>,
 ) -> Result<(), StepError>
-    requires { HasTaken (config_view config.old) 4294967294 }
+    requires taken { HasTaken (config_view config.old) 4294967294 }
+    requires ordered { IsOrdered (config_view config.old) }
     ensures { SharedGives (program_view code.now.program) (config_view config.old) thread (option_map act_view shared) (config_view config.new) result }
 {
     match shared {
-        Some(act) => config.step(alloc, code, &Step { thread, act }),
+        Some(act) => take_step(alloc, code, config, &Step { thread, act }),
         None => Ok(()),
+    }
+}
+
+// A step of a configuration in order.
+fn take_step(
+    alloc: Global,
+    code: &Executable,
+    config: &mut Config,
+    step: &Step,
+) -> Result<(), StepError>
+    requires ordered { IsOrdered (config_view config.old) }
+    requires mailboxes { step.now.act ≡ New → config.old.next_mailbox < 4294967295 }
+    requires messages { step.now.act ≡ Send → config.old.next_message < 4294967295 }
+    requires threads { step.now.act ≡ Spawn → config.old.next_thread < 4294967295 }
+    ensures { StepGives config_view (after_step (program_view code.now.program) (config_view config.old) (step_view step.now)) config.old config.new result }
+{
+    match place_among(config.threads.as_slice(), step.thread) {
+        Some(place) => config.step_at_place(alloc, code, step, place),
+        None => Err(StepError::Disabled),
     }
 }

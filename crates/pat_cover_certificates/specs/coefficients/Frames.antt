@@ -5,6 +5,7 @@ use Rattle.pat_bags.specs.declared.Bag.{Bag}
 use Rattle.pat_bags.specs.Views.{word_of}
 use Rattle.pat_inclusion_spec.specs.Counts.{most_tags, scaled}
 use Rattle.pat_inclusion_spec.specs.Covers.{makes}
+use Rattle.pat_cover_certificates.specs.declared.coefficients.failed.Note.{Note}
 use Rattle.pat_cover_certificates.specs.declared.coefficients.frames.Frame.{Frame}
 use Rattle.pat_cover_certificates.specs.coefficients.Numbers.{NoNumbers}
 
@@ -42,9 +43,9 @@ TakesOne f p None = (p ≡ no_word) ⊎ (((t : ℕ) → t < most_tags → p t �
 
 -- ---- what came to nothing
 
--- the bag at each place is one that the periods from there on don't make
-abbrev pub CameToNothing : ℕ → List Word → List (Option Bag) → Type 0
-CameToNothing n ps failed = (i : ℕ) (v : Bag) → slice_get failed i ≡ Some (Some v) → NoNumbers n (drop i ps) (word_of v)
+-- each note is right: the periods from its place on don't make what is left
+abbrev pub CameToNothing : ℕ → List Word → List (Option Note) → Type 0
+CameToNothing n ps failed = (i : ℕ) (note : Note) → slice_get failed i ≡ Some (Some note) → NoNumbers n (drop note.place ps) (word_of note.left)
 
 -- ---- how much is still to be searched, at most
 

@@ -6,6 +6,7 @@ ghost use Rattle.pat_linear.specs.Views.{words_of};
 ghost use Rattle.pat_cover_certificates.specs.coefficients.Numbers.{NoNumbers};
 ghost use Rattle.pat_cover_certificates.specs.coefficients.Frames.{numbers_of as numbers_of_frames, left_of, to_come, Stands, TakesOne, CameToNothing, Advances};
 
+use crate::coefficients::failed::{Note, note_failed};
 use crate::coefficients::tags::tags_are_few;
 use pat_bags::Bag;
 use pat_sequences::Sequence;
@@ -44,23 +45,22 @@ pub fn advance(
     periods: &[Bag],
     word: &Bag,
     frames: &mut Sequence<Frame>,
-    failed: &mut Sequence<Option<Bag>>,
+    failed: &mut Sequence<Option<Note>>,
 ) -> Result<Option<Bag>, AllocError>
     requires stands { Stands most_tags (words_of periods.now) (word_of word.now) frames.old }
     requires none { NoNumbers most_tags (to_come (words_of periods.now) frames.old) (left_of (word_of word.now) frames.old) }
     requires failed { CameToNothing most_tags (words_of periods.now) failed.old }
-    requires room { length failed.old ≡ length periods.now }
+    requires room { 0 < length failed.old }
     requires fit { (t : ℕ) → word_of word.now t < 2 ^ 32 }
     ensures next { IfOk result (λ r. Advances most_tags (words_of periods.now) (word_of word.now) frames.old frames.new r) }
     ensures failed { CameToNothing most_tags (words_of periods.now) failed.new }
-    ensures room { length failed.new ≡ length periods.now }
 {
     while let Some(frame) = frames.pop() {
         let place = frames.len();
         let period = &periods[place];
         match with_one_more(&frame, period) {
             None => {
-                failed.replace(place, Some(frame.before));
+                note_failed(failed, place, &frame.before);
             }
             Some(next) => {
                 frames.push(next)?;

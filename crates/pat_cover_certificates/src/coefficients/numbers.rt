@@ -6,7 +6,7 @@ ghost use Rattle.pat_linear.specs.Views.{words_of};
 ghost use Rattle.pat_cover_certificates.specs.coefficients.Numbers.{FindsNumbers, NoNumbers};
 ghost use Rattle.pat_cover_certificates.specs.coefficients.Frames.{CameToNothing};
 
-use crate::coefficients::failed::{has_failed, make_room};
+use crate::coefficients::failed::{Note, has_failed, make_room};
 use crate::coefficients::frames::{Frame, advance, numbers_of};
 use crate::coefficients::single::single_number;
 use crate::coefficients::tags::{counts_fit, tags_occur};
@@ -42,12 +42,13 @@ fn search_all(
     frames.items.reserve_exact(periods.len())?;
     let mut failed = Sequence::new(alloc);
     let mut left = *word;
+    let mut turns = 0;
     loop {
         if comes_to_nothing(periods, frames.len(), failed.as_slice(), &left) {
             if frames.is_empty() {
                 return Ok(None);
             }
-            make_room(&mut failed, periods)?;
+            turns = make_room(&mut failed, turns)?;
             match advance(periods, word, &mut frames, &mut failed)? {
                 None => return Ok(None),
                 Some(next) => left = next,
@@ -67,7 +68,7 @@ fn search_all(
 
 /// Whether it is known that the periods from the place on don't make what is left: a tag of it is none of theirs, or it came to
 /// nothing before.
-fn comes_to_nothing(periods: &[Bag], place: usize, failed: &[Option<Bag>], left: &Bag) -> bool
+fn comes_to_nothing(periods: &[Bag], place: usize, failed: &[Option<Note>], left: &Bag) -> bool
     requires place { place ≤ length periods.now }
     requires failed { CameToNothing most_tags (words_of periods.now) failed.now }
     ensures nothing { IsTrue result → NoNumbers most_tags (words_of (drop place periods.now)) (word_of left.now) }

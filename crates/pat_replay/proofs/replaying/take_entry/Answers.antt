@@ -1,10 +1,17 @@
+use Rattle.std.specs.Prelude.{replicate}
+use Rattle.pat_semantics_laws.proofs.Ordered.{run_keeps_order}
 use Rattle.pat_core.specs.Views.{program_view}
+use Rattle.pat_machine_spec.specs.Commits.{local_of}
 use Rattle.pat_reduce.specs.Views.{config_view, entry_view}
 use Rattle.pat_replay.proofs.Entries.{locals_taken, shared_last, locals_stop}
 use Rattle.pat_replay.proofs.replaying.take_entry.Goals as goal
 
-pub take_shared-requires : goal.take_shared-requires
-take_shared-requires c = locals_taken (program_view c.args.code.now.program) (config_view c.args.config.now) (config_view c.take_locals.new.config) c.args.entry.thread c.args.entry.local 4294967294 c.in-Ok.ensures c.requires
+pub take_shared-requires-clause-taken : goal.take_shared-requires-clause-taken
+take_shared-requires-clause-taken c = locals_taken (program_view c.args.code.now.program) (config_view c.args.config.now) (config_view c.take_locals.new.config) c.args.entry.thread c.args.entry.local 4294967294 c.in-Ok.ensures c.requires.taken
+
+pub take_shared-requires-clause-ordered : goal.take_shared-requires-clause-ordered
+take_shared-requires-clause-ordered c =
+    run_keeps_order (program_view c.args.code.now.program) (replicate c.args.entry.local (local_of c.args.entry.thread)) (config_view c.args.config.now) (config_view c.take_locals.new.config) c.requires.ordered c.in-Ok.ensures
 
 pub returns-in-Ok : goal.returns-in-Ok
 returns-in-Ok c =

@@ -1,12 +1,12 @@
 use Rattle.std.proofs.Common.{arith, Some, get_or, append-nil, ◌≡◌, ◌++◌, ◌∷◌, ◌<◌, [], length, length-append, ap, ◌∙◌, sym, subst}
 use Rattle.std.specs.Prelude.{slice_get}
-use Rattle.std.proofs.lemmas.List.{length-map, length-set}
+use Rattle.std.proofs.lemmas.List.{length-map}
 use Rattle.pat_bags.specs.Views.{word_of}
 use Rattle.pat_inclusion_spec.specs.Counts.{most_tags}
 use Rattle.pat_linear.specs.Views.{words_of}
 use Rattle.pat_cover_certificates.specs.coefficients.Numbers.{NoNumbers}
-use Rattle.pat_cover_certificates.specs.coefficients.Frames.{left_of, to_come, Stands, CameToNothing, lists_left}
-use Rattle.pat_cover_certificates.proofs.Standing.{front_stands, last_within, next_stands, ends_here, left_last, period_at, nowhere, seam, stands_fits, one_came, last_before}
+use Rattle.pat_cover_certificates.specs.coefficients.Frames.{left_of, to_come, Stands, lists_left}
+use Rattle.pat_cover_certificates.proofs.Standing.{front_stands, last_within, next_stands, ends_here, left_last, period_at, nowhere, seam, stands_fits, none_from, last_before}
 use Rattle.pat_cover_certificates.proofs.Ending.{next_less}
 use Rattle.pat_cover_certificates.proofs.coefficients.frames.advance.Goals as goal
 
@@ -40,9 +40,9 @@ loop-frame-preserved c =
       stands = front_stands most_tags ps w c.pop.new.self c.in-Some.frame stands;
       none = ended;
       few = omega arith;
-      failed = subst (CameToNothing most_tags ps) (sym c.replace.ensures.after) (one_came most_tags c.args.periods.now c.pop.new.self w c.loop-frame.failed c.len-place.result c.in-Some.frame.before same
-          (last_before most_tags ps w c.pop.new.self c.in-Some.frame stands) ended c.loop-frame.invariant.failed);
-      room = ap length c.replace.ensures.after ∙ length-set c.loop-frame.failed c.len-place.result (Some c.in-Some.frame.before) ∙ c.loop-frame.invariant.room;
+      failed = c.note_failed.ensures.came most_tags ps c.loop-frame.invariant.failed
+          (none_from most_tags c.args.periods.now c.pop.new.self w (word_of c.in-Some.frame.before) c.len-place.result same (last_before most_tags ps w c.pop.new.self c.in-Some.frame stands) ended);
+      room = subst (λ k. 0 < k) (sym c.note_failed.ensures.room) c.loop-frame.invariant.room;
       front = (c.in-Some.frame ∷ front.0, front.1 ∙ ap (λ fs. fs ++ front.0) whole ∙ seam c.pop.new.self c.in-Some.frame front.0);
     }
 

@@ -1,4 +1,4 @@
-use Rattle.std.proofs.Common.{◌≡◌, ◌++◌, ◌≤◌, List, length}
+use Rattle.std.proofs.Common.{◌≡◌, ◌++◌, ◌<◌, ◌≤◌, List, length}
 use Rattle.pat_bags.specs.Views.{word_of}
 use Rattle.pat_inclusion_spec.specs.Counts.{most_tags}
 use Rattle.pat_linear.specs.Views.{words_of}
@@ -13,7 +13,7 @@ invariant-loop-frame l = record {
   none : NoNumbers most_tags (to_come (words_of l.periods) l.frames) (left_of (word_of l.word) l.frames);
   few : length l.frames ≤ length l.periods;
   failed : CameToNothing most_tags (words_of l.periods) l.failed;
-  room : length l.failed ≡ length l.periods;
+  room : 0 < length l.failed;
   front : (gone : List Frame) × (l.initial.frames ≡ l.frames ++ gone);
 }
 

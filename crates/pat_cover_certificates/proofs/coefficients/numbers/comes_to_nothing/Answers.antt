@@ -3,9 +3,9 @@ use Rattle.std.proofs.Math.Seq.{drop-length}
 use Rattle.pat_bags.specs.Views.{word_of}
 use Rattle.pat_inclusion_spec.specs.Counts.{most_tags}
 use Rattle.pat_linear.specs.Views.{words_of}
-use Rattle.pat_cover_certificates.specs.coefficients.Numbers.{tags_occur}
+use Rattle.pat_cover_certificates.specs.coefficients.Numbers.{NoNumbers, tags_occur}
 use Rattle.pat_cover_certificates.proofs.Making.{none_made, nothing_left}
-use Rattle.pat_cover_certificates.proofs.Standing.{test_says, came_again}
+use Rattle.pat_cover_certificates.proofs.Standing.{test_says, came_dropped}
 use Rattle.pat_cover_certificates.proofs.coefficients.numbers.comes_to_nothing.Goals as goal
 
 pub returns-then-not-tags_occur-clause-nothing : goal.returns-then-not-tags_occur-clause-nothing
@@ -15,7 +15,8 @@ returns-then-not-tags_occur-clause-nothing c = λ _.
 
 pub returns-clause-nothing : goal.returns-clause-nothing
 returns-clause-nothing c = λ h.
-    came_again most_tags c.args.periods.now c.args.failed.now c.args.place (word_of c.args.left.now) c.requires.failed (c.has_failed.ensures h)
+    subst (λ l. NoNumbers most_tags l (word_of c.args.left.now)) (came_dropped c.args.periods.now c.args.place)
+    (c.has_failed.ensures h most_tags (words_of c.args.periods.now) c.requires.failed)
 
 pub returns-clause-end : goal.returns-clause-end
 returns-clause-end c = λ h e.

@@ -31,8 +31,7 @@ loop-left-preserved-in-Some c =
     let new = subst (Advances most_tags ps w c.loop-left.frames c.advance.new.frames) c.in-Some.is c.in_ok-advance.ensures.next in
     let fits = stands_fits most_tags ps w c.advance.new.frames new.0 in
     let many = length-map c.args.periods.now word_of in
-    let room = c.advance.ensures.room in
-    record { stands = new.0; few = omega arith; failed = c.advance.ensures.failed; room = omega arith; left = new.1 }
+    record { stands = new.0; few = omega arith; failed = c.advance.ensures.failed; left = new.1 }
 
 pub returns-then-len-periods : goal.returns-then-len-periods
 returns-then-len-periods c =
@@ -69,7 +68,7 @@ loop-left-preserved c =
     let few = c.loop-left.invariant.few in
     let stands = subst (Stands most_tags ps w) (sym c.in_ok-push.ensures.ok) (push_stands most_tags ps w fs new c.loop-left.invariant.stands (omega arith) refl c.loop-left.invariant.left c.loop-left.invariant.left) in
     let fits = stands_fits most_tags ps w c.push.new.self stands in
-    record { stands = stands; few = omega arith; failed = c.loop-left.invariant.failed; room = c.loop-left.invariant.room; left = sym (ap (left_of w) c.in_ok-push.ensures.ok ∙ left_last w fs new) }
+    record { stands = stands; few = omega arith; failed = c.loop-left.invariant.failed; left = sym (ap (left_of w) c.in_ok-push.ensures.ok ∙ left_last w fs new) }
 
 pub loop-left-init : goal.loop-left-init
 loop-left-init c =
@@ -80,10 +79,12 @@ loop-left-init c =
       stands = subst (Stands most_tags ps w) (sym none) tt;
       few = subst (λ l. length l ≤ length c.args.periods.now) (sym none) (omega arith);
       failed = subst (CameToNothing most_tags ps) (sym c.new-failed.ensures) (none_came most_tags ps);
-      room = subst (λ l. length l ≤ length c.args.periods.now) (sym c.new-failed.ensures) (omega arith);
       left = subst (λ l. word_of c.args.word.now ≡ left_of w l) (sym none) refl;
     }
 
 pub comes_to_nothing-requires-clause-failed : goal.comes_to_nothing-requires-clause-failed
 comes_to_nothing-requires-clause-failed c =
     subst (CameToNothing most_tags (words_of c.args.periods.now)) (sym c.as_slice.ensures) c.loop-left.invariant.failed
+
+pub advance-requires-clause-failed : goal.advance-requires-clause-failed
+advance-requires-clause-failed c = c.in_ok-turns.ensures.came most_tags (words_of c.args.periods.now) c.loop-left.invariant.failed

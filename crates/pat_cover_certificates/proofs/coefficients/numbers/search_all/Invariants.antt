@@ -10,7 +10,6 @@ invariant-loop-left l = record {
   stands : Stands most_tags (words_of l.periods) (word_of l.word) l.frames;
   few : length l.frames ≤ length l.periods;
   failed : CameToNothing most_tags (words_of l.periods) l.failed;
-  room : length l.failed ≤ length l.periods;
   left : word_of l.left ≡ left_of (word_of l.word) l.frames;
 }
 
