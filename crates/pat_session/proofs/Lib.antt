@@ -5,3 +5,5 @@ mod Allows
 mod Asking
 mod Calls
 mod NoCommands
+mod Suited
+mod Promised

@@ -3,3 +3,5 @@ pub mod Allowed
 pub mod Answers
 pub mod Asking
 pub mod Calls
+pub mod Complete
+pub mod Promises

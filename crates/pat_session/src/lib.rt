@@ -2,9 +2,11 @@
 #![tactic(auto)]
 
 mod commands;
+mod laws;
 mod output;
 mod session;
 mod words;
 
+pub use laws::complete_law;
 pub use session::{pat, pat_alone};
 pub use words::Command;
