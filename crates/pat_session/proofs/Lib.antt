@@ -7,3 +7,4 @@ mod Calls
 mod NoCommands
 mod Suited
 mod Promised
+mod Processes

@@ -5,3 +5,4 @@ pub mod Asking
 pub mod Calls
 pub mod Complete
 pub mod Promises
+pub mod Processes
