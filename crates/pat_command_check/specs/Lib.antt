@@ -1,2 +1,3 @@
 pub use Rattle.pat_typecheck.specs.Inputs
 pub mod Allowed
+pub mod Typable

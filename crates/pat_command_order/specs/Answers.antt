@@ -8,6 +8,10 @@ use Rattle.pat_front.specs.declared.verdict.Verdict.{Verdict}
 use Rattle.pat_replay_input.specs.Histories.{Replays}
 use Rattle.pat_command_order.specs.Allowed.{IsOrdered, IsOrderRefusal}
 
+-- few enough entries to be brought into order
+abbrev pub AreFew : List Entry → Type 0
+AreFew es = length es ≤ most_entries
+
 -- what is brought into order is one history of one program, which leads to one configuration
 pub record IsOfOneHistory (bytes out other : List ℕ) (a : IsOrdered bytes out) (b : IsOrdered bytes other) : Type 0 where
   pub program : a.program ≡ b.program
@@ -19,5 +23,5 @@ pub record IsOfOneHistory (bytes out other : List ℕ) (a : IsOrdered bytes out)
 pub record OneAnswer (bytes : List ℕ) : Type 0 where
   pub one_history : (out other : List ℕ) (a : IsOrdered bytes out) (b : IsOrdered bytes other) → IsOfOneHistory bytes out other a b
   pub not_both : (out : List ℕ) (v : Verdict) → IsOrdered bytes out → IsOrderRefusal bytes v → ⊥
-  pub not_refused : (p : Program) (es : List Entry) (c : Config) (v : Verdict) → Replays bytes p es c → length es ≤ most_entries → IsOrderRefusal bytes v → ⊥
+  pub not_refused : (p : Program) (es : List Entry) (c : Config) (v : Verdict) → Replays bytes p es c → AreFew es → IsOrderRefusal bytes v → ⊥
   pub one_refusal : (v w : Verdict) → IsOrderRefusal bytes v → IsOrderRefusal bytes w → v ≡ w

@@ -15,8 +15,8 @@ use Rattle.pat_input_split.specs.program_with_text.MarkedPrograms.{HasProgram, I
 use Rattle.pat_input_split.specs.program_with_text.OneProgram.{OneProgram}
 use Rattle.pat_front.specs.declared.verdict.Verdict.{Verdict}
 use Rattle.pat_front.specs.declared.verdict.Verdict.TheVariants as verdict
-use Rattle.pat_command_verify.specs.Allowed.{HasValid, RefusesText, Unaccepted}
-use Rattle.pat_command_verify.specs.Answers.{OneAnswer}
+use Rattle.pat_command_verify.specs.Allowed.{IsVerified, IsVerifyRefusal, RefusesText, Unaccepted}
+use Rattle.pat_command_verify.specs.Answers.{HasValidDerivation, OneAnswer}
 use Rattle.pat_command_verify.proofs.ReadingOnce.{read_or_not, one_unread}
 
 rule_back : validity.Rule → Rule
@@ -51,20 +51,20 @@ same_rejection m n r s e =
 
 module _ (none_bad : ValidIsNoneBad) (one_reading : ReadingIsOne) (bytes : List ℕ) (program : OneProgram marker bytes) where
   -- a text behind a program is accepted or not, in one way
-  not_accepted : (p : Program) (from : ℕ) (text : List ℕ) (v : Verdict) → HasValid p text → Unaccepted p from text v → ⊥
-  not_accepted p from text (verdict.BadText o) a (offset, at, unread) = read_or_not p text a.derivation offset a.read unread
-  not_accepted p from text (verdict.Rejected n r) a (d, read, bad) =
-      let same : a.derivation ≡ d = one_reading p text a.derivation d a.read read in
-      let none : first_bad p d ≡ None = subst (λ e. first_bad p e ≡ None) same ((none_bad p a.derivation).1 a.valid) in
+  not_accepted : (p : Program) (from : ℕ) (text : List ℕ) (v : Verdict) (d : Derivation) → ReadsAs p text d → IsValid p d → Unaccepted p from text v → ⊥
+  not_accepted p from text (verdict.BadText o) d read valid (offset, at, unread) = read_or_not p text d offset read unread
+  not_accepted p from text (verdict.Rejected n r) d read valid (e, other, bad) =
+      let same : d ≡ e = one_reading p text d e read other in
+      let none : first_bad p e ≡ None = subst (λ c. first_bad p c ≡ None) same ((none_bad p d).1 valid) in
       let clash = sym none ∙ bad in cc
-  not_accepted p from text verdict.TooLong a u = absurd u
-  not_accepted p from text (verdict.Syntax o) a u = absurd u
-  not_accepted p from text (verdict.NumberTooWide o) a u = absurd u
-  not_accepted p from text (verdict.TooDeep o) a u = absurd u
-  not_accepted p from text (verdict.Resolve k s) a u = absurd u
-  not_accepted p from text (verdict.RefusedAt i) a u = absurd u
-  not_accepted p from text verdict.TooManyEntries a u = absurd u
-  not_accepted p from text (verdict.Unaccepted reason) a u = absurd u
+  not_accepted p from text verdict.TooLong d read valid u = absurd u
+  not_accepted p from text (verdict.Syntax o) d read valid u = absurd u
+  not_accepted p from text (verdict.NumberTooWide o) d read valid u = absurd u
+  not_accepted p from text (verdict.TooDeep o) d read valid u = absurd u
+  not_accepted p from text (verdict.Resolve k s) d read valid u = absurd u
+  not_accepted p from text (verdict.RefusedAt i) d read valid u = absurd u
+  not_accepted p from text verdict.TooManyEntries d read valid u = absurd u
+  not_accepted p from text (verdict.Unaccepted reason) d read valid u = absurd u
 
   -- what isn't accepted is a line that isn't read, or a derivation that is bad
   data Why (p : Program) (from : ℕ) (text : List ℕ) : Verdict → Type 0 where
@@ -105,15 +105,31 @@ module _ (none_bad : ValidIsNoneBad) (one_reading : ReadingIsOne) (bytes : List 
       (why a.program (length a.front) a.text v a.unaccepted)
       (why a.program (length a.front) a.text w (moved b.front a.front b.text a.text b.program a.program w same b.unaccepted))
 
+  -- a valid derivation is never refused
+  accepted_once : (v : Verdict) → HasValidDerivation bytes → IsVerifyRefusal bytes v → ⊥
+  accepted_once v a r =
+      ⊎_elim
+      (λ (m : IsMarkedRefusal marker bytes v). program.not_both a.front a.text a.program v a.has m)
+      (λ (t : RefusesText bytes v).
+      let same = program.same t.front a.front t.text a.text t.program a.program t.has a.has in
+      not_accepted a.program (length a.front) a.text v a.derivation a.read a.valid (moved t.front a.front t.text a.text t.program a.program v same t.unaccepted))
+      r
+
+  has_derivation : IsVerified bytes → HasValidDerivation bytes
+  has_derivation a = record {
+    front = a.front;
+    text = a.text;
+    program = a.program;
+    has = a.has;
+    derivation = a.valid.derivation;
+    read = a.valid.read;
+    valid = a.valid.valid;
+  }
+
   pub one_answer : OneAnswer bytes
   one_answer = record {
-    not_both = λ v a r.
-        ⊎_elim
-        (λ (m : IsMarkedRefusal marker bytes v). program.not_both a.front a.text a.program v a.has m)
-        (λ (t : RefusesText bytes v).
-        let same = program.same t.front a.front t.text a.text t.program a.program t.has a.has in
-        not_accepted a.program (length a.front) a.text v a.valid (moved t.front a.front t.text a.text t.program a.program v same t.unaccepted))
-        r;
+    not_both = λ v a r. accepted_once v (has_derivation a) r;
+    not_refused = accepted_once;
     one_refusal = λ v w x y.
         ⊎_elim
         (λ (m : IsMarkedRefusal marker bytes v).

@@ -14,7 +14,7 @@ use Rattle.pat_session.specs.declared.words.Command.TheVariants.{Help}
 use Rattle.pat_session.specs.Ports.{SourceState, SinkState, IsCutShort, Writes}
 use Rattle.pat_session.specs.Allowed.{IsCommand, HasCommand, HasInput, AsksInput, Takes, AllowedTo, limit_of, usage_line}
 use Rattle.pat_session.specs.Answers.{IsHelped}
-use Rattle.pat_session.specs.Calls.{Call, ReadsAll, BreaksOffTooLong, EndsOrIsTooLong}
+use Rattle.pat_session.specs.Calls.{Call, ReadsAll, BreaksOffTooLong, EndsOrIsTooLong, SaysUsage}
 use Rattle.pat_session.proofs.OneCommand.{asks_of}
 use Rattle.pat_session.proofs.Allows.{input_status, not_a_read_fault, not_a_write_fault, reads_small, says_too_long, of_command, answered_command, answered_usage, begun_command, begun_usage}
 
@@ -118,6 +118,14 @@ call_usage words source old new result none wrote = record {
   end = λ asks all. let usage : ReadsAll Usage = reads_as words source source old new usage_line Usage result wrote all in absurd usage;
   end_at_fault = λ asks e. absurd (none (asks.0, asks.1));
 }
+
+-- and it says that the words are no command
+pub says_usage : (words : List (List ℕ)) (old new : SinkState) (text : List ℕ) (result : Status) → Writes old new text Usage result → SaysUsage words result
+says_usage words old new text result wrote = λ none.
+    ⊎_elim
+    (λ (w : (result ≡ Usage) × Appends old.taken new.taken text). inl w.0)
+    (λ (w : (result ≡ WriteFault) × IsCutShort old.taken new.taken text). inr w.0)
+    wrote.written
 
 -- help
 pub call_help : (words : List (List ℕ)) (source : SourceState) (old new : SinkState) (result : Status) → Writes old new usage_line Ok result → IsCommand Help words → Call words source source old new result

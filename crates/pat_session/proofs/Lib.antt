@@ -5,3 +5,6 @@ mod Allows
 mod Asking
 mod Calls
 mod NoCommands
+mod Suited
+mod Promised
+mod Processes

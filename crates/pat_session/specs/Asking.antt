@@ -1,11 +1,15 @@
 -- What there is to answer, once a command's input is read.
-use Rattle.std.specs.Prelude.{◌≡◌, ◌≤◌, ℕ, List, []}
+use Rattle.std.specs.Prelude.{◌≡◌, ◌≤◌, ℕ, List, [], length}
+use Rattle.std.specs.declared.option.Option.{Option}
+use Rattle.pat_ports.specs.Ends.{EndsThere}
+use Rattle.pat_ports.specs.declared.reach.Reach.{Reach}
 use Rattle.pat_run.specs.options.Options.{IsWithin}
-use Rattle.pat_input.specs.Inputs.{IsRead}
+use Rattle.pat_input.specs.Inputs.{IsRead, IsInputWithin}
 use Rattle.pat_session.specs.declared.commands.Asked.{Asked}
 use Rattle.pat_session.specs.declared.commands.Asked.TheVariants as asked
 use Rattle.pat_session.specs.declared.words.Command.{Command}
 use Rattle.pat_session.specs.declared.words.Command.TheVariants.{Check, Derive, Print, Run, Replay, Order, Verify, Load, Help}
+use Rattle.pat_session.specs.Allowed.{HasInput, Takes, limit_of}
 
 -- it is what the command asks of these bytes
 abbrev pub Asks : Command → List ℕ → Asked → Type 0
@@ -22,6 +26,16 @@ Asks c bytes a = ⊥
 -- it is what some command asks of some bytes
 abbrev pub IsAsked : Asked → Type 0
 IsAsked a = (c : Command) × (bytes : List ℕ) × Asks c bytes a
+
+-- what was read for the command is asked, and the source was read to its end, unless there are too many bytes
+abbrev pub GivesAsked : Command → (had left : Option (List ℕ)) → (from to : Option Reach) → Asked → Type 0
+GivesAsked command had left from to asked =
+    (bytes : List ℕ) × Takes command had left bytes × Asks command bytes asked × (HasInput command → length bytes ≤ limit_of command → EndsThere from to)
+
+-- so where it has an input
+abbrev pub GivesAskedInput : Command → (had left : Option (List ℕ)) → (from to : Option Reach) → Asked → Type 0
+GivesAskedInput command had left from to asked =
+    (bytes : List ℕ) × IsInputWithin (limit_of command) had left bytes × Asks command bytes asked × (length bytes ≤ limit_of command → EndsThere from to)
 
 -- whether there is anything to find out for the command
 abbrev pub IsAsking : Command → Type 0

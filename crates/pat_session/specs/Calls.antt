@@ -6,8 +6,9 @@ use Rattle.pat_front.specs.declared.verdict.Verdict.TheVariants.{TooLong}
 use Rattle.pat_front.specs.declared.exit_answers.status.Status.{Status}
 use Rattle.pat_front.specs.declared.exit_answers.status.Status.TheVariants.{Ok, Refused, Usage, ReadFault, WriteFault, NoMemory, Budget, Waiting, Full}
 use Rattle.pat_ports.specs.declared.reach.Reach.{Reach}
-use Rattle.pat_session.specs.Ports.{SourceState, SinkState, Answered, IsCutShort}
-use Rattle.pat_session.specs.Allowed.{AsksInput, Allowed}
+use Rattle.pat_session.specs.declared.words.Command.{Command}
+use Rattle.pat_session.specs.Ports.{SourceState, SinkState, source_state, sink_state, Answered, IsCutShort}
+use Rattle.pat_session.specs.Allowed.{IsCommand, HasCommand, AsksInput, Allowed}
 use Rattle.pat_session.specs.Answers.{Answers, Begins}
 
 -- an answer for which the whole input was read
@@ -43,3 +44,22 @@ pub record Call (words : List (List ℕ)) (had left : SourceState) (old new : Si
   pub one_end : EndsOnce had.reach left.reach
   pub end : AsksInput words → ReadsAll status → EndsThere had.reach left.reach
   pub end_at_fault : AsksInput words → status ≡ WriteFault → EndsOrIsTooLong words had.reach left.reach old.taken new.taken
+
+-- so for a source and a sink that tell this
+abbrev pub CallOf : {S K : Type 0} → (S → Option (List ℕ)) → (S → ℕ) → (S → Option Reach) → (K → Option (List ℕ)) → (K → Option (List ℕ)) → (K → ℕ) → List (List ℕ) → S → S → K → K → Status → Type 0
+CallOf rest read_faults reach taken handed write_faults words source_old source_new sink_old sink_new status =
+    Call words
+    (source_state rest read_faults reach source_old)
+    (source_state rest read_faults reach source_new)
+    (sink_state taken handed write_faults sink_old)
+    (sink_state taken handed write_faults sink_new)
+    status
+
+-- whichever words ask for the command
+abbrev pub ObeysOf : {S K : Type 0} → (S → Option (List ℕ)) → (S → ℕ) → (S → Option Reach) → (K → Option (List ℕ)) → (K → Option (List ℕ)) → (K → ℕ) → Command → S → S → K → K → Status → Type 0
+ObeysOf rest read_faults reach taken handed write_faults command source_old source_new sink_old sink_new status =
+    (words : List (List ℕ)) → IsCommand command words → CallOf rest read_faults reach taken handed write_faults words source_old source_new sink_old sink_new status
+
+-- words that are no command are answered by usage, unless its line can't be written
+abbrev pub SaysUsage : List (List ℕ) → Status → Type 0
+SaysUsage words status = (HasCommand words → ⊥) → (status ≡ Usage) ⊎ (status ≡ WriteFault)

@@ -3,3 +3,6 @@ pub mod Allowed
 pub mod Answers
 pub mod Asking
 pub mod Calls
+pub mod Complete
+pub mod Promises
+pub mod Processes

@@ -1,10 +1,10 @@
 // What each command answers.
-ghost use Rattle.std.specs.Prelude.{◌≡◌, ◌≤◌, ℕ, List, IfOk, length};
-ghost use Rattle.pat_ports.specs.Ends.{EndsOnce, EndsThere};
-ghost use Rattle.pat_input.specs.Inputs.{IsRead, IsInputWithin, FaultsAfter};
+ghost use Rattle.std.specs.Prelude.{◌≡◌, ℕ, List, IfOk};
+ghost use Rattle.pat_ports.specs.Ends.{EndsOnce};
+ghost use Rattle.pat_input.specs.Inputs.{IsRead, FaultsAfter};
 ghost use Rattle.pat_command_run.specs.Runners.{IsRunner};
-ghost use Rattle.pat_session.specs.Allowed.{AllowedTo, HasBounds, HasInput, Takes, limit_of};
-ghost use Rattle.pat_session.specs.Asking.{Asks, IsAsked, IsAsking, IsOfProgram, IsOfTwoParts};
+ghost use Rattle.pat_session.specs.Allowed.{AllowedTo, HasBounds, HasInput};
+ghost use Rattle.pat_session.specs.Asking.{Asks, GivesAsked, GivesAskedInput, IsAsked, IsAsking, IsOfProgram, IsOfTwoParts};
 
 use crate::Command;
 use pat_command_check::answer_check;
@@ -64,7 +64,7 @@ pub fn read_asked<S: Source>(
 ) -> Result<Asked, InputError>
     requires bounds { HasBounds command }
     requires asking { IsAsking command }
-    ensures ok { IfOk result (λ asked. (bytes : List ℕ) × Takes command (S.rest source.old) (S.rest source.new) bytes × Asks command bytes asked × (HasInput command → length bytes ≤ limit_of command → EndsThere (S.reach source.old) (S.reach source.new))) }
+    ensures ok { IfOk result (GivesAsked command (S.rest source.old) (S.rest source.new) (S.reach source.old) (S.reach source.new)) }
     ensures faults { FaultsAfter (S.faults source.old) (S.faults source.new) result }
     ensures one_end { EndsOnce (S.reach source.old) (S.reach source.new) }
     ensures untouched { (HasInput command → ⊥) → source.new ≡ source.old }
@@ -87,7 +87,7 @@ fn read_program<S: Source>(
 ) -> Result<Asked, InputError>
     requires bounds { HasBounds command }
     requires program { IsOfProgram command }
-    ensures ok { IfOk result (λ asked. (bytes : List ℕ) × IsInputWithin (limit_of command) (S.rest source.old) (S.rest source.new) bytes × Asks command bytes asked × (length bytes ≤ limit_of command → EndsThere (S.reach source.old) (S.reach source.new))) }
+    ensures ok { IfOk result (GivesAskedInput command (S.rest source.old) (S.rest source.new) (S.reach source.old) (S.reach source.new)) }
     ensures faults { FaultsAfter (S.faults source.old) (S.faults source.new) result }
     ensures one_end { EndsOnce (S.reach source.old) (S.reach source.new) }
 {
@@ -116,7 +116,7 @@ fn read_two_parts<S: Source>(
     source: &mut S,
 ) -> Result<Asked, InputError>
     requires parts { IsOfTwoParts command }
-    ensures ok { IfOk result (λ asked. (bytes : List ℕ) × IsInputWithin (limit_of command) (S.rest source.old) (S.rest source.new) bytes × Asks command bytes asked × (length bytes ≤ limit_of command → EndsThere (S.reach source.old) (S.reach source.new))) }
+    ensures ok { IfOk result (GivesAskedInput command (S.rest source.old) (S.rest source.new) (S.reach source.old) (S.reach source.new)) }
     ensures faults { FaultsAfter (S.faults source.old) (S.faults source.new) result }
     ensures one_end { EndsOnce (S.reach source.old) (S.reach source.new) }
 {

@@ -52,31 +52,39 @@ fn ports(rt: HostRuntime) -> Result<(), Fail> {
     check(&rt, sink.write(b"c") == Err(Failed));
     check(&rt, sink.write(b"") == Ok(0));
     ports_in_memory_fail_where_told(&rt, rt.alloc())?;
-    a_broken_reader_fails(&rt, rt.alloc())?;
-    a_short_writer_is_flushed(&rt, rt.alloc())
+    for kind in [io::ErrorKind::Other, io::ErrorKind::Interrupted] {
+        a_broken_reader_fails(&rt, kind);
+        a_short_writer_is_flushed(&rt, rt.alloc(), kind)?;
+    }
+    Ok(())
 }
 
-// An error is no end, and what follows it is still read.
-fn a_broken_reader_fails(rt: &impl Abort, alloc: Global) -> Result<(), Fail> {
+// An error is no end, and what follows it is still read. One that interrupts is a fault too: it isn't tried again.
+fn a_broken_reader_fails(rt: &impl Abort, kind: io::ErrorKind) {
     let mut source = StdSource::new(BrokenReader {
         call: 0,
         fails_at: 2,
+        kind,
     });
     let mut buf = [0u8; 4];
     for want in [Ok(1), Err(Failed), Ok(1)] {
         check(rt, source.read(&mut buf) == want);
     }
-    Ok(())
 }
 
-// Each write is flushed, a part of a piece is answered as a part, and a flush that fails is a fault.
-fn a_short_writer_is_flushed(rt: &impl Abort, alloc: Global) -> Result<(), Fail> {
+// Each write is flushed, a part of a piece is answered as a part, and a flush that fails is a fault, one that is interrupted too.
+fn a_short_writer_is_flushed(
+    rt: &impl Abort,
+    alloc: Global,
+    kind: io::ErrorKind,
+) -> Result<(), Fail> {
     let mut taken = Vec::new(alloc);
     let mut flushes = 0;
     let mut sink = StdSink::new(ShortWriter {
         taken: &mut taken,
         flushes: &mut flushes,
         fails_at: 3,
+        kind,
     });
     for (piece, want) in [
         (b"abc", Ok(2)),

@@ -1,18 +1,19 @@
 // Readers and writers that fail, take a part, or count.
 use std::io::{Error, ErrorKind, Read, Result, Write};
 
-/// Gives one byte at a call, and fails at the call whose number it holds, counted from 1.
+/// Gives one byte at a call, and fails so at the call whose number it holds, counted from 1.
 #[derive(Drop)]
 pub struct BrokenReader {
     pub call: u64,
     pub fails_at: u64,
+    pub kind: ErrorKind,
 }
 
 impl Read for BrokenReader {
     fn read(&mut self, buf: &mut [u8]) -> Result<usize> {
         self.call = self.call.saturating_add(1);
         if self.call == self.fails_at {
-            return Err(Error::from(ErrorKind::Other));
+            return Err(Error::from(self.kind));
         }
         if buf.is_empty() {
             return Ok(0);
@@ -22,12 +23,13 @@ impl Read for BrokenReader {
     }
 }
 
-/// Takes at most two bytes of a piece. A flush whose number is `fails_at`, counted from 1, fails.
+/// Takes at most two bytes of a piece. A flush whose number is `fails_at`, counted from 1, fails so.
 #[derive(Drop)]
 pub struct ShortWriter<'a> {
     pub taken: &'a mut Vec<u8>,
     pub flushes: &'a mut u64,
     pub fails_at: u64,
+    pub kind: ErrorKind,
 }
 
 impl Write for ShortWriter<'_> {
@@ -40,7 +42,7 @@ impl Write for ShortWriter<'_> {
     fn flush(&mut self) -> Result<()> {
         *self.flushes = self.flushes.saturating_add(1);
         if *self.flushes == self.fails_at {
-            return Err(Error::from(ErrorKind::Other));
+            return Err(Error::from(self.kind));
         }
         Ok(())
     }
