@@ -26,7 +26,7 @@ use pat_patterns::Pattern;
 use std::alloc::{AllocError, Global};
 
 /// Whether the certificate shows the inclusion of patterns of the interface.
-fn cert_shows(
+pub fn cert_shows(
     alloc: Global,
     program: &Program,
     derivation: &Derivation,

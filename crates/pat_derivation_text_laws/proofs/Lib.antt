@@ -1,12 +1,12 @@
-mod CertsRead
+pub mod CertsRead
 mod DerivationSpelled
 mod Exact
 mod LinesRead
-mod LinesSpelled
-mod Naming
-mod Sound
-mod TypesRead
-mod TypesSpelled
+pub mod LinesSpelled
+pub mod Naming
+pub mod Sound
+pub mod TypesRead
+pub mod TypesSpelled
 mod Ways
 mod ReadAgain
 pub mod Running

@@ -29,7 +29,7 @@ before_is own bytes front e =
     let same : take n bytes ≡ front = cc in
     sym (take-append-drop n bytes) ∙ ap (λ l. take n bytes ++ l) ((bytes_eq-Decides (drop n bytes) own).0 k.0) ∙ ap (λ l. l ++ own) same
 
-joined_first : (c b : ℕ) (xs : List (List ℕ)) → (x : List ℕ) (more : List (List ℕ)) → xs ≡ x ∷ more → joined c (with_first b xs) ≡ b ∷ joined c xs
+pub joined_first : (c b : ℕ) (xs : List (List ℕ)) → (x : List ℕ) (more : List (List ℕ)) → xs ≡ x ∷ more → joined c (with_first b xs) ≡ b ∷ joined c xs
 joined_first c b [] x more e = absurd cc
 joined_first c b (y ∷ ys) x more e = refl
 

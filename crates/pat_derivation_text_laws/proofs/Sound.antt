@@ -34,7 +34,7 @@ use Rattle.pat_derivation_text_laws.proofs.TypesSpelled.{found_is}
 
 -- ---- lists
 
-each_sound : {A : Type 0} (read : List ℕ → Option A) (good : A → Bool) → ((x : List ℕ) (a : A) → read x ≡ Some a → good a ≡ true) → (xs : List (List ℕ)) (ys : List A) → read_each read xs ≡ Some ys → list_all good ys ≡ true
+pub each_sound : {A : Type 0} (read : List ℕ → Option A) (good : A → Bool) → ((x : List ℕ) (a : A) → read x ≡ Some a → good a ≡ true) → (xs : List (List ℕ)) (ys : List A) → read_each read xs ≡ Some ys → list_all good ys ≡ true
 each_sound read good h [] ys e = let same : [] ≡ ys = cc in subst (λ l. list_all good l ≡ true) same refl
 each_sound read good h (x ∷ xs) ys e =
     let m = made_next (λ a. option_map (λ more. a ∷ more) (read_each read xs)) (read x) ys e in
@@ -58,7 +58,7 @@ all_parts P Q (x ∷ xs) a =
     let n = all_parts P Q xs k.1 in
     (and_from (P x) (list_all P xs) m.0 n.0, and_from (Q x) (list_all Q xs) m.1 n.1)
 
-all_last : {A : Type 0} (P : A → Bool) (xs : List A) (y : A) → list_all P xs ≡ true → P y ≡ true → list_all P (xs ++ y ∷ []) ≡ true
+pub all_last : {A : Type 0} (P : A → Bool) (xs : List A) (y : A) → list_all P xs ≡ true → P y ≡ true → list_all P (xs ++ y ∷ []) ≡ true
 all_last P [] y a h = and_from (P y) true h refl
 all_last P (x ∷ xs) y a h =
     let k = and_parts (P x) (list_all P xs) a in
@@ -81,7 +81,7 @@ entry_sound bytes entry e =
     by set [] s a e = absurd cc
     by set (base ∷ periods) s a e = let same : record { set = set; base = base; periods = periods } ≡ entry = cc in subst (λ n. spells_entry n ≡ true) same (and_from (is_number set) (are_numbers base && list_all are_numbers periods) s a)
 
-cert_sound : (bytes : List ℕ) (cert : Cert) → read_cert bytes ≡ Some cert → spells_cert cert ≡ true
+pub cert_sound : (bytes : List ℕ) (cert : Cert) → read_cert bytes ≡ Some cert → spells_cert cert ≡ true
 cert_sound bytes cert e = by (behind (codes "c(") bytes) e
   where
     by : (o : Option (List ℕ)) → cert_by bytes o ≡ Some cert → spells_cert cert ≡ true
@@ -102,7 +102,7 @@ certs_sound (b ∷ bs) certs e =
 
 -- ---- types
 
-found_there : (x : List ℕ) (is : List Interface) (f : ℕ × List (List ℕ)) → found x is ≡ Some f → f.0 < length is
+pub found_there : (x : List ℕ) (is : List Interface) (f : ℕ × List (List ℕ)) → found x is ≡ Some f → f.0 < length is
 found_there x [] f e = absurd cc
 found_there x (i ∷ is) f e = by (bytes_eq i.name x) e (λ g h. found_there x is g h)
   where

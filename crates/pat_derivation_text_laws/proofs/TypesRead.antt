@@ -104,7 +104,7 @@ digits_inner w h = all_weaker (within 48 57) is_inner by w h
 
 -- ---- patterns
 
-name_inner : (names : List (List ℕ)) (k : ℕ) → list_all (list_all is_inner) names ≡ true → list_all is_inner (slice_index_or names k []) ≡ true
+pub name_inner : (names : List (List ℕ)) (k : ℕ) → list_all (list_all is_inner) names ≡ true → list_all is_inner (slice_index_or names k []) ≡ true
 name_inner [] k h = refl
 name_inner (x ∷ xs) zero h = (and_parts (list_all is_inner x) (list_all (list_all is_inner) xs) h).0
 name_inner (x ∷ xs) (suc k) h = name_inner xs k (and_parts (list_all is_inner x) (list_all (list_all is_inner) xs) h).1

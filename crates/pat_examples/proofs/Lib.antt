@@ -11,3 +11,4 @@ mod Starved
 mod Rows
 mod Solved
 mod Unsolved
+mod CheckpointRows

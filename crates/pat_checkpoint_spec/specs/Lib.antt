@@ -1,0 +1,13 @@
+pub use Rattle.pat_derivation_spec.specs.Derivations
+pub use Rattle.pat_derivation_spec.specs.Validity
+pub mod Checkpoints
+pub mod Numbers
+pub mod Kinds
+pub mod HoldingsInOrder
+pub mod Mailboxes
+pub mod Balances
+pub mod Checked
+pub mod Turns
+pub mod Resumed
+pub mod Written
+pub mod text

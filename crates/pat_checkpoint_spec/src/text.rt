@@ -1,0 +1,1 @@
+// The text of a checkpoint, how it is read, and the first line of it that isn't. Definitions, no code.
