@@ -6,6 +6,7 @@ ghost use Rattle.pat_turn.specs.Shown.{AreNew, IsOfAll};
 ghost use Rattle.pat_workers.specs.turns.Holds.{worker_of};
 ghost use Rattle.pat_board.specs.Seats.{IsSeatOf, AreSeatsOf, Looked, LeadsTo};
 ghost use Rattle.pat_board.specs.Advances.{AdvanceGives};
+ghost use Rattle.pat_limits.specs.Limits.{most_messages, most_steps, most_workers};
 
 use crate::advancing::advance;
 use crate::answers::{Advance, AdvanceRefused};
@@ -51,9 +52,9 @@ impl Board {
         messages: u32,
         seats: u32,
     ) -> Result<(Board, Vec<Seat>), AllocError>
-        requires steps { steps ≤ 1000000 }
-        requires messages { (0 < messages) × (messages ≤ 1000000) }
-        requires seats { (0 < seats) × (seats ≤ 64) }
+        requires steps { steps ≤ most_steps }
+        requires messages { (0 < messages) × (messages ≤ most_messages) }
+        requires seats { (0 < seats) × (seats ≤ most_workers) }
         ensures board { IfOk result (λ r. (r.0.name ≡ record { program = accepted; budget = steps; limit = messages }) × (r.0.passes ≡ seats)) }
         ensures new { IfOk result (λ r. AreNew r.0 r.1.items) }
         ensures seats { IfOk result (λ r. AreSeatsOf r.0 r.1.items) }

@@ -6,7 +6,7 @@ use Rattle.pat_semantics_spec.specs.Runs.{Entry}
 use Rattle.pat_reduce.specs.declared.history.Entry.{Entry as CodeEntry}
 use Rattle.pat_reduce.specs.Views.{entry_view}
 use Rattle.pat_causal_spec.specs.Independent.{spawned_by, sent_by, spawns, sends}
-use Rattle.pat_causal_spec.specs.Reordered.{most_entries, LeadsTo, IsReordered}
+use Rattle.pat_causal_spec.specs.Reordered.{LeadsTo, IsReordered}
 use Rattle.pat_causal_laws.specs.Moving.{SettledFrom, IsMoving}
 use Rattle.pat_causal_laws.proofs.Settled.{is_settled}
 use Rattle.pat_causal_laws.proofs.Moves.{begins, spawns_join, sends_join, spawns_few, sends_few, leads_spawns, leads_sends}
@@ -14,6 +14,7 @@ use Rattle.pat_causal.specs.declared.counts.Counts.{Counts as CodeCounts}
 use Rattle.pat_causal.specs.Counts.{AreCounts}
 use Rattle.pat_causal.specs.Leading.{LeadOn}
 use Rattle.pat_causal.proofs.Places.{length_seen}
+use Rattle.pat_limits.specs.Limits.{most_entries}
 
 -- the first i entries stand in order, the exchanges are noted, and it is known what they make
 pub record IsFront (entries ordered : List CodeEntry) (places : List ℕ) (i : ℕ) (counts : CodeCounts) : Type 0 where

@@ -6,13 +6,14 @@ use Rattle.pat_semantics_spec.specs.Runs.{Entry}
 use Rattle.pat_reduce.specs.declared.history.Entry.{Entry as CodeEntry}
 use Rattle.pat_reduce.specs.Views.{entry_view}
 use Rattle.pat_causal_spec.specs.Independent.{spawned_by, sent_by, independent_at, is_greater, is_out_of_order}
-use Rattle.pat_causal_spec.specs.Reordered.{most_entries, exchanged, LeadsTo}
+use Rattle.pat_causal_spec.specs.Reordered.{exchanged, LeadsTo}
 use Rattle.pat_causal_laws.specs.Moving.{SettledFrom, IsMoving}
 use Rattle.pat_causal_laws.proofs.Moves.{moves_on, stops_here, stops_first, leads_on, exchanged_length, exchanged_take}
 use Rattle.pat_causal.specs.declared.counts.Counts.{Counts as CodeCounts}
 use Rattle.pat_causal.specs.Counts.{AreCounts}
 use Rattle.pat_causal.specs.Leading.{LeadOn}
 use Rattle.pat_causal.proofs.Places.{length_seen, counted_last, counts_less, counts_small}
+use Rattle.pat_limits.specs.Limits.{most_entries, number_count}
 
 -- the entry came to this place, it is known what those before it make, and the exchanges are noted
 pub record IsOnWay (old : List CodeEntry) (before : List ℕ) (now : List CodeEntry) (places : List ℕ) (place : ℕ) (counts : CodeCounts) : Type 0 where
@@ -51,7 +52,7 @@ module _ (old : List CodeEntry) (before : List ℕ) (now : List CodeEntry) (plac
     pub fewer_known : AreCounts fewer (take (place - 1) (map entry_view now))
     fewer_known = let inside = within in counts_less now (place - 1) d (omega arith) counts fewer known_next one two
 
-    pub fewer_small : length old ≤ most_entries → fewer.spawned < 4294967296
+    pub fewer_small : length old ≤ most_entries → fewer.spawned < number_count
     fewer_small few =
         let small = (counts_small (place - 1) (map entry_view now) fewer fewer_known).0 in
         let inside = within in

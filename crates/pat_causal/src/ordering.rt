@@ -5,18 +5,16 @@ ghost use Rattle.pat_semantics_spec.specs.Configs.{Config};
 ghost use Rattle.pat_semantics_spec.specs.Runs.{replay};
 ghost use Rattle.pat_reduce.specs.Views.{entry_view};
 ghost use Rattle.pat_causal_spec.specs.Independent as of;
-ghost use Rattle.pat_causal_spec.specs.Reordered.{IsReordered, most_entries};
+ghost use Rattle.pat_causal_spec.specs.Reordered.{IsReordered};
 ghost use Rattle.pat_causal_laws.specs.Moving.{SettledFrom, IsMoving};
 ghost use Rattle.pat_causal.specs.Counts.{AreCounts};
 ghost use Rattle.pat_causal.specs.Leading.{LeadOn};
+ghost use Rattle.pat_limits.specs.Limits.{most_entries};
 
 use crate::counts::Counts;
 use crate::neighbours::{exchange, independent_behind};
 use pat_reduce::Entry;
 use std::alloc::{AllocError, Global};
-
-/// A history of more entries isn't brought into order.
-pub const MOST_ENTRIES: usize = 4096;
 
 /// A history in order, and the places at which neighbours were exchanged for that, one after another.
 #[derive(Drop)]

@@ -2,10 +2,7 @@
 use Rattle.std.specs.Prelude.{◌≡◌, ℕ, zero, suc, List, [], ◌∷◌, IsTrue, IsFalse}
 use Rattle.pat_semantics_spec.specs.Runs.{Entry}
 use Rattle.pat_causal_spec.specs.Independent.{independent_at, is_out_of_order}
-
--- a history of more entries isn't brought into order
-abbrev pub most_entries : ℕ
-most_entries = 4096
+use Rattle.pat_limits.specs.Limits.{most_entries}
 
 -- the list where the element at place i and the one behind it are exchanged
 abbrev pub exchanged : {A : Type 0} → ℕ → List A → List A

@@ -12,6 +12,7 @@ use Rattle.pat_inclusion_spec.specs.Values.{Scope, pattern_of, is_formed, values
 use Rattle.pat_inclusion_laws.proofs.Exact.{tags_are}
 use Rattle.pat_inclusion_laws.proofs.FormTags.{closed_same, tags_more}
 use Rattle.pat_inclusion_laws.proofs.Shown.{replaced_tags}
+use Rattle.pat_limits.specs.Limits.{most_levels, most_nodes}
 
 few : (n : ℕ) → n < 33 → n ≤ most_tags
 few n l = let t = tags_are in omega arith
@@ -22,10 +23,10 @@ replaced_few s i e l fit h = tags_more (s.tags i) most_tags (subst_of (pattern_o
 replaced_form : (s : Scope) (i : ℕ) (e : Pat) → s.tags i < 33 → values_fit s ≡ true → is_formed s i e ≡ true → closed_form most_tags (subst_of (pattern_of s) e) ≡ closed_form (s.tags i) (subst_of (pattern_of s) e)
 replaced_form s i e l fit h = closed_same (s.tags i) most_tags (subst_of (pattern_of s) e) (few (s.tags i) l) (replaced_tags s i e fit h)
 
-large_has_none : (n : ℕ) (e : Pat) → 65536 < size_of e → closed_form n e ≡ None
+large_has_none : (n : ℕ) (e : Pat) → most_nodes < size_of e → closed_form n e ≡ None
 large_has_none n e l =
     cond-false (is_small e && lists_are_short n e) (Some (sets_of n e)) None
-    (ap (λ b. (b && nat_le (levels_of e) 16384) && lists_are_short n e) (lt-leb (size_of e) 65536 l))
+    (ap (λ b. (b && nat_le (levels_of e) most_levels) && lists_are_short n e) (lt-leb (size_of e) most_nodes l))
 
 -- ---- where the pattern stands by another name
 
@@ -35,5 +36,5 @@ few_in s i e p l fit h q = subst (λ x. tags_below most_tags x ≡ true) (sym q)
 pub form_in : (s : Scope) (i : ℕ) (e p : Pat) (form : Option (List LinearSet)) → s.tags i < 33 → values_fit s ≡ true → is_formed s i e ≡ true → p ≡ subst_of (pattern_of s) e → form ≡ closed_form most_tags p → form ≡ closed_form (s.tags i) (subst_of (pattern_of s) e)
 form_in s i e p form l fit h q f = f ∙ ap (closed_form most_tags) q ∙ replaced_form s i e l fit h
 
-pub none_in : (n : ℕ) (e : Pat) → 65536 < size_of e → None ≡ closed_form n e
+pub none_in : (n : ℕ) (e : Pat) → most_nodes < size_of e → None ≡ closed_form n e
 none_in n e l = sym (large_has_none n e l)

@@ -6,6 +6,7 @@ use Rattle.pat_words_spec.specs.Patterns.{Pat, Zero, One, Tag, Sum, Prod, Star, 
 use Rattle.pat_words_spec.specs.Sizes.{size_of}
 use Rattle.pat_words_laws.proofs.FormLaws.{pat_eq_refl}
 use Rattle.pat_words_laws.proofs.PatternLaws.{is_zero_same, is_one_same, pat_eq_same}
+use Rattle.pat_limits.specs.Limits.{most_nodes}
 
 zero_small : (e : Pat) → is_zero e ≡ true → size_of e ≡ 1
 zero_small e z = ap size_of (is_zero_same e z)
@@ -13,45 +14,45 @@ zero_small e z = ap size_of (is_zero_same e z)
 one_small : (e : Pat) → is_one e ≡ true → size_of e ≡ 1
 one_small e z = ap size_of (is_one_same e z)
 
-pub large_left : (e f : Pat) → 65536 < size_of e → 65536 < size_of (sum_of e f)
+pub large_left : (e f : Pat) → most_nodes < size_of e → most_nodes < size_of (sum_of e f)
 large_left e f l =
-    cond_both (is_zero e) f (if is_zero f then e else if pat_eq e f then e else Sum e f) (λ x. 65536 < size_of x)
+    cond_both (is_zero e) f (if is_zero f then e else if pat_eq e f then e else Sum e f) (λ x. most_nodes < size_of x)
     (λ z. let q = zero_small e z in absurd (omega arith))
-    (λ _. cond_both (is_zero f) e (if pat_eq e f then e else Sum e f) (λ x. 65536 < size_of x)
+    (λ _. cond_both (is_zero f) e (if pat_eq e f then e else Sum e f) (λ x. most_nodes < size_of x)
     (λ _. l)
-    (λ _. cond_both (pat_eq e f) e (Sum e f) (λ x. 65536 < size_of x) (λ _. l) (λ _. omega arith)))
+    (λ _. cond_both (pat_eq e f) e (Sum e f) (λ x. most_nodes < size_of x) (λ _. l) (λ _. omega arith)))
 
-pub large_right : (e f : Pat) → 65536 < size_of f → 65536 < size_of (sum_of e f)
+pub large_right : (e f : Pat) → most_nodes < size_of f → most_nodes < size_of (sum_of e f)
 large_right e f l =
-    cond_both (is_zero e) f (if is_zero f then e else if pat_eq e f then e else Sum e f) (λ x. 65536 < size_of x)
+    cond_both (is_zero e) f (if is_zero f then e else if pat_eq e f then e else Sum e f) (λ x. most_nodes < size_of x)
     (λ _. l)
-    (λ _. cond_both (is_zero f) e (if pat_eq e f then e else Sum e f) (λ x. 65536 < size_of x)
+    (λ _. cond_both (is_zero f) e (if pat_eq e f then e else Sum e f) (λ x. most_nodes < size_of x)
     (λ z. let q = zero_small f z in absurd (omega arith))
-    (λ _. cond_both (pat_eq e f) e (Sum e f) (λ x. 65536 < size_of x)
+    (λ _. cond_both (pat_eq e f) e (Sum e f) (λ x. most_nodes < size_of x)
     (λ s. let q = ap size_of (pat_eq_same e f s) in omega arith)
     (λ _. omega arith)))
 
-pub product_left : (e f : Pat) → 65536 < size_of e → is_zero f ≡ false → 65536 < size_of (prod_of e f)
+pub product_left : (e f : Pat) → most_nodes < size_of e → is_zero f ≡ false → most_nodes < size_of (prod_of e f)
 product_left e f l n =
-    cond_both (is_zero e || is_zero f) Zero (if is_one e then f else if is_one f then e else Prod e f) (λ x. 65536 < size_of x)
+    cond_both (is_zero e || is_zero f) Zero (if is_one e then f else if is_one f then e else Prod e f) (λ x. most_nodes < size_of x)
     (λ z. ⊎_elim (λ a. let q = zero_small e a in absurd (omega arith)) (λ b. absurd (cc)) (or_cases (is_zero e) (is_zero f) z))
-    (λ _. cond_both (is_one e) f (if is_one f then e else Prod e f) (λ x. 65536 < size_of x)
+    (λ _. cond_both (is_one e) f (if is_one f then e else Prod e f) (λ x. most_nodes < size_of x)
     (λ z. let q = one_small e z in absurd (omega arith))
-    (λ _. cond_both (is_one f) e (Prod e f) (λ x. 65536 < size_of x) (λ _. l) (λ _. omega arith)))
+    (λ _. cond_both (is_one f) e (Prod e f) (λ x. most_nodes < size_of x) (λ _. l) (λ _. omega arith)))
 
-pub product_right : (e f : Pat) → 65536 < size_of f → is_zero e ≡ false → 65536 < size_of (prod_of e f)
+pub product_right : (e f : Pat) → most_nodes < size_of f → is_zero e ≡ false → most_nodes < size_of (prod_of e f)
 product_right e f l n =
-    cond_both (is_zero e || is_zero f) Zero (if is_one e then f else if is_one f then e else Prod e f) (λ x. 65536 < size_of x)
+    cond_both (is_zero e || is_zero f) Zero (if is_one e then f else if is_one f then e else Prod e f) (λ x. most_nodes < size_of x)
     (λ z. ⊎_elim (λ a. absurd (cc)) (λ b. let q = zero_small f b in absurd (omega arith)) (or_cases (is_zero e) (is_zero f) z))
-    (λ _. cond_both (is_one e) f (if is_one f then e else Prod e f) (λ x. 65536 < size_of x)
+    (λ _. cond_both (is_one e) f (if is_one f then e else Prod e f) (λ x. most_nodes < size_of x)
     (λ _. l)
-    (λ _. cond_both (is_one f) e (Prod e f) (λ x. 65536 < size_of x)
+    (λ _. cond_both (is_one f) e (Prod e f) (λ x. most_nodes < size_of x)
     (λ z. let q = one_small f z in absurd (omega arith))
     (λ _. omega arith)))
 
-pub large_star : (e : Pat) → 65536 < size_of e → 65536 < size_of (star_of e)
+pub large_star : (e : Pat) → most_nodes < size_of e → most_nodes < size_of (star_of e)
 large_star e l =
-    cond_both (is_zero e || is_one e) One (Star e) (λ x. 65536 < size_of x)
+    cond_both (is_zero e || is_one e) One (Star e) (λ x. most_nodes < size_of x)
     (λ z. ⊎_elim (λ a. let q = zero_small e a in absurd (omega arith)) (λ b. let q = one_small e b in absurd (omega arith)) (or_cases (is_zero e) (is_one e) z))
     (λ _. omega arith)
 
@@ -105,7 +106,7 @@ product_other e f n m a b =
     other_product e f n m ∙ cond-false (is_one e) f (if is_one f then e else Prod e f) a ∙ cond-false (is_one f) e (Prod e f) b
 
 -- a product with a side that is too large is 0 or too large
-pub beside_large : (e f : Pat) → 65536 < size_of e → is_zero f ≡ false → (65536 < size_of (prod_of e f)) × (65536 < size_of (prod_of f e))
+pub beside_large : (e f : Pat) → most_nodes < size_of e → is_zero f ≡ false → (most_nodes < size_of (prod_of e f)) × (most_nodes < size_of (prod_of f e))
 beside_large e f l n = (product_left e f l n, product_right f e l n)
 
 -- ---- stars

@@ -14,9 +14,10 @@ use Rattle.pat_inclusion_spec.specs.Points.{tag_power, count_pattern, point_patt
 use Rattle.pat_certificate_values.specs.declared.forms.building.Built.{Built}
 use Rattle.pat_certificate_values.specs.forms.Limits.{Limits}
 use Rattle.pat_certificate_values.proofs.Large.{large_left, large_right, product_left, product_right}
+use Rattle.pat_limits.specs.Limits.{most_nodes}
 
 abbrev IsLarge : Pat → Type 0
-IsLarge e = 65536 < size_of e
+IsLarge e = most_nodes < size_of e
 
 product_nonzero : (e f : Pat) → is_zero e ≡ false → is_zero f ≡ false → is_zero (prod_of e f) ≡ false
 product_nonzero e f n m =

@@ -5,7 +5,7 @@ use Rattle.pat_semantics_spec.specs.Programs.{Program}
 use Rattle.pat_semantics_spec.specs.Configs.{Config}
 use Rattle.pat_semantics_spec.specs.Runs.{Entry, Outcome, IsHistory}
 use Rattle.pat_history_laws.specs.Readable.{AreReadable}
-use Rattle.pat_causal_spec.specs.Reordered.{most_entries, exchanged, LeadsTo, IsReordered}
+use Rattle.pat_causal_spec.specs.Reordered.{exchanged, LeadsTo, IsReordered}
 use Rattle.pat_causal_laws.proofs.Histories.{leads_replays, leads_count}
 use Rattle.pat_causal_laws.proofs.Moves.{exchanged_length}
 use Rattle.pat_replay_input.specs.RunText.{order_text}
@@ -15,6 +15,7 @@ use Rattle.pat_front.specs.exit_answers.Answers.{SaysVerdict}
 use Rattle.pat_front.specs.declared.exit_answers.answer.Answer.{Answer}
 use Rattle.pat_replay_input.specs.Histories.{standing, Replays, IsReplayRefusal}
 use Rattle.pat_command_order.specs.Allowed.{IsOrdered, HasTooMany, IsOrderRefusal, AllowedOrder}
+use Rattle.pat_limits.specs.Limits.{most_entries}
 
 -- no entry that a reader takes has a local step as its shared act
 pub readable_history : (es : List Entry) → AreReadable es → IsHistory es

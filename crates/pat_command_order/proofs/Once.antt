@@ -3,13 +3,13 @@ use Rattle.std.proofs.Common.{◌≡◌, ◌≤◌, ◌<◌, ℕ, List, length, 
 use Rattle.pat_semantics_spec.specs.Programs.{Program}
 use Rattle.pat_semantics_spec.specs.Configs.{Config}
 use Rattle.pat_semantics_spec.specs.Runs.{Entry}
-use Rattle.pat_causal_spec.specs.Reordered.{most_entries}
 use Rattle.pat_front.specs.declared.verdict.Verdict.{Verdict}
 use Rattle.pat_front.specs.declared.verdict.Verdict.TheVariants as verdict
 use Rattle.pat_replay_input.specs.Histories.{Replays, IsReplayRefusal}
 use Rattle.pat_replay_input.specs.OneReplay.{OneReplay}
 use Rattle.pat_command_order.specs.Allowed.{IsOrdered, HasTooMany, IsOrderRefusal}
 use Rattle.pat_command_order.specs.Answers.{OneAnswer}
+use Rattle.pat_limits.specs.Limits.{most_entries}
 
 not_few : (es fs : List Entry) → es ≡ fs → length es ≤ most_entries → most_entries < length fs → ⊥
 not_few es fs same few many = let sizes = ap length same in absurd (omega (arith, sizes, few, many))

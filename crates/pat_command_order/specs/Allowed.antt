@@ -3,7 +3,7 @@ use Rattle.std.specs.Prelude.{◌≡◌, ◌≤◌, ◌<◌, ◌⊎◌, ℕ, Lis
 use Rattle.pat_semantics_spec.specs.Programs.{Program}
 use Rattle.pat_semantics_spec.specs.Configs.{Config}
 use Rattle.pat_semantics_spec.specs.Runs.{Entry, replay, step_count}
-use Rattle.pat_causal_spec.specs.Reordered.{most_entries, IsReordered}
+use Rattle.pat_causal_spec.specs.Reordered.{IsReordered}
 use Rattle.pat_replay_input.specs.RunText.{order_text}
 use Rattle.pat_front.specs.Lines.{line_of_verdict}
 use Rattle.pat_front.specs.declared.verdict.Verdict.{Verdict}
@@ -11,6 +11,7 @@ use Rattle.pat_front.specs.declared.verdict.Verdict.TheVariants as verdict
 use Rattle.pat_front.specs.declared.exit_answers.status.Status.{Status}
 use Rattle.pat_front.specs.declared.exit_answers.status.Status.TheVariants.{Ok, Refused}
 use Rattle.pat_replay_input.specs.Histories.{standing, Replays, IsReplayRefusal}
+use Rattle.pat_limits.specs.Limits.{most_entries}
 
 -- the bytes are the text of a program, and behind it that of a history that replays; exchanges of independent neighbours bring its
 -- entries into order, and they still lead to the same; and this is their text, what was printed, and how it stands

@@ -3,10 +3,10 @@ use Rattle.std.specs.Prelude.{◌≡◌, ◌≤◌, ℕ, List, length}
 use Rattle.pat_semantics_spec.specs.Programs.{Program}
 use Rattle.pat_semantics_spec.specs.Configs.{Config}
 use Rattle.pat_semantics_spec.specs.Runs.{Entry}
-use Rattle.pat_causal_spec.specs.Reordered.{most_entries}
 use Rattle.pat_front.specs.declared.verdict.Verdict.{Verdict}
 use Rattle.pat_replay_input.specs.Histories.{Replays}
 use Rattle.pat_command_order.specs.Allowed.{IsOrdered, IsOrderRefusal}
+use Rattle.pat_limits.specs.Limits.{most_entries}
 
 -- few enough entries to be brought into order
 abbrev pub AreFew : List Entry → Type 0

@@ -3,13 +3,15 @@ ghost use Rattle.std.specs.Prelude.{◌≤◌, ◌<◌, ℕ, List, IfOk, length,
 ghost use Rattle.pat_semantics_spec.specs.Runs.{IsHistory};
 ghost use Rattle.pat_core.specs.Views.{program_view};
 ghost use Rattle.pat_reduce.specs.Views.{config_view, entry_view};
-ghost use Rattle.pat_causal_spec.specs.Reordered.{IsReordered, most_entries};
+ghost use Rattle.pat_causal_spec.specs.Reordered.{IsReordered};
 ghost use Rattle.pat_replay_input.specs.Histories.{Replays};
 ghost use Rattle.pat_command_order.specs.Allowed.{AllowedOrder};
+ghost use Rattle.pat_limits.specs.Limits.{most_entries};
 
-use pat_causal::{MOST_ENTRIES, Reordered, order};
+use pat_causal::{Reordered, order};
 use pat_front::{Answer, FrontError, Status, Verdict, verdict_answer};
 use pat_history_laws::read_is_text_law;
+use pat_limits::MOST_ENTRIES;
 use pat_replay_input::{Remains, Replayed, order_text_of, replay_bytes, standing_of};
 use pat_sequences::let_go;
 use std::alloc::{AllocError, Global};

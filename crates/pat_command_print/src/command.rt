@@ -5,6 +5,7 @@ ghost use Rattle.pat_tree.specs.Views.{tree_view};
 ghost use Rattle.pat_input.specs.Inputs.{IsRead};
 ghost use Rattle.pat_front.specs.Texts.{IsTreeText};
 ghost use Rattle.pat_command_print.specs.Allowed.{AllowedPrint};
+ghost use Rattle.pat_limits.specs.Limits.{most_number};
 
 use pat_front::{Answer, Status, check_tree, refused, tree_of};
 use pat_input::Input;
@@ -25,7 +26,7 @@ pub fn answer_print(alloc: Global, input: Input) -> Result<Answer, AllocError>
 // The canonical text of a tree that has a program.
 fn print_tree(alloc: Global, tree: &Tree, end: u32) -> Result<Answer, AllocError>
     requires text { (bytes : List ℕ) × IsTreeText bytes (tree_view tree.now) × (end ≡ length bytes) }
-    requires small { tree_size (tree_view tree.now) < 4294967295 }
+    requires small { tree_size (tree_view tree.now) < most_number }
     ensures { (bytes : List ℕ) → IsTreeText bytes (tree_view tree.now) → end ≡ length bytes → IfOk result (λ a. AllowedPrint bytes a.text.items a.status) }
 {
     match check_tree(alloc, tree, end) {

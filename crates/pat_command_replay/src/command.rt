@@ -4,6 +4,7 @@ ghost use Rattle.pat_core.specs.Views.{program_view};
 ghost use Rattle.pat_reduce.specs.Views.{config_view, entry_view};
 ghost use Rattle.pat_replay_input.specs.Histories.{Replays};
 ghost use Rattle.pat_command_replay.specs.Allowed.{AllowedReplay};
+ghost use Rattle.pat_limits.specs.Limits.{most_number};
 
 use pat_front::{Answer, FrontError, Status, verdict_answer};
 use pat_replay_input::{Remains, Replayed, replay_bytes, replay_text_of, standing_of};
@@ -27,7 +28,7 @@ pub fn answer_replay(alloc: Global, bytes: &[u8]) -> Result<Answer, AllocError>
 
 // The output of a history, and how it stands.
 fn shown(alloc: Global, replayed: &Replayed) -> Result<Answer, AllocError>
-    requires few { length replayed.now.entries.items < 4294967295 }
+    requires few { length replayed.now.entries.items < most_number }
     ensures { (bytes : List ℕ) → Replays bytes (program_view replayed.now.code.program) (map entry_view replayed.now.entries.items) (config_view replayed.now.config) → IfOk result (λ a. AllowedReplay bytes a.text.items a.status) }
 {
     let remains = Remains::of(alloc, &replayed.config)?;

@@ -20,6 +20,7 @@ use Rattle.pat_run.specs.single.Runners.{RunGives}
 use Rattle.pat_front.specs.declared.exit_answers.status.Status.{Status}
 use Rattle.pat_command_run.specs.declared.command.Detail.{Detail}
 use Rattle.pat_command_run.specs.Allowed.{EndsWith, RunsTo, RunShows, told}
+use Rattle.pat_limits.specs.Limits.{most_steps, number_count}
 
 -- each entry of a history that replays has a step
 some_step : (p : Program) (c d : Config) (es : List Entry) (ks : List Step) → option_and_then (λ m. replay_from p m es) (entry_from p c ks) ≡ Some d → 0 < length ks
@@ -43,7 +44,7 @@ entries_few p c d (e ∷ es) h =
     omega (arith, some, others)
 
 -- a machine's history is short
-pub few_entries : (m : Shown) (h : List CodeEntry) (named : Named) → IsMachine m → h ≡ m.history → m.named ≡ named → named.budget ≤ 1000000 → length h < 4294967296
+pub few_entries : (m : Shown) (h : List CodeEntry) (named : Named) → IsMachine m → h ≡ m.history → m.named ≡ named → named.budget ≤ most_steps → length h < number_count
 few_entries m h named facts same is small =
     let budget : m.named.budget ≡ named.budget = ap (λ (n : Named). n.budget) is in
     let long : length (entries_of m) ≡ length h = length-map m.history entry_view ∙ ap length (sym same) in

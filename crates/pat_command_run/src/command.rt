@@ -14,6 +14,7 @@ ghost use Rattle.pat_history.specs.run_reports.Remains.{remains_of};
 ghost use Rattle.pat_typecheck.specs.Checks.{IsChecked};
 ghost use Rattle.pat_command_run.specs.Allowed as allowed;
 ghost use Rattle.pat_command_run.specs.Allowed.{AllowedRun, RunShows, EndsWith};
+ghost use Rattle.pat_limits.specs.Limits.{number_count};
 
 use pat_core::Program;
 use pat_derivations::Derivation;
@@ -125,7 +126,7 @@ fn told(
     outcome: Outcome,
 ) -> Result<Vec<u8>, AllocError>
     requires history { IsHistory (map entry_view entries.now) }
-    requires few { length entries.now < 4294967296 }
+    requires few { length entries.now < number_count }
     ensures { (c : Config) → c.printed ≡ printed.now → remains_of c ≡ remains.now → IfOk result (λ t. t.items ≡ allowed.told detail (map entry_view entries.now) c (outcome_view outcome)) }
 {
     match detail {

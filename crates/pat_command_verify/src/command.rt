@@ -4,6 +4,8 @@ ghost use Rattle.pat_semantics_spec.specs.WellFormed.{WellFormed};
 ghost use Rattle.pat_core.specs.Views.{program_view};
 ghost use Rattle.pat_derivations.specs.Views.{derivation_view};
 ghost use Rattle.pat_command_verify.specs.Allowed.{AllowedVerify, AnswersText, AnswersJudged};
+ghost use Rattle.pat_limits.specs.Limits.{number_count};
+ghost use Rattle.pat_input.specs.Inputs.{whole_limit};
 
 use pat_core::Program;
 use pat_deriv::read;
@@ -33,8 +35,8 @@ fn verify_program(
     from: u32,
 ) -> Result<Answer, AllocError>
     requires well_formed { WellFormed (program_view program.now) }
-    requires interfaces { length program.now.interfaces < 4294967296 }
-    requires room { from + length text.now ≤ 67108864 }
+    requires interfaces { length program.now.interfaces < number_count }
+    requires room { from + length text.now ≤ whole_limit }
     ensures { IfOk result (λ a. AnswersText (program_view program.now) from text.now a.text.items a.status) }
 {
     match read(alloc, program, text, from) {

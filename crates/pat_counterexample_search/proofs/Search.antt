@@ -31,6 +31,7 @@ use Rattle.pat_grid.specs.tables.Moves.{entry_at}
 use Rattle.pat_counterexample_search.specs.Least.{IsLeastAnswer}
 use Rattle.pat_counterexample_search.specs.Choices.{IsReady, HasRoom, Rebuilt}
 use Rattle.pat_counterexample_search.specs.Readings.{IsMissing, IsFirstLeast, IsRead, IsReading}
+use Rattle.pat_limits.specs.Limits.{most_tree_nodes}
 
 -- ---- the point that is found
 
@@ -141,7 +142,7 @@ with_left system left = laid LowerSymbol (laid_all [] system) left
 abbrev with_both : List Pat → Pat → Pat → List Symbol
 with_both system left right = laid LowerSymbol (with_left system left) right
 
-pub search_board : (b : Board) (system : List Pat) (left right : Pat) → grid_fits b.k b.tags ≡ true → AllByRecursion (λ e. tags_below b.tags e ≡ true) system → tags_below b.tags left ≡ true → tags_below b.tags right ≡ true → b.points ≡ points_in b.k b.tags → b.limit ≡ 4096 → b.given.now ≡ [] → symbols_view b.symbols.now ≡ with_both system left right → IsBoard b
+pub search_board : (b : Board) (system : List Pat) (left right : Pat) → grid_fits b.k b.tags ≡ true → AllByRecursion (λ e. tags_below b.tags e ≡ true) system → tags_below b.tags left ≡ true → tags_below b.tags right ≡ true → b.points ≡ points_in b.k b.tags → b.limit ≡ most_tree_nodes → b.given.now ≡ [] → symbols_view b.symbols.now ≡ with_both system left right → IsBoard b
 search_board b system left right fits tags tl tr points limit given symbols = record {
   fits = fits;
   points = points;

@@ -21,6 +21,7 @@ use Rattle.pat_grid.specs.tables.Moves.{entry_at}
 use Rattle.pat_counterexample_search.specs.declared.choice.Place.{Place}
 use Rattle.pat_counterexample_search.specs.declared.choice.Choice.TheVariants.{Empty, Tag, Left, Right, Both, StarEnd, StarMore, Lower}
 use Rattle.pat_counterexample_search.specs.Choices.{entry_of, point_at, IsReady, HasRoom, HasStep, IsPart, AreParts, IsChoice, Rebuilt}
+use Rattle.pat_limits.specs.Limits.{number_count}
 
 pub if_ok : {A E : Type 0} (P Q : A → Type 0) (r : Result A E) → IfOk r P → ((a : A) → P a → Q a) → IfOk r Q
 if_ok P Q (Ok a) h f = f a h
@@ -76,7 +77,7 @@ module _ (b : Board) (entries : List ℕ) (ready : IsReady b entries) (p : Place
   pub second_falls : (q r : Place) → AreParts g entries p q r → entry_of g entries r < entry_of g entries p
   second_falls q r c = let s = c.3 in omega arith
 
-  pub tag_room : (m : ℕ) (had w : Word) → HasRoom b entries p had → w ≡ one m → (t : ℕ) → t < 32 → had t + w t < 4294967296
+  pub tag_room : (m : ℕ) (had w : Word) → HasRoom b entries p had → w ≡ one m → (t : ℕ) → t < 32 → had t + w t < number_count
   tag_room m had w h e t _ =
       let l = one_at_most m t in
       let i = count_eq w (one m) e t in

@@ -13,6 +13,7 @@ use Rattle.pat_grid.specs.tables.Moves.{entry_at}
 use Rattle.pat_counterexample_search.specs.declared.choice.Place.{Place}
 use Rattle.pat_counterexample_search.specs.declared.choice.Choice.{Choice}
 use Rattle.pat_counterexample_search.specs.declared.choice.Choice.TheVariants.{Empty, Tag, Left, Right, Both, StarEnd, StarMore, Lower}
+use Rattle.pat_limits.specs.Limits.{most_tree_nodes}
 
 -- the entry at the place
 abbrev pub entry_of : Setting → List ℕ → Place → ℕ
@@ -33,7 +34,7 @@ pub record IsReady (b : Board) (entries : List ℕ) : Type 0 where
 pub record HasRoom (b : Board) (entries : List ℕ) (p : Place) (had : Word) : Type 0 where
   pub number : p.number < b.points
   pub within : entry_of (setting_of b) entries p ≤ b.limit
-  pub room : (t : ℕ) → had t + entry_of (setting_of b) entries p ≤ 4096
+  pub room : (t : ℕ) → had t + entry_of (setting_of b) entries p ≤ most_tree_nodes
 
 -- the place has a point; its entry is within the limit, and is what a step gives
 pub record HasStep (b : Board) (entries : List ℕ) (p : Place) : Type 0 where

@@ -8,18 +8,17 @@ ghost use Rattle.pat_inclusion_spec.specs.Points.{grid_fits};
 ghost use Rattle.pat_inclusion_spec.specs.bounds.Trees.{bounds_of};
 ghost use Rattle.pat_inclusion_spec.specs.bounds.Searches.{IsAnswer};
 ghost use Rattle.pat_witnesses.specs.Views.{search_view};
+ghost use Rattle.pat_limits.specs.Limits.{most_tree_nodes};
 
 use crate::reading::read_answer;
 use pat_grid::{Board, least_sizes};
 use pat_grid_points::{Role, count_points, lay_out, lay_out_all};
 use pat_inclusion_laws::closed_laws;
+use pat_limits::MOST_TREE_NODES;
 use pat_patterns::Pattern;
 use pat_sequences::Sequence;
 use pat_witnesses::Search;
 use std::alloc::{AllocError, Global};
-
-/// The number of nodes that a refutation's tree has at most.
-const MOST_NODES: u16 = 4096;
 
 /// Looks for a word that the left pattern has and the right one lacks, where the variables of the left have the lower bounds of
 /// the system: those past its end have none. The right pattern is flat with a degree below `k`, and the tags of all patterns are
@@ -40,7 +39,7 @@ pub fn refute(
     requires right { IsTrue (tags_below tags (pattern_view right.now)) }
     requires flat { IsTrue (is_flat (pattern_view right.now)) }
     requires degree { degree_of (pattern_view right.now) < k }
-    ensures { IfOk result (λ answer. IsAnswer 4096 (bounds_of (patterns_view system.now)) (pattern_view left.now) (pattern_view right.now) (search_view answer)) }
+    ensures { IfOk result (λ answer. IsAnswer most_tree_nodes (bounds_of (patterns_view system.now)) (pattern_view left.now) (pattern_view right.now) (search_view answer)) }
 {
     closed_laws();
     let mut symbols = Sequence::new(alloc);
@@ -52,7 +51,7 @@ pub fn refute(
         k,
         tags,
         points: count_points(k, tags),
-        limit: MOST_NODES,
+        limit: MOST_TREE_NODES,
         symbols: symbols.as_slice(),
         roots: roots.as_slice(),
         given: &[],

@@ -10,6 +10,7 @@ use Rattle.pat_cover_certificates.specs.declared.coefficients.frames.Frame.{Fram
 use Rattle.pat_cover_certificates.specs.coefficients.Numbers.{MakesFirst}
 use Rattle.pat_cover_certificates.specs.coefficients.Frames.{numbers_of, left_of, Stands, lists_of, lists_left}
 use Rattle.pat_cover_certificates.proofs.Making.{made, makes_by, take_first, put_first, differ}
+use Rattle.pat_limits.specs.Limits.{most_number, number_count}
 
 -- ---- the first numbers
 
@@ -59,15 +60,15 @@ left_some (p ∷ ps) (f ∷ fs) = let h = left_some ps fs in omega arith
 pub push_less : (ps : List Word) (fs : List Frame) (f : Frame) → length fs < length ps → f.number ≡ 0 → lists_left ps (fs ++ f ∷ []) < lists_left ps fs
 push_less [] fs f l z = absurd (omega arith)
 push_less (p ∷ ps) [] f l z =
-    let many : (4294967295 - f.number) * lists_of (length ps) ≡ 4294967295 * lists_of (length ps) = ap (λ c. (4294967295 - c) * lists_of (length ps)) z in
+    let many : (most_number - f.number) * lists_of (length ps) ≡ most_number * lists_of (length ps) = ap (λ c. (most_number - c) * lists_of (length ps)) z in
     omega arith
 push_less (p ∷ ps) (g ∷ fs) f l z = let h = push_less ps fs f (omega arith) z in omega arith
 
-pub next_less : (ps : List Word) (fs : List Frame) (f g : Frame) (gs : List Frame) → length fs < length ps → g.number ≡ f.number + 1 → g.number < 4294967296 → lists_left ps (fs ++ g ∷ []) < lists_left ps (fs ++ f ∷ gs)
+pub next_less : (ps : List Word) (fs : List Frame) (f g : Frame) (gs : List Frame) → length fs < length ps → g.number ≡ f.number + 1 → g.number < number_count → lists_left ps (fs ++ g ∷ []) < lists_left ps (fs ++ f ∷ gs)
 next_less [] fs f g gs l e b = absurd (omega arith)
 next_less (p ∷ ps) [] f g gs l e b =
     let some = left_some ps gs in
-    let less : 4294967295 - f.number ≡ suc (4294967295 - g.number) = omega arith in
-    let many : (4294967295 - f.number) * lists_of (length ps) ≡ (4294967295 - g.number) * lists_of (length ps) + lists_of (length ps) = ap (λ c. c * lists_of (length ps)) less ∙ suc-mul (4294967295 - g.number) (lists_of (length ps)) in
+    let less : most_number - f.number ≡ suc (most_number - g.number) = omega arith in
+    let many : (most_number - f.number) * lists_of (length ps) ≡ (most_number - g.number) * lists_of (length ps) + lists_of (length ps) = ap (λ c. c * lists_of (length ps)) less ∙ suc-mul (most_number - g.number) (lists_of (length ps)) in
     omega arith
 next_less (p ∷ ps) (k ∷ fs) f g gs l e b = let h = next_less ps fs f g gs (omega arith) e b in omega arith

@@ -5,6 +5,7 @@ ghost use Rattle.pat_derivations.specs.Views.{derivation_view};
 ghost use Rattle.pat_derivation_text_spec.specs.DerivationText.{marker};
 ghost use Rattle.pat_derivation_text_spec.specs.Reading.{ReadsTo, no_lines};
 ghost use Rattle.pat_deriv.specs.Answers.{FirstGives, Gives};
+ghost use Rattle.pat_limits.specs.Limits.{number_count};
 
 use crate::nodes::read_line;
 use pat_core::Program;
@@ -38,7 +39,7 @@ pub fn read(
     text: &[u8],
     from: u32,
 ) -> Result<Derivation, TextError>
-    requires interfaces { length program.now.interfaces < 4294967296 }
+    requires interfaces { length program.now.interfaces < number_count }
     requires room { from + length text.now < 2 ^ 32 }
     ensures { Gives (program_view program.now) text.now from result }
 {
@@ -56,7 +57,7 @@ fn read_lines(
     lines: &[u8],
     from: u32,
 ) -> Result<Derivation, TextError>
-    requires interfaces { length program.now.interfaces < 4294967296 }
+    requires interfaces { length program.now.interfaces < number_count }
     requires room { from + length text.now < 2 ^ 32 }
     requires first { ReadsTo (program_view program.now) text.now no_lines lines.now }
     requires within { length lines.now < length text.now + 1 }

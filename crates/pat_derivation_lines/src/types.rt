@@ -9,6 +9,7 @@ ghost use Rattle.pat_derivation_lines.specs.patterns.Answers.{Gives};
 ghost use Rattle.pat_derivation_lines.specs.patterns.Views.{names_of};
 ghost use Rattle.pat_derivation_lines.specs.Views.{mailbox_view, cut_view, used_view, found_view};
 ghost use Rattle.pat_texts.specs.Pieces.{pieces_left};
+ghost use Rattle.pat_limits.specs.Limits.{number_count};
 
 use crate::certificates::number_of;
 use crate::patterns::{Unread, read_pattern};
@@ -46,7 +47,7 @@ fn cut_polarity(text: &[u8]) -> Option<(&[u8], Polarity, &[u8])>
 
 /// The first interface with this name, and its place.
 pub fn find_interface<'a>(program: &'a Program, name: &[u8]) -> Option<(u32, &'a Interface)>
-    requires { length program.now.interfaces < 4294967296 }
+    requires { length program.now.interfaces < number_count }
     ensures { found_view result ≡ reading.found name.now (program_view program.now).interfaces }
 {
     for (i, interface) in program.interfaces.as_slice().iter().enumerate() {
@@ -77,7 +78,7 @@ fn mailbox_in(
 
 /// A mailbox type without its usage.
 fn read_mailbox(alloc: Global, program: &Program, text: &[u8]) -> Result<Mailbox, Unread>
-    requires { length program.now.interfaces < 4294967296 }
+    requires { length program.now.interfaces < number_count }
     ensures { Gives mailbox_view (reading.read_mailbox (program_view program.now) text.now) result }
 {
     match cut_polarity(text) {
@@ -107,7 +108,7 @@ fn read_base(text: &[u8]) -> Option<Base>
 
 /// The type of a term.
 pub fn read_type(alloc: Global, program: &Program, text: &[u8]) -> Result<TypeOf, Unread>
-    requires { length program.now.interfaces < 4294967296 }
+    requires { length program.now.interfaces < number_count }
     ensures { Gives result_view (reading.read_type (program_view program.now) text.now) result }
 {
     match read_base(text) {
@@ -138,7 +139,7 @@ fn cut_usage(text: &[u8]) -> Option<(&[u8], Usage)>
 
 /// A variable's type, behind a space.
 fn read_used(alloc: Global, program: &Program, text: &[u8]) -> Result<MailboxType, Unread>
-    requires { length program.now.interfaces < 4294967296 }
+    requires { length program.now.interfaces < number_count }
     ensures { Gives type_view (reading.read_used (program_view program.now) text.now) result }
 {
     match behind(text, b" ") {
@@ -160,7 +161,7 @@ fn read_used(alloc: Global, program: &Program, text: &[u8]) -> Result<MailboxTyp
 
 /// A variable and its type.
 fn read_named(alloc: Global, program: &Program, text: &[u8]) -> Result<(u32, MailboxType), Unread>
-    requires { length program.now.interfaces < 4294967296 }
+    requires { length program.now.interfaces < number_count }
     ensures { Gives need_view (reading.read_named (program_view program.now) text.now) result }
 {
     match behind(text, b"v") {
@@ -178,7 +179,7 @@ fn read_named(alloc: Global, program: &Program, text: &[u8]) -> Result<(u32, Mai
 
 /// A variable and its type behind a space.
 fn read_next(alloc: Global, program: &Program, text: &[u8]) -> Result<(u32, MailboxType), Unread>
-    requires { length program.now.interfaces < 4294967296 }
+    requires { length program.now.interfaces < number_count }
     ensures { Gives need_view (reading.read_next (program_view program.now) text.now) result }
 {
     match behind(text, b" ") {
@@ -193,7 +194,7 @@ fn read_all(
     program: &Program,
     text: &[u8],
 ) -> Result<Sequence<(u32, MailboxType)>, Unread>
-    requires { length program.now.interfaces < 4294967296 }
+    requires { length program.now.interfaces < number_count }
     ensures { Gives needs_view (reading.read_all (program_view program.now) (pieces 44 text.now)) result }
 {
     let mut needs = Sequence::new(alloc);
@@ -210,7 +211,7 @@ fn read_others(
     others: Option<&[u8]>,
     needs: Sequence<(u32, MailboxType)>,
 ) -> Result<Sequence<(u32, MailboxType)>, Unread>
-    requires { length program.now.interfaces < 4294967296 }
+    requires { length program.now.interfaces < number_count }
     ensures { Gives needs_view (then_read (needs_view needs) (read_each (reading.read_next (program_view program.now)) (pieces_left 44 others.entry))) result }
 {
     let mut needs = needs;
@@ -230,7 +231,7 @@ pub fn read_needs(
     program: &Program,
     text: &[u8],
 ) -> Result<Sequence<(u32, MailboxType)>, Unread>
-    requires { length program.now.interfaces < 4294967296 }
+    requires { length program.now.interfaces < number_count }
     ensures { Gives needs_view (reading.read_needs (program_view program.now) text.now) result }
 {
     if text.is_empty() {

@@ -11,10 +11,11 @@ use Rattle.pat_type_schemes_spec.specs.Covers.{CoverEntry}
 use Rattle.pat_type_schemes_spec.specs.Values.{VarValue, PatternForm, GridForm, VarLine, value_fits}
 use Rattle.pat_type_schemes_spec.specs.Certificates.{Cert, CoverCert, GridCert}
 use Rattle.pat_derivation_spec.specs.Derivations.{Line, Derivation, ascends_from, scope_of}
+use Rattle.pat_limits.specs.Limits.{most_levels, most_number}
 
 -- the number is one that a text may have
 abbrev pub is_number : ℕ → Bool
-is_number n = nat_le n 4294967295
+is_number n = nat_le n most_number
 
 abbrev pub are_numbers : List ℕ → Bool
 are_numbers ns = list_all is_number ns
@@ -29,7 +30,7 @@ has_numbers _ = true
 
 -- no more levels than a reader takes
 abbrev pub is_shallow : Pat → Bool
-is_shallow e = nat_le (levels_of e) 16384
+is_shallow e = nat_le (levels_of e) most_levels
 
 -- the interface is there, and the pattern's tags are its
 abbrev pub spells_pattern : Program → Derivation → ℕ → Pat → Bool

@@ -18,6 +18,7 @@ use Rattle.pat_derivation_text_spec.specs.DerivationText.{numbers_text, entry_te
 use Rattle.pat_derivation_text_spec.specs.LineReading.{read_numbers, entry_with, entry_of, read_entry, cert_by, read_cert, read_certs}
 use Rattle.pat_texts_spec.proofs.CutAgain.{lacks, within, cut_at, pieces_joined, before_at, behind_at, each_read, all_texts, joined_read, all_append, all_joined, wider, lacks_lower, lacks_higher}
 use Rattle.pat_derivation_text_laws.proofs.TypesSpelled.{spaced}
+use Rattle.pat_limits.specs.Limits.{most_number}
 
 -- ---- numbers
 
@@ -28,10 +29,10 @@ digits_within (c ∷ cs) d =
     and_from (within 48 57 c) (list_all (within 48 57) cs) (and_from (nat_le 48 c) (nat_le c 57) (le-leb 48 c k.0) (le-leb c 57 k.1)) (digits_within cs d.1)
 
 pub number_within : (n : ℕ) → is_number n ≡ true → list_all (within 48 57) (decimal n) ≡ true
-number_within n s = let small = leb-true n 4294967295 s in digits_within (decimal n) (decimal_is_IsNumeral n (omega (arith, small))).0.1
+number_within n s = let small = leb-true n most_number s in digits_within (decimal n) (decimal_is_IsNumeral n (omega (arith, small))).0.1
 
 pub number_some : (n : ℕ) → is_number n ≡ true → 0 < length (decimal n)
-number_some n s = let small = leb-true n 4294967295 s in (decimal_is_IsNumeral n (omega (arith, small))).0.0
+number_some n s = let small = leb-true n most_number s in (decimal_is_IsNumeral n (omega (arith, small))).0.0
 
 pub numbers_read : (ns : List ℕ) → are_numbers ns ≡ true → read_numbers (numbers_text ns) ≡ Some ns
 numbers_read ns g = joined_read 44 read_number decimal is_number number_read (λ n s. lacks_lower 48 57 44 (omega arith) (decimal n) (number_within n s)) number_some ns g

@@ -27,6 +27,7 @@ use Rattle.pat_texts_spec.proofs.CutAgain.{lacks, within, cut_at, pieces_joined,
 use Rattle.pat_derivation_text_laws.proofs.CertsRead.{number_within, numbers_read, numbers_within, certs_read, certs_within}
 use Rattle.pat_derivation_text_laws.proofs.TypesRead.{NamesFit, inner_newline, inner_at, inner_opens, inner_closes, apart_space, apart_inner, pattern_inner, count_is, type_read, type_inner, needs_read, needs_lack}
 use Rattle.pat_derivation_text_laws.proofs.DerivationSpelled.{behind_spaces, parts}
+use Rattle.pat_limits.specs.Limits.{most_number, number_count}
 
 -- ---- lists
 
@@ -226,13 +227,13 @@ module _ (pattern_read : PatternIsRead) (p : Program) (n : NamesFit p) where
 
   -- ---- all lines
 
-  reads_vars : (d : Derivation) (text : List ℕ) (vs ws : List VarLine) (rest : List ℕ) → list_all (good_var d) ws ≡ true → length vs + length ws ≤ 4294967295 → ReadsTo p text (record { vars = vs; lines = [] }) (text_of_lines (numbered (var_line p) (suc (length vs)) ws) ++ rest) → ReadsTo p text (record { vars = vs ++ ws; lines = [] }) rest
+  reads_vars : (d : Derivation) (text : List ℕ) (vs ws : List VarLine) (rest : List ℕ) → list_all (good_var d) ws ≡ true → length vs + length ws ≤ most_number → ReadsTo p text (record { vars = vs; lines = [] }) (text_of_lines (numbered (var_line p) (suc (length vs)) ws) ++ rest) → ReadsTo p text (record { vars = vs ++ ws; lines = [] }) rest
   reads_vars d text vs [] rest g small r = subst (λ l. ReadsTo p text (record { vars = l; lines = [] }) rest) (sym (append-nil vs)) r
   reads_vars d text vs (w ∷ ws) rest g small r =
       let a = and_parts (good_var d w) (list_all (good_var d) ws) g in
       let f = var_parts d w a.0 in
       let k = suc (length vs) in
-      let s : is_number k ≡ true = le-leb k 4294967295 (omega (arith, small)) in
+      let s : is_number k ≡ true = le-leb k most_number (omega (arith, small)) in
       let line = var_line p k w in
       let more = text_of_lines (numbered (var_line p) (suc k) ws) ++ rest in
       let here = subst (ReadsTo p text (record { vars = vs; lines = [] })) (joined_line line (text_of_lines (numbered (var_line p) (suc k) ws)) rest) r in
@@ -245,13 +246,13 @@ module _ (pattern_read : PatternIsRead) (p : Program) (n : NamesFit p) where
       (reads_vars d text (vs ++ w ∷ []) ws rest a.1 (omega (arith, long, small))
       (subst (λ j. ReadsTo p text (record { vars = vs ++ w ∷ []; lines = [] }) (text_of_lines (numbered (var_line p) (suc j) ws) ++ rest)) (sym long) next))
 
-  reads_nodes : (d : Derivation) (text : List ℕ) (vs : List VarLine) (ls ms : List Line) (rest : List ℕ) → list_all (spells_line p d) ms ≡ true → length ls + length ms ≤ 4294967296 → ReadsTo p text (record { vars = vs; lines = ls }) (text_of_lines (numbered (node_line p) (length ls) ms) ++ rest) → ReadsTo p text (record { vars = vs; lines = ls ++ ms }) rest
+  reads_nodes : (d : Derivation) (text : List ℕ) (vs : List VarLine) (ls ms : List Line) (rest : List ℕ) → list_all (spells_line p d) ms ≡ true → length ls + length ms ≤ number_count → ReadsTo p text (record { vars = vs; lines = ls }) (text_of_lines (numbered (node_line p) (length ls) ms) ++ rest) → ReadsTo p text (record { vars = vs; lines = ls ++ ms }) rest
   reads_nodes d text vs ls [] rest g small r = subst (λ l. ReadsTo p text (record { vars = vs; lines = l }) rest) (sym (append-nil ls)) r
   reads_nodes d text vs ls (m ∷ ms) rest g small r =
       let a = and_parts (spells_line p d m) (list_all (spells_line p d) ms) g in
       let f = line_parts d m a.0 in
       let k = length ls in
-      let s : is_number k ≡ true = le-leb k 4294967295 (omega (arith, small)) in
+      let s : is_number k ≡ true = le-leb k most_number (omega (arith, small)) in
       let line = node_line p k m in
       let more = text_of_lines (numbered (node_line p) (suc k) ms) ++ rest in
       let here = subst (ReadsTo p text (record { vars = vs; lines = ls })) (joined_line line (text_of_lines (numbered (node_line p) (suc k) ms)) rest) r in
@@ -270,11 +271,11 @@ module _ (pattern_read : PatternIsRead) (p : Program) (n : NamesFit p) where
       let a = and_parts (can_be_spelled p d) (list_all (λ v. has_whole_points v.value) d.vars && lines_have_numbers d) h in
       let b = and_parts (list_all (spells_var p d) d.vars) (list_all (spells_line p d) d.lines) a.0 in
       let c = and_parts (list_all (λ v. has_whole_points v.value) d.vars) (lines_have_numbers d) a.1 in
-      let e = and_parts (is_number (length d.vars)) (nat_le (length d.lines) 4294967296) c.1 in
+      let e = and_parts (is_number (length d.vars)) (nat_le (length d.lines) number_count) c.1 in
       let V = text_of_lines (numbered (var_line p) 1 d.vars) in
       let N = text_of_lines (numbered (node_line p) 0 d.lines) in
       let text = derivation_text p d ++ rest in
       let whole : text ≡ marker ++ 10 ∷ (V ++ (N ++ rest)) = ap (λ l. l ++ rest) (parts p d) ∙ joined_line marker (V ++ N) rest ∙ ap (λ l. marker ++ 10 ∷ l) (append_assoc V N rest) in
       let begins : ReadsTo p text no_lines (V ++ (N ++ rest)) = first (ap (cut 10) whole ∙ cut_at 10 marker (V ++ (N ++ rest)) refl) in
-      let vars = reads_vars d text [] d.vars (N ++ rest) (all_both (spells_var p d) (λ v. has_whole_points v.value) d.vars b.0 c.0) (omega (arith, leb-true (length d.vars) 4294967295 e.0)) begins in
-      reads_nodes d text d.vars [] d.lines rest b.1 (omega (arith, leb-true (length d.lines) 4294967296 e.1)) vars
+      let vars = reads_vars d text [] d.vars (N ++ rest) (all_both (spells_var p d) (λ v. has_whole_points v.value) d.vars b.0 c.0) (omega (arith, leb-true (length d.vars) most_number e.0)) begins in
+      reads_nodes d text d.vars [] d.lines rest b.1 (omega (arith, leb-true (length d.lines) number_count e.1)) vars

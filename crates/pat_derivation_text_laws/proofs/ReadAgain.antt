@@ -20,6 +20,7 @@ use Rattle.pat_derivation_text_laws.specs.patterns.Laws.{AreNames}
 use Rattle.pat_texts_spec.proofs.Choices.{passed, skipped, negated, same_agree}
 use Rattle.pat_texts_spec.proofs.Decimals.{number_read}
 use Rattle.pat_derivation_text_laws.proofs.Running.{run_step, run_stuck}
+use Rattle.pat_limits.specs.Limits.{most_levels, most_number}
 
 plain_text : (x : List ℕ) → enclosed false x ≡ x
 plain_text x = append-nil x
@@ -107,7 +108,7 @@ abbrev Room : List Op → Pat → Bool → Type 0
 Room ops p c = length ops + 2 * levels_of p + extra c ≤ 32768
 
 made_part : (p : Pat) (n : ℕ) → n ≡ levels_of p → is_shallow p ≡ true → part_of p n ≡ Some (part_at p false)
-made_part p n l s = ap (part_of p) l ∙ passed (nat_le (levels_of p) 16384) (Some (part_at p false)) None s
+made_part p n l s = ap (part_of p) l ∙ passed (nat_le (levels_of p) most_levels) (Some (part_at p false)) None s
 
 module _ (names : List (List ℕ)) where
   -- where a factor is wanted
@@ -283,13 +284,13 @@ module _ (names : List (List ℕ)) where
   plain_unmarked (b ∷ bs) h = (and_parts (not (b == 48 || (b == 49 || b == 36))) (unmarked (b ∷ bs)) h).1
 
   shallow_part : (a p : Pat) → levels_of a ≤ levels_of p → is_shallow p ≡ true → is_shallow a ≡ true
-  shallow_part a p l s = le-leb (levels_of a) 16384 (omega (arith, l, leb-true (levels_of p) 16384 s))
+  shallow_part a p l s = le-leb (levels_of a) most_levels (omega (arith, l, leb-true (levels_of p) most_levels s))
 
   reads : AreNames names → (p : Pat) → tags_below (length names) p ≡ true → has_numbers p ≡ true → is_shallow p ≡ true → Reads p
   reads n Zero t h s = reads_plain Zero refl refl (λ ops es r room. word_read (48 ∷ []) Zero refl refl refl ops es r)
   reads n One t h s = reads_plain One refl refl (λ ops es r room. word_read (49 ∷ []) One refl refl refl ops es r)
   reads n (Var k) t h s =
-      let small = leb-true k 4294967295 h in
+      let small = leb-true k most_number h in
       let d = decimal_is_IsNumeral k (omega (arith, small)) in
       reads_plain (Var k) refl refl (λ ops es r room. word_read (36 ∷ decimal k) (Var k) (digits_unmarked (decimal k) d.0.1) (ap (option_map Var) (number_read k h)) refl ops es r)
   reads n (Tag m) t h s =
@@ -321,7 +322,7 @@ module _ (names : List (List ℕ)) where
   pattern_read n p h =
       let k = and_parts (tags_below (length names) p) (has_numbers p && is_shallow p) h in
       let l = and_parts (has_numbers p) (is_shallow p) k.1 in
-      let small = leb-true (levels_of p) 16384 l.1 in
+      let small = leb-true (levels_of p) most_levels l.1 in
       let r = reads n p k.0 l.0 l.1 in
       ap (full names begun) (sym (append-nil (pat_text names p)))
       ∙ r.total [] [] [] (λ _. refl) (λ _. refl) (omega (arith, small)) refl tt

@@ -31,6 +31,7 @@ use Rattle.pat_derivation_text_laws.specs.Readable.{has_whole_points, lines_have
 use Rattle.pat_texts_spec.proofs.CutAgain.{all_append}
 use Rattle.pat_derivation_text_laws.proofs.TypesRead.{Fits, count_is}
 use Rattle.pat_derivation_text_laws.proofs.TypesSpelled.{found_is}
+use Rattle.pat_limits.specs.Limits.{most_number, number_count}
 
 -- ---- lists
 
@@ -287,8 +288,8 @@ module _ (p : Program) (some : HaveTags p) where
     vars : list_all (spells_var p d) d.vars ≡ true
     lines : list_all (spells_line p d) d.lines ≡ true
     whole : list_all (λ v. has_whole_points v.value) d.vars ≡ true
-    var_count : length d.vars ≤ 4294967295
-    line_count : length d.lines ≤ 4294967296
+    var_count : length d.vars ≤ most_number
+    line_count : length d.lines ≤ number_count
 
   line_sound : (d e : Derivation) (line : List ℕ) → Taken d → with_line p d line ≡ Some e → Taken e
   line_sound d e line t h = by (behind (codes "var ") line) h
@@ -298,7 +299,7 @@ module _ (p : Program) (some : HaveTags p) where
       var [] more h =
           let m = made (λ v. record { vars = d.vars ++ v ∷ []; lines = [] }) (read_var p (suc (length d.vars)) more) e h in
           let k = var_sound d (suc (length d.vars)) more m.from m.there in
-          let small = leb-true (suc (length d.vars)) 4294967295 k.0 in
+          let small = leb-true (suc (length d.vars)) most_number k.0 in
           subst Taken m.is (record {
             vars = all_last (spells_var p d) d.vars m.from t.vars k.1;
             lines = refl;
@@ -313,7 +314,7 @@ module _ (p : Program) (some : HaveTags p) where
           let m = made_next (with_node p d) (behind (codes "node ") line) e h in
           let n = made (λ l. record { vars = d.vars; lines = d.lines ++ l ∷ [] }) (read_node p (length d.lines) m.from) e m.is in
           let k = node_sound d (length d.lines) m.from n.from n.there in
-          let small = leb-true (length d.lines) 4294967295 k.0 in
+          let small = leb-true (length d.lines) most_number k.0 in
           subst Taken n.is (record {
             vars = t.vars;
             lines = all_last (spells_line p d) d.lines n.from t.lines k.1;
@@ -331,4 +332,4 @@ module _ (p : Program) (some : HaveTags p) where
       let t = reads_taken text d rest r in
       and_from (can_be_spelled p d) (list_all (λ v. has_whole_points v.value) d.vars && lines_have_numbers d)
       (and_from (list_all (spells_var p d) d.vars) (list_all (spells_line p d) d.lines) t.vars t.lines)
-      (and_from (list_all (λ v. has_whole_points v.value) d.vars) (lines_have_numbers d) t.whole (and_from (is_number (length d.vars)) (nat_le (length d.lines) 4294967296) (le-leb (length d.vars) 4294967295 t.var_count) (le-leb (length d.lines) 4294967296 t.line_count)))
+      (and_from (list_all (λ v. has_whole_points v.value) d.vars) (lines_have_numbers d) t.whole (and_from (is_number (length d.vars)) (nat_le (length d.lines) number_count) (le-leb (length d.vars) most_number t.var_count) (le-leb (length d.lines) number_count t.line_count)))

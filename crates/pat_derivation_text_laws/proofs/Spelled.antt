@@ -15,6 +15,7 @@ use Rattle.pat_derivation_text_spec.specs.patterns.PatternReading.{Op, Stars, Op
 use Rattle.pat_texts_spec.specs.Fronts.{agree, behind}
 use Rattle.pat_texts_spec.proofs.Choices.{taken, untaken, Made, made, made_next, agree_same, negated}
 use Rattle.pat_texts_spec.proofs.Decimals.{number_spelled}
+use Rattle.pat_limits.specs.Limits.{most_levels}
 
 -- the part's text, in brackets where it stood in some
 abbrev pub part_text : List (List ℕ) → Part → List ℕ
@@ -59,9 +60,9 @@ module _ (names : List (List ℕ)) where
   part_stands : (p : Pat) (n : ℕ) (f : Part) → part_of p n ≡ Some f → n ≡ levels_of p → tags_below (length names) p ≡ true → has_numbers p ≡ true → (ops : List Op) (es : List Part) (u t : List ℕ) → Before names ops es u → t ≡ u ++ pat_text names p → Upto names ops (f ∷ es) t
   part_stands p n f e l tags numbers ops es u t before is =
       let own : Part = record { pattern = p; levels = n; bracketed = false } in
-      let k = taken (nat_le n 16384) (Some own) f e in
+      let k = taken (nat_le n most_levels) (Some own) f e in
       let same : own ≡ f = cc in
-      subst (λ f. Upto names ops (f ∷ es) t) same (u, before, record { levels = l; shallow = subst (λ m. nat_le m 16384 ≡ true) l k.0; tags = tags; numbers = numbers }, is ∙ ap (λ x. u ++ x) (sym (plain (pat_text names p))))
+      subst (λ f. Upto names ops (f ∷ es) t) same (u, before, record { levels = l; shallow = subst (λ m. nat_le m most_levels ≡ true) l k.0; tags = tags; numbers = numbers }, is ∙ ap (λ x. u ++ x) (sym (plain (pat_text names p))))
 
   star_stands : (ops : List Op) (es fs : List Part) (t : List ℕ) → Upto names (Stars ∷ ops) es t → star_top es ≡ Some fs → Upto names ops fs t
   star_stands ops [] fs t h e = absurd h
@@ -220,7 +221,7 @@ module _ (names : List (List ℕ)) where
       let m = made_next (λ p. settled ops (record { pattern = p; levels = 1; bracketed = false } ∷ es)) (word_pattern names w) s e in
       let k = word_is w m.from m.there in
       settled_stands ops (record { pattern = m.from; levels = 1; bracketed = false } ∷ es) (t ++ w) s
-      (t, h, record { levels = sym k.level; shallow = ap (λ n. nat_le n 16384) k.level; tags = k.tags; numbers = k.numbers }, ap (λ x. t ++ x) (sym k.text ∙ sym (plain (pat_text names m.from)))) m.is
+      (t, h, record { levels = sym k.level; shallow = ap (λ n. nat_le n most_levels) k.level; tags = k.tags; numbers = k.numbers }, ap (λ x. t ++ x) (sym k.text ∙ sym (plain (pat_text names m.from)))) m.is
 
   want_reads : (ops : List Op) (es : List Part) (bytes t : List ℕ) (n : Stage × List ℕ) → Before names ops es t → want names (wanting ops es) bytes ≡ Some n → Read bytes t n
   want_reads ops es [] t n h e = absurd cc

@@ -5,6 +5,7 @@ use Rattle.pat_lexer_spec.specs.Tokens.{Spanned}
 use Rattle.pat_lexer_spec.specs.Lexemes.{Lexeme, Whole, Begins}
 use Rattle.pat_lexer_spec.specs.Divisions.{Reaches, here, over, token, Divides}
 use Rattle.pat_lexer_laws.proofs.Classes.{lexeme_front}
+use Rattle.pat_limits.specs.Limits.{most_number}
 
 -- a lexeme has a byte
 some_byte : (lexeme : Lexeme) (own rest : List ℕ) → Begins lexeme own rest → 1 ≤ length own
@@ -31,7 +32,7 @@ pub tokens_few : (text : List ℕ) (tokens : List Spanned) → Divides text toke
 tokens_few text tokens (to, reaches) = let few = reached 0 to text [] tokens reaches in omega (arith, few)
 
 -- so the tree of a text is small
-pub small_tree : {A : Type 0} (view : A → Spanned) (bytes : List ℕ) (items : List A) (size : ℕ) → length bytes ≤ 1048576 → Divides bytes (map view items) → size ≤ 4 * length items → size < 4294967295
+pub small_tree : {A : Type 0} (view : A → Spanned) (bytes : List ℕ) (items : List A) (size : ℕ) → length bytes ≤ 1048576 → Divides bytes (map view items) → size ≤ 4 * length items → size < most_number
 small_tree view bytes items size small divides few =
     let as_many = length-map items view in
     let tokens = tokens_few bytes (map view items) divides in

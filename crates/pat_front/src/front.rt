@@ -15,6 +15,7 @@ ghost use Rattle.pat_resolver.specs.Answers.{Explains as ExplainsTree};
 ghost use Rattle.pat_lexer.specs.Explains.{Explains as ExplainsText};
 ghost use Rattle.pat_input.specs.Inputs.{IsRead, limit};
 ghost use Rattle.pat_front.specs.Texts.{IsTreeText, IsProgramText, Explains};
+ghost use Rattle.pat_limits.specs.Limits.{most_number};
 
 use crate::Verdict;
 use pat_core::Program;
@@ -36,7 +37,7 @@ pub enum FrontError {
 pub fn tree_of(alloc: Global, input: Input) -> Result<(Tree, u32), FrontError>
     ensures tree { (bytes : List ℕ) → IsRead bytes input → IfOk result (λ r. IsTreeText bytes (tree_view r.0)) }
     ensures end { (bytes : List ℕ) → IsRead bytes input → IfOk result (λ r. r.1 ≡ length bytes) }
-    ensures size { (bytes : List ℕ) → IsRead bytes input → IfOk result (λ r. tree_size (tree_view r.0) < 4294967295) }
+    ensures size { (bytes : List ℕ) → IsRead bytes input → IfOk result (λ r. tree_size (tree_view r.0) < most_number) }
     ensures refused { (bytes : List ℕ) → IsRead bytes input → IfErr result (Explains bytes) }
 {
     match input {
@@ -51,7 +52,7 @@ pub fn tree_of(alloc: Global, input: Input) -> Result<(Tree, u32), FrontError>
 
 /// The program of the tree of a text that has so many bytes.
 pub fn program_of(alloc: Global, tree: &Tree, end: u32) -> Result<Program, FrontError>
-    requires small { tree_size (tree_view tree.now) < 4294967295 }
+    requires small { tree_size (tree_view tree.now) < most_number }
     ensures program { (bytes : List ℕ) → IsTreeText bytes (tree_view tree.now) → end ≡ length bytes → IfOk result (λ p. IsProgramText bytes (tree_view tree.now) (program_view p)) }
     ensures places { IfOk result (λ p. places_view p ≡ places (tree_view tree.now)) }
     // All that later calls ask of a program.
@@ -66,7 +67,7 @@ pub fn program_of(alloc: Global, tree: &Tree, end: u32) -> Result<Program, Front
 
 /// Whether the tree of a text that has so many bytes has a program.
 pub fn check_tree(alloc: Global, tree: &Tree, end: u32) -> Result<(), FrontError>
-    requires small { tree_size (tree_view tree.now) < 4294967295 }
+    requires small { tree_size (tree_view tree.now) < most_number }
     ensures program { (bytes : List ℕ) → IsTreeText bytes (tree_view tree.now) → end ≡ length bytes → OnOk result ((p : AnyProgram) × IsProgramText bytes (tree_view tree.now) p) }
     ensures refused { (bytes : List ℕ) → IsTreeText bytes (tree_view tree.now) → end ≡ length bytes → IfErr result (Explains bytes) }
 {

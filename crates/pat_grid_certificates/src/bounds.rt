@@ -2,6 +2,9 @@
 ghost use Rattle.std.specs.Prelude.{◌≡◌, nat_le};
 ghost use Rattle.pat_inclusion_spec.specs.Points.{grid_fits};
 ghost use Rattle.pat_inclusion_spec.specs.bounds.Numbers.{points_in};
+ghost use Rattle.pat_limits.specs.Limits.{most_points};
+
+use pat_limits::MOST_POINTS;
 
 /// Whether there is a grid of so many tags whose counts are at most `k`: `k` is at least 1, and there are 65,536 points at most.
 /// The calls on grids ask for this.
@@ -13,14 +16,14 @@ pub fn is_grid(k: u32, tags: u8) -> bool
 
 /// Whether there are 65,536 points at most.
 fn has_few_points(k: u32, tags: u8) -> bool
-    ensures { result ≡ nat_le (points_in k tags) 65536 }
+    ensures { result ≡ nat_le (points_in k tags) most_points }
 {
     let base = k as u64 + 1;
     let mut points = 1;
     let mut counted = 0;
     while counted < tags {
         points *= base;
-        if points > 65536 {
+        if points > MOST_POINTS {
             return false;
         }
         counted += 1;

@@ -10,14 +10,15 @@ use Rattle.pat_inclusion_spec.specs.Points.{grid_fits}
 use Rattle.pat_inclusion_spec.specs.bounds.Numbers.{points_in, number_of, point_of}
 use Rattle.pat_inclusion_laws.proofs.NumberLaws.{number_below, point_counts, point_fits, point_number}
 use Rattle.pat_grid_points.specs.Views.{summed}
+use Rattle.pat_limits.specs.Limits.{most_points}
 
 -- ---- grids that are worked with
 
 pub bound_fits : (k n : ℕ) → grid_fits k n ≡ true → 1 ≤ k
-bound_fits k n f = leb-true 1 k (and_parts (nat_le 1 k) (nat_le ((k + 1) ^ n) 65536) f).0
+bound_fits k n f = leb-true 1 k (and_parts (nat_le 1 k) (nat_le ((k + 1) ^ n) most_points) f).0
 
-pub points_fit : (k n : ℕ) → grid_fits k n ≡ true → points_in k n ≤ 65536
-points_fit k n f = leb-true ((k + 1) ^ n) 65536 (and_parts (nat_le 1 k) (nat_le ((k + 1) ^ n) 65536) f).1
+pub points_fit : (k n : ℕ) → grid_fits k n ≡ true → points_in k n ≤ most_points
+points_fit k n f = leb-true ((k + 1) ^ n) most_points (and_parts (nat_le 1 k) (nat_le ((k + 1) ^ n) most_points) f).1
 
 -- fewer tags have no more points
 pub fewer_points : (k m n : ℕ) → m ≤ n → points_in k m ≤ points_in k n
@@ -33,7 +34,7 @@ few_tags k n f =
 -- ---- the number of a word
 
 -- the digits of one tag more are still a number of a point
-pub digit_room : (k n t : ℕ) (w : Word) → points_in k n ≤ 65536 → t < n → number_of k t (cut_at k w) * (k + 1) + min (w t) k < 65536
+pub digit_room : (k n t : ℕ) (w : Word) → points_in k n ≤ most_points → t < n → number_of k t (cut_at k w) * (k + 1) + min (w t) k < most_points
 digit_room k n t w f l =
     let less = number_below k (suc t) (cut_at k w) (λ i. omega arith) in
     let fewer = fewer_points k (suc t) n l in

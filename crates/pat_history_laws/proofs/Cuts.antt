@@ -11,6 +11,7 @@ use Rattle.pat_texts_spec.specs.Numbers.{is_number}
 use Rattle.pat_texts_spec.proofs.Choices.{passed, skipped, negated}
 use Rattle.pat_texts_spec.specs.Joined.{cut}
 use Rattle.pat_texts_spec.proofs.Cutting.{CutInPieces, cut_pieces}
+use Rattle.pat_limits.specs.Limits.{most_number}
 
 -- the byte is none of the text
 abbrev pub Lacks : ℕ → List ℕ → Type 0
@@ -47,4 +48,4 @@ digits_lack c low (b ∷ bs) d = let k = digit_from_value b d.0 in ((λ e. omega
 
 -- a number's text has digits alone
 pub number_lacks : (c n : ℕ) → c < 48 → is_number n ≡ true → Lacks c (decimal n)
-number_lacks c n low s = let small = leb-true n 4294967295 s in digits_lack c low (decimal n) (decimal_is_IsNumeral n (omega (arith, small))).0.1
+number_lacks c n low s = let small = leb-true n most_number s in digits_lack c low (decimal n) (decimal_is_IsNumeral n (omega (arith, small))).0.1

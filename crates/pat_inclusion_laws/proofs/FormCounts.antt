@@ -9,6 +9,7 @@ use Rattle.pat_words_spec.specs.Sizes.{size_of, levels_of}
 use Rattle.pat_inclusion_spec.specs.Counts.{is_empty_below, has_word}
 use Rattle.pat_inclusion_spec.specs.LinearSets.{LinearSet, linear_set, WordWithin, SetWithin, SetsWithin}
 use Rattle.pat_inclusion_spec.specs.ClosedForms.{add_period, add_periods, set_product, products, only_empty, star_by, set_star, times_stars, sets_of, is_short, stars_are_short, lists_are_short, is_small, SetsClean}
+use Rattle.pat_limits.specs.Limits.{most_levels, most_nodes, most_sets}
 
 -- ---- bounds
 
@@ -415,19 +416,19 @@ form_short n (Var k) h = refl
 
 pub form_counts : (n : ℕ) (e : Pat) → is_small e ≡ true → lists_are_short n e ≡ true → SetsWithin (2 ^ 27) (2 ^ 27) (sets_of n e)
 form_counts n e small short =
-    let size = leb-true (size_of e) 65536 (and_parts (nat_le (size_of e) 65536) (nat_le (levels_of e) 16384) small).0 in
-    let few = leb-true (length (sets_of n e)) 4096 (form_short n e short) in
+    let size = leb-true (size_of e) most_nodes (and_parts (nat_le (size_of e) most_nodes) (nat_le (levels_of e) most_levels) small).0 in
+    let few = leb-true (length (sets_of n e)) most_sets (form_short n e short) in
     let l = leaves_size e in
     let p = periodic_length (sets_of n e) in
     let leaf : leaves e ≤ 32768 = omega arith in
-    let grown : factor (periodic_sets (sets_of n e)) ≤ 4096 = omega arith in
-    let most : bound n e ≤ 32768 * 4096 = mul-le-mul leaf grown in
-    let whole : 32768 * 4096 ≡ 2 ^ 27 = refl in
+    let grown : factor (periodic_sets (sets_of n e)) ≤ most_sets = omega arith in
+    let most : bound n e ≤ 32768 * most_sets = mul-le-mul leaf grown in
+    let whole : 32768 * most_sets ≡ 2 ^ 27 = refl in
     let fits : bound n e ≤ 2 ^ 27 = subst (λ x. bound n e ≤ x) whole most in
     sets_more (bound n e) (bound n e) (2 ^ 27) (2 ^ 27) (sets_of n e) fits fits (form_within n e)
 
 -- a star of a short list has taken at most 12 sets with periods
-few_periodic : (s : ℕ) → power s ≤ 4096 → s ≤ 12
+few_periodic : (s : ℕ) → power s ≤ most_sets → s ≤ 12
 few_periodic s l =
     ⊎_elim
     (λ small. omega arith)
@@ -444,7 +445,7 @@ star_counts n c ss a b short =
     let made = times_stars n (only_empty ∷ []) ss in
     let sets = times_sets n (only_empty ∷ []) ss b (omega arith) in
     let sets0 : length made ≡ power (periodic_sets ss) = sets.0 in
-    let few = leb-true (length made) 4096 short in
+    let few = leb-true (length made) most_sets short in
     let s = few_periodic (periodic_sets ss) (omega arith) in
     let m : periodic_sets ss * c ≤ 12 * c = mul-le-mul s (le_refl c) in
     sets_more (0 + periodic_sets ss * c) c (12 * c) c made (omega arith) (le_refl c)

@@ -10,6 +10,7 @@ use Rattle.pat_words_spec.specs.Tags.{tags_below}
 use Rattle.pat_inclusion_spec.specs.LinearSets.{LinearSet}
 use Rattle.pat_inclusion_spec.specs.ClosedForms.{set_product, products, star_by, set_star, sets_of, only_empty, is_short, stars_are_short, lists_are_short, is_small, closed_form}
 use Rattle.pat_inclusion_laws.proofs.Exact.{form_same}
+use Rattle.pat_limits.specs.Limits.{most_sets}
 
 -- how many sets there are in a product and in a star doesn't depend on the tags
 join_length : (xs ys : List LinearSet) → length (xs ++ ys) ≡ length xs + length ys
@@ -37,7 +38,7 @@ stars_same : (n m : ℕ) (xs ys ss : List LinearSet) → length xs ≡ length ys
 stars_same n m xs ys [] e = refl
 stars_same n m xs ys (s ∷ ss) e =
     let l = next_length n m xs ys s e in
-    ap₂ (λ a b. a && b) (ap (λ k. nat_le k 4096) l) (stars_same n m (products m xs (set_star m s)) (products n ys (set_star n s)) ss l)
+    ap₂ (λ a b. a && b) (ap (λ k. nat_le k most_sets) l) (stars_same n m (products m xs (set_star m s)) (products n ys (set_star n s)) ss l)
 
 lists_same : (n m : ℕ) (e : Pat) → n ≤ m → tags_below n e ≡ true → lists_are_short m e ≡ lists_are_short n e
 lists_same n m Zero l h = refl

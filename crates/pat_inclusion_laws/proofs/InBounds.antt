@@ -28,6 +28,7 @@ use Rattle.pat_inclusion_laws.proofs.SearchLaws.{known_derivable, derivable_know
 use Rattle.pat_inclusion_laws.proofs.GridLaws.{grids_solve}
 use Rattle.pat_inclusion_laws.proofs.GridPoints.{listed_fit, listed_to, listed_back}
 use Rattle.pat_inclusion_laws.proofs.Ends.{done_exists}
+use Rattle.pat_limits.specs.Limits.{most_points}
 
 -- ---- a solution breaks no constraint
 
@@ -113,7 +114,7 @@ module _ (k n m : ℕ) (cs : List Constraint) (fits : grid_fits k n ≡ true) (a
 
   fit : IsFit setting
   fit = record {
-    bound = leb-true 1 k (and_parts (nat_le 1 k) (nat_le ((k + 1) ^ n) 65536) fits).0;
+    bound = leb-true 1 k (and_parts (nat_le 1 k) (nat_le ((k + 1) ^ n) most_points) fits).0;
     tags = symbols_fit n (laid_all [] system) (all_fit n [] system (lowers_tags k n m cs all 0 m) tt);
     given = λ j w h. absurd h;
   }

@@ -18,6 +18,7 @@ use Rattle.pat_inclusion_laws.proofs.CoverLaws.{cover_includes}
 use Rattle.pat_inclusion_laws.proofs.Pumping.{flat_by_cut}
 use Rattle.pat_inclusion_laws.proofs.CutLaws.{cuts_include}
 use Rattle.pat_inclusion_laws.proofs.PointLaws.{points_by_cut, sum_tags, prod_tags, star_tags, points_tags}
+use Rattle.pat_limits.specs.Limits.{most_points}
 
 -- each value is one that its variable may have
 abbrev pub ValuesFit : Scope → Type 0
@@ -199,7 +200,7 @@ grid_includes s k i e f fit fe ff h w j =
     let n = s.tags i in
     let a = and_parts (grid_fits k n) (is_large_enough s k f && cuts_lie k n (subst_of (pattern_of s) e) (subst_of (pattern_of s) f)) h in
     let b = and_parts (is_large_enough s k f) (cuts_lie k n (subst_of (pattern_of s) e) (subst_of (pattern_of s) f)) a.1 in
-    let l = leb-true 1 k (and_parts (nat_le 1 k) (nat_le ((k + 1) ^ n) 65536) a.0).0 in
+    let l = leb-true 1 k (and_parts (nat_le 1 k) (nat_le ((k + 1) ^ n) most_points) a.0).0 in
     let r = cuts_include k n (subst_of (pattern_of s) e) (subst_of (pattern_of s) f) (replaced_tags s i e fit fe) (replaced_tags s i f fit ff) b.1 w j in
     large_enough s k f l b.0 r.0 w r.1 r.2
 

@@ -6,6 +6,7 @@ use Rattle.pat_words_spec.specs.Patterns.{Pat, Zero, One, Tag, Sum, Prod, Star, 
 use Rattle.pat_words_spec.specs.Sizes.{size_of, levels_of}
 use Rattle.pat_inclusion_spec.specs.Counts.{is_empty_below, has_word}
 use Rattle.pat_inclusion_spec.specs.LinearSets.{LinearSet, linear_set}
+use Rattle.pat_limits.specs.Limits.{most_levels, most_nodes, most_sets}
 
 -- the periods and one more at the end, unless it is empty or there already
 abbrev pub add_period : ℕ → List Word → Word → List Word
@@ -57,7 +58,7 @@ sets_of n (Var k) = []
 
 -- the list has no more sets than are worked with
 abbrev pub is_short : List LinearSet → Bool
-is_short sets = nat_le (length sets) 4096
+is_short sets = nat_le (length sets) most_sets
 
 -- each list that `times_stars` makes is short
 abbrev pub stars_are_short : ℕ → List LinearSet → List LinearSet → Bool
@@ -74,7 +75,7 @@ lists_are_short n _ = true
 
 -- the pattern has no more nodes and levels than are worked with
 abbrev pub is_small : Pat → Bool
-is_small e = nat_le (size_of e) 65536 && nat_le (levels_of e) 16384
+is_small e = nat_le (size_of e) most_nodes && nat_le (levels_of e) most_levels
 
 -- the closed form, unless it is too large
 abbrev pub closed_form : ℕ → Pat → Option (List LinearSet)

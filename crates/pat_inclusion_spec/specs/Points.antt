@@ -4,10 +4,11 @@ use Rattle.std.specs.List.{list_all, list_any}
 use Rattle.pat_words_spec.specs.Words.{Word}
 use Rattle.pat_words_spec.specs.Patterns.{Pat, Zero, One, Tag, Star, sum_of, prod_of}
 use Rattle.pat_inclusion_spec.specs.Counts.{counted}
+use Rattle.pat_limits.specs.Limits.{most_points}
 
 -- a grid of n tags with bound k is one that is worked with
 abbrev pub grid_fits : ℕ → ℕ → Bool
-grid_fits k n = nat_le 1 k && nat_le ((k + 1) ^ n) 65536
+grid_fits k n = nat_le 1 k && nat_le ((k + 1) ^ n) most_points
 
 -- the counts of the first n tags are at most k, and there are no others
 abbrev pub point_fits : ℕ → ℕ → List ℕ → Bool

@@ -13,8 +13,9 @@ use Rattle.pat_inclusion_laws.proofs.Exact.{tags_are}
 use Rattle.pat_patterns.specs.declared.postfix_form.Head.TheVariants.{Prod as ProdHead, Star as StarHead}
 use Rattle.pat_linear.specs.Forms.{CanJoin}
 use Rattle.pat_linear.proofs.Standing.{small, small_down}
+use Rattle.pat_limits.specs.Limits.{most_levels}
 
-pub few_nodes : (e : Pat) → size_of e ≤ 16384 → is_small e ≡ true
+pub few_nodes : (e : Pat) → size_of e ≤ most_levels → is_small e ≡ true
 few_nodes e few = let levels = levels_size e in small e (omega arith) (omega arith)
 
 pub tag_below : (e : Pat) (m : ℕ) → e ≡ Tag m → tags_below most_tags e ≡ true → m < 32

@@ -18,6 +18,7 @@ use Rattle.pat_patterns.proofs.Made.{made_whole}
 use Rattle.pat_linear.specs.declared.error.FormError.{FormError}
 use Rattle.pat_linear.specs.declared.error.FormError.TheVariants.{TooLarge, NoMemory}
 use Rattle.pat_linear.specs.Forms.{after, after_is_short, CanJoin, Joins, GivesSets}
+use Rattle.pat_limits.specs.Limits.{most_levels, most_nodes}
 
 -- the patterns that the heads so far have made have these forms, all short; with the heads to come they make the whole
 pub record Standing (n : ℕ) (whole : Pat) (heads : List Head) (forms : List (List LinearSet)) : Type 0 where
@@ -71,13 +72,13 @@ short_down n = record {
 }
 
 -- size and levels of a small pattern
-sizes : (e : Pat) → is_small e ≡ true → (size_of e ≤ 65536) × (levels_of e ≤ 16384)
+sizes : (e : Pat) → is_small e ≡ true → (size_of e ≤ most_nodes) × (levels_of e ≤ most_levels)
 sizes e h =
     let p = and_parts _ _ h in
-    (leb-true (size_of e) 65536 p.0, leb-true (levels_of e) 16384 p.1)
+    (leb-true (size_of e) most_nodes p.0, leb-true (levels_of e) most_levels p.1)
 
-pub small : (e : Pat) → size_of e ≤ 65536 → levels_of e ≤ 16384 → is_small e ≡ true
-small e a b = and_from _ _ (le-leb (size_of e) 65536 a) (le-leb (levels_of e) 16384 b)
+pub small : (e : Pat) → size_of e ≤ most_nodes → levels_of e ≤ most_levels → is_small e ≡ true
+small e a b = and_from _ _ (le-leb (size_of e) most_nodes a) (le-leb (levels_of e) most_levels b)
 
 pub small_down : IsHandedDown (λ e. is_small e ≡ true)
 small_down = record {

@@ -17,19 +17,14 @@ ghost use Rattle.pat_linear.specs.Forms.{GivesForm, GivesSets, GivesTop, Joins, 
 
 use crate::error::FormError;
 use crate::flat::Lists;
-use crate::products::{MOST_SETS, products};
+use crate::products::products;
 use crate::set::LinearSet;
 use crate::stars::{only_empty, star, star_of_words};
 use pat_bags::Bag;
+use pat_limits::{MOST_LEVELS, MOST_NODES, MOST_SETS};
 use pat_patterns::{Head, Pattern, levels, postfix, size};
 use pat_sequences::Sequence;
 use std::alloc::{AllocError, Global};
-
-/// The most nodes that a pattern may have.
-pub const MOST_NODES: u32 = 65536;
-
-/// The most levels that a pattern may have.
-pub const MOST_LEVELS: u32 = 16384;
 
 /// Linear sets whose words, taken together, are the pattern's: its closed form. `TooLarge` is answered for a pattern above
 /// 65,536 nodes or 16,384 levels, or where some list on the way grows past 4,096 sets, and for no other.

@@ -10,11 +10,9 @@ ghost use Rattle.pat_linear.specs.Forms.{GivesSets};
 use crate::comparing::{add_periods, copied};
 use crate::error::FormError;
 use crate::set::LinearSet;
+use pat_limits::MOST_SETS;
 use pat_sequences::Sequence;
 use std::alloc::{AllocError, Global};
-
-/// The most sets that a list may have.
-pub const MOST_SETS: usize = 4096;
 
 /// The sums of a word of each.
 fn set_product(alloc: Global, a: &LinearSet, b: &LinearSet) -> Result<LinearSet, AllocError>

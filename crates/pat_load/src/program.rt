@@ -1,6 +1,7 @@
 // The text of the program with so many workers.
 ghost use Rattle.std.specs.Prelude.{◌≡◌, ◌++◌, ◌<◌, IfOk, OnOk};
 ghost use Rattle.pat_load.specs.LoadText.{each_from, group_text, load_text, main_text, numbered, worker_text};
+ghost use Rattle.pat_limits.specs.Limits.{most_number};
 
 use pat_texts::push_number;
 use std::alloc::{AllocError, Global};
@@ -8,7 +9,7 @@ use std::alloc::{AllocError, Global};
 /// The text of a program that sends each of so many workers a number and a mailbox for its answer, and prints the sum of the answers:
 /// of n workers `3 * n * (n + 1) / 2 + n`.
 pub fn program_text(alloc: Global, workers: u32) -> Result<Vec<u8>, AllocError>
-    requires { workers < 4294967295 }
+    requires { workers < most_number }
     ensures { IfOk result (λ t. t.items ≡ load_text workers) }
 {
     let mut text = Vec::new(alloc);
@@ -22,7 +23,7 @@ pub fn program_text(alloc: Global, workers: u32) -> Result<Vec<u8>, AllocError>
 }
 
 fn push_main(text: &mut Vec<u8>, workers: u32) -> Result<(), AllocError>
-    requires { workers < 4294967295 }
+    requires { workers < most_number }
     ensures { OnOk result (text.new.items ≡ text.old.items ++ main_text workers) }
 {
     text.extend_from_slice(b"def main(): Unit { let all = new[Sum] in ")?;
@@ -32,7 +33,7 @@ fn push_main(text: &mut Vec<u8>, workers: u32) -> Result<(), AllocError>
 }
 
 fn push_workers(text: &mut Vec<u8>, workers: u32) -> Result<(), AllocError>
-    requires { workers < 4294967295 }
+    requires { workers < most_number }
     ensures { OnOk result (text.new.items ≡ text.old.items ++ each_from worker_text 1 workers) }
 {
     for number in 0..workers {
@@ -52,7 +53,7 @@ fn push_worker(text: &mut Vec<u8>, number: u64) -> Result<(), AllocError>
 }
 
 fn push_groups(text: &mut Vec<u8>, workers: u32) -> Result<(), AllocError>
-    requires { workers < 4294967295 }
+    requires { workers < most_number }
     ensures { OnOk result (text.new.items ≡ text.old.items ++ each_from group_text 1 workers) }
 {
     for number in 0..workers {

@@ -26,6 +26,7 @@ use Rattle.pat_machine_steps.specs.shared_steps.Settling.{IsSettled}
 use Rattle.pat_machine_steps.specs.shared_steps.Leaving.{CanBeCounted}
 use Rattle.pat_machine.specs.declared.parts.Parts.{Parts}
 use Rattle.pat_machine.specs.Parted.{IsKept}
+use Rattle.pat_limits.specs.Limits.{number_count}
 
 -- the counts tell of each thread whether it may free its mailbox
 pub told : (m : Parts) → IsKept m → TellOfEach (program_view m.code.program) m.state m.names.times.items
@@ -62,7 +63,7 @@ module _ (p : Program) (budget limit : ℕ) (c : Config) (es : List Entry) (left
   }
 
   -- a job's thread has few frames, since each took a step
-  pub few_frames : (t allowance : ℕ) (s : Settled) → allowance_of out t ≡ Some allowance → IsSettled p c t allowance s → length s.end.frames < 4294967296
+  pub few_frames : (t allowance : ℕ) (s : Settled) → allowance_of out t ≡ Some allowance → IsSettled p c t allowance s → length s.end.frames < number_count
   few_frames t allowance s lent h =
       let middle = settled_thread h.kept s in
       let half = with_thread c t middle in

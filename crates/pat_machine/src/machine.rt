@@ -9,6 +9,7 @@ ghost use Rattle.pat_machine.specs.Gives.{IsLent, TakeGives, TakeThreadGives, St
 ghost use Rattle.pat_machine.specs.Driving.{IsDriven, IsStopped};
 ghost use Rattle.pat_machine.specs.Reading.{ShowsMailboxes};
 ghost use Rattle.pat_machine.specs.declared.job.Receipt.{Receipt as ReceiptOf};
+ghost use Rattle.pat_limits.specs.Limits.{most_messages, most_steps};
 
 use crate::job::{CommitRefused, Job, Named, Outcome, Receipt, StateRefused, TakeRefused};
 use crate::mailboxes::MailboxesOf;
@@ -71,8 +72,8 @@ impl Machine {
         steps: u64,
         messages: u32,
     ) -> Result<Machine, AllocError>
-        requires steps { steps ≤ 1000000 }
-        requires messages { (0 < messages) × (messages ≤ 1000000) }
+        requires steps { steps ≤ most_steps }
+        requires messages { (0 < messages) × (messages ≤ most_messages) }
         ensures { IfOk result (IsNew accepted steps messages) }
     {
         let parts = Parts::new(alloc, accepted.into_program(), steps, messages)?;

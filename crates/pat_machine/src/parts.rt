@@ -6,6 +6,7 @@ ghost use Rattle.pat_core.specs.Views.{program_view};
 ghost use Rattle.pat_machine_spec.specs.Lendings.{all_in};
 ghost use Rattle.pat_machine.specs.Parted.{shown, IsKept};
 ghost use Rattle.pat_machine.specs.Shown.{IsNew};
+ghost use Rattle.pat_limits.specs.Limits.{most_steps};
 
 use pat_core::Program;
 use pat_machine_indexes::Waits;
@@ -48,7 +49,7 @@ impl Parts {
     ) -> Result<Parts, AllocError>
         requires well { WellFormed (program_view program) }
         requires typable { IsTypable (program_view program) }
-        requires steps { steps ≤ 1000000 }
+        requires steps { steps ≤ most_steps }
         requires messages { 0 < messages }
         ensures kept { IfOk result IsKept }
         ensures start { IfOk result (λ m. IsNew program steps messages (shown m)) }

@@ -7,6 +7,7 @@ use Rattle.pat_machine_indexes.specs.declared.refcounts.names.Names.{Names}
 use Rattle.pat_machine_indexes.specs.declared.refcounts.changing.Change.{Change}
 use Rattle.pat_machine_indexes.specs.declared.refcounts.changing.Change.TheVariants.{Come, Go}
 use Rattle.pat_machine_indexes.specs.refcounts.Changes.{Fits}
+use Rattle.pat_limits.specs.Limits.{number_count}
 
 once : (m : ℕ) → count_if (nat_eq m m) ≡ 1
 once m = ap count_if (eq-eqb m m refl)
@@ -17,7 +18,7 @@ has_place [] m h = absurd (omega arith)
 has_place (x ∷ xs) zero h = omega arith
 has_place (x ∷ xs) (suc m) h = let rest = has_place xs m h in omega arith
 
-pub come_fits : (change : Change) (ns : Names) (m : ℕ) → change ≡ Come → Fits change ns (λ a. count_if (nat_eq a m)) → (m < length ns.times.items) × (count_at ns.times.items m + 1 < 4294967296)
+pub come_fits : (change : Change) (ns : Names) (m : ℕ) → change ≡ Come → Fits change ns (λ a. count_if (nat_eq a m)) → (m < length ns.times.items) × (count_at ns.times.items m + 1 < number_count)
 come_fits change ns m is fits =
     let e = once m in
     let both = (subst (λ (k : Change). Fits k ns (λ a. count_if (nat_eq a m))) is fits) m (omega arith) in

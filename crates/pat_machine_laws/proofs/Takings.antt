@@ -14,6 +14,7 @@ use Rattle.pat_machine_spec.specs.Machines.{MachineInvariant}
 use Rattle.pat_machine_spec.specs.Turns.{IsReady}
 use Rattle.pat_machine_laws.proofs.Ready.{ready_there}
 use Rattle.pat_machine_laws.proofs.Tables.{allowances_set, set_here, set_elsewhere, allowances_without, still_out}
+use Rattle.pat_limits.specs.Limits.{most_steps}
 
 below : (n : ℕ) (ts : List (ℕ × Thread)) (t : ℕ) (s : Thread) → AllByRecursion (λ e. e.0 < n) ts → lookup (nat_eq t) ts ≡ Some s → t < n
 below n [] t s a h = cc
@@ -122,7 +123,7 @@ take_none zero = refl
 take_none (suc k) = refl
 
 -- the start of a typable program
-pub start_stands : (p : Program) (budget limit : ℕ) → WellFormed p → IsTypable p → budget ≤ 1000000 → 0 < limit → MachineInvariant p budget limit (start p) [] budget (all_in (start p).next_thread)
+pub start_stands : (p : Program) (budget limit : ℕ) → WellFormed p → IsTypable p → budget ≤ most_steps → 0 < limit → MachineInvariant p budget limit (start p) [] budget (all_in (start p).next_thread)
 start_stands p budget limit well typable small space =
     let none = nothing_lent (start p).next_thread in
     record {

@@ -7,6 +7,7 @@ use Rattle.pat_semantics_spec.specs.Runs.{Entry, IsHistory, replay, step_count}
 use Rattle.pat_type_system_spec.specs.Typings.{Typing}
 use Rattle.pat_type_system_spec.specs.Typed.{IsTyped}
 use Rattle.pat_machine_spec.specs.Lendings.{Out, allowance_of, allowances}
+use Rattle.pat_limits.specs.Limits.{most_number, most_steps}
 
 -- after each prefix of the history at most so many messages are pending
 abbrev pub StaysWithin : Program → (limit : ℕ) → List Entry → Type 0
@@ -36,13 +37,13 @@ pub record TableFits (c : Config) (out : Out) : Type 0 where
 -- what a machine keeps
 pub record MachineInvariant (p : Program) (budget limit : ℕ) (c : Config) (es : List Entry) (left : ℕ) (out : Out) : Type 0 where
   pub well : WellFormed p
-  pub small : budget ≤ 1000000
+  pub small : budget ≤ most_steps
   pub space : 0 < limit
   pub facts : MachineFacts p budget limit c es left out
   pub table : TableFits c out
 
 -- there is a further number of each kind
 pub record HasRoom (c : Config) : Type 0 where
-  pub threads : c.next_thread < 4294967295
-  pub mailboxes : c.next_mailbox < 4294967295
-  pub messages : c.next_message < 4294967295
+  pub threads : c.next_thread < most_number
+  pub mailboxes : c.next_mailbox < most_number
+  pub messages : c.next_message < most_number

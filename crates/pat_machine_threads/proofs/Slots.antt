@@ -10,6 +10,7 @@ use Rattle.pat_reduce.specs.declared.threads.state.ThreadState.{ThreadState}
 use Rattle.pat_reduce.specs.threads.ThreadViews.{thread_view}
 use Rattle.pat_reduce.specs.Views.{threads_view}
 use Rattle.pat_machine_threads.specs.table.Entries.{Threads, entries_from}
+use Rattle.pat_limits.specs.Limits.{most_number, number_count}
 
 abbrev pub Slots : Type 0
 Slots = List (Option ThreadState)
@@ -118,7 +119,7 @@ some_there (Some own) s h = (own, refl)
 
 -- as many threads are there as the number says, and slots have numbers of 32 bits
 abbrev pub IsCounted : ℕ → Slots → Type 0
-IsCounted present slots = (present ≡ length (entries_from 0 slots)) × (length slots < 4294967296)
+IsCounted present slots = (present ≡ length (entries_from 0 slots)) × (length slots < number_count)
 
 -- what contracts see of slots
 abbrev pub seen : Slots → ℕ → Threads
@@ -151,7 +152,7 @@ module _ (slots : Slots) (spare : ℕ) (w : Threads) (t : ℕ) (is : seen slots 
       pub counted_set : (present : ℕ) → IsCounted present slots → IsCounted present after
       counted_set present counted = (
         counted.0 ∙ sym (count_set 0 t slots own s at) ∙ ap (λ l. length (entries_from 0 l)) (sym set),
-        subst (λ l. length l < 4294967296) (sym set) (subst (λ n. n < 4294967296) (sym (length-set slots t (Some s))) counted.1),
+        subst (λ l. length l < number_count) (sym set) (subst (λ n. n < number_count) (sym (length-set slots t (Some s))) counted.1),
       )
 
       pub as_many : length after ≡ w.made
@@ -168,7 +169,7 @@ module _ (slots : Slots) (spare : ℕ) (w : Threads) (t : ℕ) (is : seen slots 
           let same : length (entries_from 0 after) ≡ length (entries_from 0 (slice_set slots t None)) = ap (λ l. length (entries_from 0 l)) gone in
           let all = counted.0 in (
             omega (arith, fewer, same, all),
-            subst (λ l. length l < 4294967296) (sym gone) (subst (λ n. n < 4294967296) (sym (length-set slots t None)) counted.1),
+            subst (λ l. length l < number_count) (sym gone) (subst (λ n. n < number_count) (sym (length-set slots t None)) counted.1),
           )
 
 -- a further thread
@@ -185,7 +186,7 @@ module _ (slots : Slots) (spare : ℕ) (w : Threads) (is : seen slots spare ≡ 
       ∙ ap (λ (n : ℕ). record { entries = entries_from 0 slots ++ (length slots, s) ∷ []; made = n; spare = spare - 1 }) one_more
       ∙ ap (λ (q : Threads). record { entries = q.entries ++ (q.made, s) ∷ []; made = q.made + 1; spare = q.spare - 1 }) is
 
-  pub counted_added : w.made < 4294967295 → (present : ℕ) → IsCounted present slots → IsCounted (present + 1) after
+  pub counted_added : w.made < most_number → (present : ℕ) → IsCounted present slots → IsCounted (present + 1) after
   counted_added room present counted =
       let made : length slots ≡ w.made = ap (λ (q : Threads). q.made) is in
       let all = counted.0 in

@@ -7,6 +7,7 @@ use Rattle.pat_mailboxes.specs.queues.Chained.{nodes_of, no_chain, EndsWell, IsL
 use Rattle.pat_mailboxes.specs.declared.queues.chains.Chain.{Chain}
 use Rattle.pat_mailboxes.proofs.NodeLaws.{itself, below_by, apart_more, apart_queue, length-path, path_step, path_next, path_frame, path_append, path_unlink, times-append, times_at, split_at, sum_over_part, is_node, is_alone, not_elsewhere, apart_pop, apart_push, apart_append, apart_detach}
 use Rattle.pat_mailboxes.proofs.ChainLaws.{nodes_at, path_longer, queues_longer, get_no_chain, is_queue, queues_frame, queues_but, ends_set, ends_kept, not_there}
+use Rattle.pat_limits.specs.Limits.{number_count}
 
 take_next : (ns : List ℕ) (i : ℕ) → i < length ns → take (suc i) ns ≡ take i ns ++ slice_index ns i ∷ []
 take_next [] i h = absurd (omega arith)
@@ -63,7 +64,7 @@ module _ (links : List ℕ) (first spare : ℕ) (queues : List Chain) where
   spare_fits loose l = let all = l.apart.all in let size = length-path links spare first in omega arith
 
   -- one more node, which is free
-  pub added_node : IsLinked links first spare queues [] → length links + 1 < 4294967296 → let links' = links ++ first ∷ [] in
+  pub added_node : IsLinked links first spare queues [] → length links + 1 < number_count → let links' = links ++ first ∷ [] in
       IsLinked links' (length links) (spare + 1) queues [] × (map (nodes_of links') queues ≡ map (nodes_of links) queues)
   added_node l fits =
       let links' = links ++ first ∷ [] in
@@ -125,7 +126,7 @@ module _ (links : List ℕ) (first spare : ℕ) (queues : List Chain) where
         let here = ap (times k) own_nodes in
         is_node l.apart k (omega arith))
 
-    pub own_fits : (loose : List ℕ) → IsLinked links first spare queues loose → length loose + c.len < 4294967296
+    pub own_fits : (loose : List ℕ) → IsLinked links first spare queues loose → length loose + c.len < number_count
     own_fits loose l =
         let part = sum_over_part length (map (nodes_of links) queues) q refl in
         let size = own_length in

@@ -79,7 +79,7 @@ impl Mailboxes {
         }
         // Twice the room, so that messages move seldom.
         let more = self.room.max(16);
-        if self.room > 4294967295 - more {
+        if self.room > u32::MAX - more {
             return Err(AllocError);
         }
         self.store.pool.reserve(more)?;

@@ -21,9 +21,10 @@ use Rattle.pat_parser_phrases.specs.expressions.Operators.{operator_of, operator
 use Rattle.pat_parser_phrases.specs.expressions.Reads.{behind_operand, behind_expression, is_simple}
 use Rattle.pat_parser_phrases.specs.expressions.Views.{operand_view}
 use Rattle.pat_parser_phrases.specs.declared.expressions.expressions.ExpressionRead.{ExpressionRead}
+use Rattle.pat_limits.specs.Limits.{most_open}
 
 -- a bracket or an operator is opened where there is room
-pub opens : (o k n : ℕ) (y : m.State) (ts : Rest) → nat_lt (o + k) 255 ≡ true → after (m.Opens o k y) n ts ≡ answer y ts
+pub opens : (o k n : ℕ) (y : m.State) (ts : Rest) → nat_lt (o + k) most_open ≡ true → after (m.Opens o k y) n ts ≡ answer y ts
 opens o k n y ts room = ap (λ (b : Bool). m.and_ended ts.1 (m.placed n (m.within b y) (λ x. m.reads limits x (items_of ts.0)))) room
 
 -- the move behind an operand, by the operator that the token is
@@ -58,12 +59,12 @@ first_other fs o k s (tokens.Mark marks.RoundClose) w h = absurd (h refl)
 first_other fs o k s _ w h = refl
 
 -- an opening bracket, and behind it an expression
-pub in_bracket : (fs : List m.Frame) (o k s i : ℕ) (p : m.Pending) (n : ℕ) (c : Kind) (w : Span) (f : ℕ) (old new : Rest) → nat_lt (o + k) 255 ≡ true → suc o ≡ i → c ≢ tokens.Mark marks.RoundClose → answer (m.state m.Opened (m.AtExpr (m.InBracket p n o) ∷ fs) (suc o) k s) old ≡ after (m.opened_step (m.AtExpr (m.InBracket p n o) ∷ fs) (suc o) k s c w) f new → after (m.Opens o k (m.state m.Opened (m.AtExpr (m.InBracket p n o) ∷ fs) (suc o) k s)) n old ≡ after (m.want_step (m.AtExpr (m.InBracket p n o) ∷ fs) i k s m.nothing c w) f new
+pub in_bracket : (fs : List m.Frame) (o k s i : ℕ) (p : m.Pending) (n : ℕ) (c : Kind) (w : Span) (f : ℕ) (old new : Rest) → nat_lt (o + k) most_open ≡ true → suc o ≡ i → c ≢ tokens.Mark marks.RoundClose → answer (m.state m.Opened (m.AtExpr (m.InBracket p n o) ∷ fs) (suc o) k s) old ≡ after (m.opened_step (m.AtExpr (m.InBracket p n o) ∷ fs) (suc o) k s c w) f new → after (m.Opens o k (m.state m.Opened (m.AtExpr (m.InBracket p n o) ∷ fs) (suc o) k s)) n old ≡ after (m.want_step (m.AtExpr (m.InBracket p n o) ∷ fs) i k s m.nothing c w) f new
 in_bracket fs o k s i p n c w f old new room e other taken =
     opens o k n _ old room ∙ taken ∙ ap (λ (y : m.Move). after y f new) (opened_other _ (suc o) k s c w other) ∙ ap (λ (j : ℕ). after (m.want_step (m.AtExpr (m.InBracket p n o) ∷ fs) j k s m.nothing c w) f new) e
 
 -- the opening bracket of arguments, and behind it an argument
-pub in_arguments : (h : m.Head) (fs : List m.Frame) (o s : ℕ) (args : List TreeExpr) (n : ℕ) (c : Kind) (w : Span) (f : ℕ) (old new : Rest) → nat_lt (o + 0) 255 ≡ true → args ≡ [] → c ≢ tokens.Mark marks.RoundClose → answer (m.state m.FirstArg (m.AtExpr (m.InArgs h [] o) ∷ fs) (suc o) 0 s) old ≡ after (m.first_step (m.AtExpr (m.InArgs h [] o) ∷ fs) (suc o) 0 s c w) f new → after (m.Opens o 0 (m.state m.FirstArg (m.AtExpr (m.InArgs h [] o) ∷ fs) (suc o) 0 s)) n old ≡ after (m.want_step (m.AtExpr (m.InArgs h (map expr_view args) o) ∷ fs) (o + 1) 0 s m.nothing c w) f new
+pub in_arguments : (h : m.Head) (fs : List m.Frame) (o s : ℕ) (args : List TreeExpr) (n : ℕ) (c : Kind) (w : Span) (f : ℕ) (old new : Rest) → nat_lt (o + 0) most_open ≡ true → args ≡ [] → c ≢ tokens.Mark marks.RoundClose → answer (m.state m.FirstArg (m.AtExpr (m.InArgs h [] o) ∷ fs) (suc o) 0 s) old ≡ after (m.first_step (m.AtExpr (m.InArgs h [] o) ∷ fs) (suc o) 0 s c w) f new → after (m.Opens o 0 (m.state m.FirstArg (m.AtExpr (m.InArgs h [] o) ∷ fs) (suc o) 0 s)) n old ≡ after (m.want_step (m.AtExpr (m.InArgs h (map expr_view args) o) ∷ fs) (o + 1) 0 s m.nothing c w) f new
 in_arguments h fs o s args n c w f old new room none other taken =
     let one : suc o ≡ o + 1 = omega arith in
     opens o 0 n _ old room ∙ taken ∙ ap (λ (y : m.Move). after y f new) (first_other _ (suc o) 0 s c w other) ∙ ap (λ (j : ℕ). after (m.want_step (m.AtExpr (m.InArgs h [] o) ∷ fs) j 0 s m.nothing c w) f new) one ∙ ap (λ (es : List TreeExpr). after (m.want_step (m.AtExpr (m.InArgs h (map expr_view es) o) ∷ fs) (o + 1) 0 s m.nothing c w) f new) (sym none)

@@ -6,17 +6,18 @@ use Rattle.pat_semantics_spec.specs.Programs.{Program, is_free, keep}
 use Rattle.pat_semantics_spec.specs.Configs.{Control, Running}
 use Rattle.pat_semantics_spec.specs.Steps.{numbered, at_node}
 use Rattle.pat_reduce_values.specs.Environments.{parameter, parameters_from}
+use Rattle.pat_limits.specs.Limits.{number_count}
 
-module _ (p : Program) (n : ℕ) (small : (x : ℕ) → is_free p x n ≡ true → x < 4294967296) where
+module _ (p : Program) (n : ℕ) (small : (x : ℕ) → is_free p x n ≡ true → x < number_count) where
   -- a value past the last number isn't kept
   first_kept : (k : ℕ) (v : Value) (rest : Env) → keep p n (parameter k v ++ rest) ≡ keep p n ((k, v) ∷ rest)
   first_kept k v rest =
       (elim (is_free p k n) as (λ b. is_free p k n ≡ b → filter (λ b. is_free p b.0 n) (parameter k v ++ rest) ≡ (if b then (k, v) ∷ keep p n rest else keep p n rest)) [
         | true ↦ λ is.
-            ap (λ t. filter (λ b. is_free p b.0 n) ((if t then (k, v) ∷ [] else []) ++ rest)) (lt-ltb k 4294967296 (small k is))
+            ap (λ t. filter (λ b. is_free p b.0 n) ((if t then (k, v) ∷ [] else []) ++ rest)) (lt-ltb k number_count (small k is))
             ∙ ap (λ t. if t then (k, v) ∷ keep p n rest else keep p n rest) is
         | false ↦ λ is.
-            (elim (nat_lt k 4294967296) as (λ t. filter (λ b. is_free p b.0 n) ((if t then (k, v) ∷ [] else []) ++ rest) ≡ keep p n rest) [
+            (elim (nat_lt k number_count) as (λ t. filter (λ b. is_free p b.0 n) ((if t then (k, v) ∷ [] else []) ++ rest) ≡ keep p n rest) [
               | true ↦ ap (λ t. if t then (k, v) ∷ keep p n rest else keep p n rest) is
               | false ↦ refl
             ])

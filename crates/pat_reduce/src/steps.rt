@@ -11,6 +11,7 @@ ghost use Rattle.pat_reduce.specs.declared.threads.state.ThreadState.{ThreadStat
 ghost use Rattle.pat_reduce.specs.Acts.{redex_freed};
 ghost use Rattle.pat_reduce_values.specs.Results.{Gives, StepGives};
 ghost use Rattle.pat_reduce.specs.Places.{IsPlace};
+ghost use Rattle.pat_limits.specs.Limits.{most_number};
 
 use crate::threads::{
     Control, Message, ThreadState, after_receive, guard_of, is_over, makes_mailbox, next_line,
@@ -57,9 +58,9 @@ impl Config {
 
     /// Takes a step, where there is a further number for what it makes. An `Err` changes nothing.
     pub fn step(&mut self, alloc: Global, code: &Executable, step: &Step) -> Result<(), StepError>
-        requires mailboxes { step.now.act ≡ New → self.old.next_mailbox < 4294967295 }
-        requires messages { step.now.act ≡ Send → self.old.next_message < 4294967295 }
-        requires threads { step.now.act ≡ Spawn → self.old.next_thread < 4294967295 }
+        requires mailboxes { step.now.act ≡ New → self.old.next_mailbox < most_number }
+        requires messages { step.now.act ≡ Send → self.old.next_message < most_number }
+        requires threads { step.now.act ≡ Spawn → self.old.next_thread < most_number }
         ensures { StepGives config_view (after_step (program_view code.now.program) (config_view self.old) (step_view step.now)) self.old self.new result }
     {
         match place_of(self.threads.as_slice(), step.thread) {
@@ -77,9 +78,9 @@ impl Config {
         place: usize,
     ) -> Result<(), StepError>
         requires place { IsPlace self.old.threads step.now.thread place }
-        requires mailboxes { step.now.act ≡ New → self.old.next_mailbox < 4294967295 }
-        requires messages { step.now.act ≡ Send → self.old.next_message < 4294967295 }
-        requires threads { step.now.act ≡ Spawn → self.old.next_thread < 4294967295 }
+        requires mailboxes { step.now.act ≡ New → self.old.next_mailbox < most_number }
+        requires messages { step.now.act ≡ Send → self.old.next_message < most_number }
+        requires threads { step.now.act ≡ Spawn → self.old.next_thread < most_number }
         ensures { StepGives config_view (after_step (program_view code.now.program) (config_view self.old) (step_view step.now)) self.old self.new result }
     {
         match step.act {
@@ -116,7 +117,7 @@ impl Config {
         place: usize,
     ) -> Result<(), StepError>
         requires place { IsPlace self.old.threads thread place }
-        requires room { self.old.next_mailbox < 4294967295 }
+        requires room { self.old.next_mailbox < most_number }
         ensures { StepGives config_view (after_step (program_view code.now.program) (config_view self.old) (record { thread = thread; act = ActNew })) self.old self.new result }
     {
         let state = state_at(self.threads.as_slice(), thread, place);
@@ -139,7 +140,7 @@ impl Config {
         place: usize,
     ) -> Result<(), StepError>
         requires place { IsPlace self.old.threads thread place }
-        requires room { self.old.next_message < 4294967295 }
+        requires room { self.old.next_message < most_number }
         ensures { StepGives config_view (after_step (program_view code.now.program) (config_view self.old) (record { thread = thread; act = ActSend })) self.old self.new result }
     {
         let state = state_at(self.threads.as_slice(), thread, place);
@@ -164,7 +165,7 @@ impl Config {
         place: usize,
     ) -> Result<(), StepError>
         requires place { IsPlace self.old.threads thread place }
-        requires room { self.old.next_thread < 4294967295 }
+        requires room { self.old.next_thread < most_number }
         ensures { StepGives config_view (after_step (program_view code.now.program) (config_view self.old) (record { thread = thread; act = ActSpawn })) self.old self.new result }
     {
         let state = state_at(self.threads.as_slice(), thread, place);

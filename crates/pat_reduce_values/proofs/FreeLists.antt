@@ -12,6 +12,7 @@ use Rattle.pat_core.specs.declared.program.Program.{Program as CodeProgram}
 use Rattle.pat_core.specs.Views.{core_view, node_view, program_view}
 use Rattle.pat_reduce_values.specs.declared.programs.variables.Variables.{Variables}
 use Rattle.pat_reduce_values.specs.programs.FreeVariables.{is_in, is_listed}
+use Rattle.pat_limits.specs.Limits.{number_count}
 
 set_here : (xs : List Variables) (n : ℕ) (v : Variables) → n < length xs → slice_get (slice_set xs n v) n ≡ Some v
 set_here xs n v within =
@@ -81,10 +82,10 @@ core_there q nodes n d same within is =
     ap (option_map (λ e. e.core)) (slice_get-map node_view q.nodes n)
     ∙ ap (λ o. option_map (λ e. e.core) (option_map node_view o)) (ap (λ l. slice_get l n) (sym same) ∙ slice_get-get_or nodes n d within ∙ ap Some (sym is))
 
-small_in : (o : Option Variables) (x : ℕ) → is_in o x ≡ true → x < 4294967296
+small_in : (o : Option Variables) (x : ℕ) → is_in o x ≡ true → x < number_count
 small_in None x h = absurd cc
 small_in (Some own) x h = own.small x h
 
 -- a variable that is free somewhere is a 32-bit number
-pub small_free : (p : Program) (free : List Variables) → ((x n : ℕ) → is_listed free n x ≡ is_free p x n) → (x n : ℕ) → is_free p x n ≡ true → x < 4294967296
+pub small_free : (p : Program) (free : List Variables) → ((x n : ℕ) → is_listed free n x ≡ is_free p x n) → (x n : ℕ) → is_free p x n ≡ true → x < number_count
 small_free p free listed x n h = small_in (slice_get free n) x (listed x n ∙ h)

@@ -4,6 +4,7 @@ use Rattle.pat_primitives.specs.Values.{Value, Env, bind}
 use Rattle.pat_primitives.specs.Programs.{Program, is_among, option_list, keep}
 use Rattle.pat_reduce_values.specs.declared.values.Value.{Value as CodeValue}
 use Rattle.pat_reduce_values.specs.ValueViews.{env_view}
+use Rattle.pat_limits.specs.Limits.{number_count}
 
 -- the values of just the node's free variables but the one that a let binds
 abbrev pub keep_but : Program → ℕ → Option ℕ → Env → Env
@@ -11,7 +12,7 @@ keep_but p n y env = filter (λ b. not (is_among b.0 (option_list y))) (keep p n
 
 -- the value under its number, where that is one of 32 bits
 abbrev pub parameter : ℕ → Value → Env
-parameter k v = if nat_lt k 4294967296 then (k, v) ∷ [] else []
+parameter k v = if nat_lt k number_count then (k, v) ∷ [] else []
 
 -- the values under the 32-bit numbers from k on
 abbrev pub parameters_from : ℕ → List Value → Env

@@ -8,6 +8,7 @@ ghost use Rattle.pat_reduce_values.specs.Results.{StepGives};
 ghost use Rattle.pat_reduce.specs.declared.history.Act.TheVariants.{New, Send, Spawn};
 ghost use Rattle.pat_reduce.specs.Views.{act_view, config_view, entry_view, step_view};
 ghost use Rattle.pat_replay.specs.Replays.{HasTaken, ReplayGives, EntryGives, LocalsGive, SharedGives};
+ghost use Rattle.pat_limits.specs.Limits.{most_number};
 
 use crate::error::ReplayError;
 use crate::places::place_among;
@@ -17,7 +18,7 @@ use std::alloc::Global;
 
 /// The configuration that a history leads to, from the start of the program.
 pub fn replay(alloc: Global, code: &Executable, entries: &[Entry]) -> Result<Config, ReplayError>
-    requires { length entries.now < 4294967295 }
+    requires { length entries.now < most_number }
     ensures { ReplayGives (program_view code.now.program) (map entry_view entries.now) result }
 {
     let mut config = Config::start(alloc, code)?;
@@ -109,9 +110,9 @@ fn take_step(
     step: &Step,
 ) -> Result<(), StepError>
     requires ordered { IsOrdered (config_view config.old) }
-    requires mailboxes { step.now.act ≡ New → config.old.next_mailbox < 4294967295 }
-    requires messages { step.now.act ≡ Send → config.old.next_message < 4294967295 }
-    requires threads { step.now.act ≡ Spawn → config.old.next_thread < 4294967295 }
+    requires mailboxes { step.now.act ≡ New → config.old.next_mailbox < most_number }
+    requires messages { step.now.act ≡ Send → config.old.next_message < most_number }
+    requires threads { step.now.act ≡ Spawn → config.old.next_thread < most_number }
     ensures { StepGives config_view (after_step (program_view code.now.program) (config_view config.old) (step_view step.now)) config.old config.new result }
 {
     match place_among(config.threads.as_slice(), step.thread) {

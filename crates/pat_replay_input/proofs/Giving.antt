@@ -20,6 +20,8 @@ use Rattle.pat_front.specs.declared.verdict.Verdict.TheVariants as verdict
 use Rattle.pat_replay_input.specs.declared.histories.Replayed.{Replayed}
 use Rattle.pat_replay_input.specs.Histories.{IsHistoryPart, HasReplay, HasBadLine, HasBadEntry, Unreplayed, Replays, RefusesText, IsReplayRefusal}
 use Rattle.pat_replay_input.specs.Gives.{BytesGive, TextGives, RefusesPart, PartGives}
+use Rattle.pat_limits.specs.Limits.{most_number}
+use Rattle.pat_input.specs.Inputs.{whole_limit}
 
 -- ---- few entries
 
@@ -31,7 +33,7 @@ lines_few bytes [] rest h = omega arith
 lines_few bytes (e ∷ es) rest (r, there, read, more) = omega (arith, shorter bytes r there, lines_few r.1 es rest more)
 
 -- a history has no more entries than its text has bytes
-pub entries_few : (part : List ℕ) (from : ℕ) (es : List CodeEntry) → ReadsAs part (map entry_view es) → from + length part ≤ 67108864 → length es < 4294967295
+pub entries_few : (part : List ℕ) (from : ℕ) (es : List CodeEntry) → ReadsAs part (map entry_view es) → from + length part ≤ whole_limit → length es < most_number
 entries_few part from es read small =
     let first = shorter part (marker, read.body) read.first in
     let few = lines_few read.body (map entry_view es) [] read.lines in

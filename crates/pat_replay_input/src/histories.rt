@@ -5,6 +5,8 @@ ghost use Rattle.pat_core.specs.Views.{program_view};
 ghost use Rattle.pat_reduce.specs.Views.{entry_view};
 ghost use Rattle.pat_replay_input.specs.Histories.{IsHistoryPart};
 ghost use Rattle.pat_replay_input.specs.Gives.{BytesGive, TextGives, PartGives, EntriesGive};
+ghost use Rattle.pat_limits.specs.Limits.{most_number};
+ghost use Rattle.pat_input.specs.Inputs.{whole_limit};
 
 use pat_core::Program;
 use pat_front::{FrontError, Verdict};
@@ -27,7 +29,7 @@ pub struct Replayed {
 /// The bytes are the text of a program, and behind it that of a history: what this leads to.
 pub fn replay_bytes(alloc: Global, bytes: &[u8]) -> Result<Replayed, FrontError>
     ensures gives { BytesGive bytes.now result }
-    ensures few { IfOk result (λ r. length r.entries.items < 4294967295) }
+    ensures few { IfOk result (λ r. length r.entries.items < most_number) }
 {
     match program_before(alloc, bytes, b"%%history") {
         Ok((program, at)) => replay_text(alloc, program, &bytes[at..], at as u32),
@@ -43,9 +45,9 @@ fn replay_text(
     from: u32,
 ) -> Result<Replayed, FrontError>
     requires well_formed { WellFormed (program_view program) }
-    requires room { from + length text.now ≤ 67108864 }
+    requires room { from + length text.now ≤ whole_limit }
     ensures gives { TextGives (program_view program) from text.now result }
-    ensures few { IfOk result (λ r. length r.entries.items < 4294967295) }
+    ensures few { IfOk result (λ r. length r.entries.items < most_number) }
 {
     match Executable::new(alloc, program) {
         Ok(code) => replay_part(alloc, code, before_output(text), from),
@@ -70,9 +72,9 @@ fn replay_part(
     part: &[u8],
     from: u32,
 ) -> Result<Replayed, FrontError>
-    requires { from + length part.now ≤ 67108864 }
+    requires { from + length part.now ≤ whole_limit }
     ensures gives { PartGives (program_view code.program) from part.now result }
-    ensures few { IfOk result (λ r. length r.entries.items < 4294967295) }
+    ensures few { IfOk result (λ r. length r.entries.items < most_number) }
 {
     match read(alloc, part, from) {
         Ok(entries) => match replay_entries(alloc, &code, &entries) {
@@ -90,7 +92,7 @@ fn replay_part(
 
 // What the entries lead to.
 fn replay_entries(alloc: Global, code: &Executable, entries: &[Entry]) -> Result<Config, FrontError>
-    requires { length entries.now < 4294967295 }
+    requires { length entries.now < most_number }
     ensures { EntriesGive (program_view code.now.program) (map entry_view entries.now) result }
 {
     match replay(alloc, code, entries) {

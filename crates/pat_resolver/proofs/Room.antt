@@ -10,13 +10,14 @@ use Rattle.pat_resolver.specs.Steps.{nodes_in_all}
 use Rattle.pat_tree.specs.declared.tree.Param.{Param}
 use Rattle.pat_tree.specs.declared.tree.Decl.{Decl}
 use Rattle.pat_tree.specs.Views.{param_view, decl_view}
+use Rattle.pat_limits.specs.Limits.{number_count}
 
 params_within : (ps : List tree.Param) → length ps ≤ sum_of param_size ps
 params_within [] = omega arith
 params_within (p ∷ ps) = omega (arith, params_within ps)
 
 -- a function's variables
-pub names_few : (x : tree.Name) (ps slice : List Param) (r : tree.WrittenType) (m : tree.Term) → slice ≡ ps → decl_size (tree.DefDecl x (map param_view ps) r m) < 4294967296 → length slice + binders_in m < 4294967296
+pub names_few : (x : tree.Name) (ps slice : List Param) (r : tree.WrittenType) (m : tree.Term) → slice ≡ ps → decl_size (tree.DefDecl x (map param_view ps) r m) < number_count → length slice + binders_in m < number_count
 names_few x ps slice r m same small =
     let many = params_within (map param_view ps) in
     let long = length-map ps param_view in

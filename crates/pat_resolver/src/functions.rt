@@ -17,6 +17,7 @@ ghost use Rattle.pat_resolver_heads.specs.Names.{names_view};
 ghost use Rattle.pat_resolver_heads.specs.Views.{heads_view};
 ghost use Rattle.pat_resolver.specs.numbering.Kinds.{HasAt};
 ghost use Rattle.pat_resolver.specs.Steps.{definition_view, body_findings, function_of, function_nodes, nodes_in_all};
+ghost use Rattle.pat_limits.specs.Limits.{most_number, number_count};
 
 use crate::heads::{Head, bind_params, number_head};
 use crate::numbering::{Context, Numbering};
@@ -73,8 +74,8 @@ fn number<'a>(
     kind: Kind,
     body: &'a Term,
 ) -> Result<(), AllocError>
-    requires room { length numbering.old.nodes + nodes_in (term_view body.now) < 4294967296 }
-    requires names { params + binders_in (term_view body.now) < 4294967296 }
+    requires room { length numbering.old.nodes + nodes_in (term_view body.now) < number_count }
+    requires names { params + binders_in (term_view body.now) < number_count }
     requires count { length numbering.old.scope ≡ params }
     requires kinds { HasAt (map kind_view context.now.kinds.now) params (vars_of (heads_view context.now.heads.now) (scope_view numbering.old.scope) params (term_view body.now)) }
     ensures nodes { OnOk result (map node_view numbering.new.nodes ≡ map node_view numbering.old.nodes ++ nodes_of (heads_view context.now.heads.now) context.now.function (scope_view numbering.old.scope) (length numbering.old.nodes) params (kind_view kind) (term_view body.now)) }
@@ -184,7 +185,7 @@ pub fn resolve_functions<'a>(
     heads: &Heads,
     decls: &'a [Decl],
 ) -> Result<Resolution<'a>, ResolveError>
-    requires { tree_size (map decl_view decls.now) < 4294967295 }
+    requires { tree_size (map decl_view decls.now) < most_number }
     ensures found { Meets result (bodies_findings (names_view heads.now.names) (heads_view heads.now) (definitions_of (map decl_view decls.now))) }
     ensures functions { IfOk result (λ r. map function_view r.functions ≡ functions_from (names_view heads.now.names) (heads_view heads.now) 0 (definitions_of (map decl_view decls.now))) }
     ensures function_places { IfOk result (λ r. map function_places r.functions ≡ map written_places (definitions_of (map decl_view decls.now))) }
@@ -246,7 +247,7 @@ fn check_decl<'a>(
 
 /// Examines the bodies of all functions in the order of the text.
 pub fn check_functions(alloc: Global, heads: &Heads, decls: &[Decl]) -> Result<(), ResolveError>
-    requires { tree_size (map decl_view decls.now) < 4294967295 }
+    requires { tree_size (map decl_view decls.now) < most_number }
     ensures { Meets result (bodies_findings (names_view heads.now.names) (heads_view heads.now) (definitions_of (map decl_view decls.now))) }
 {
     let mut scope = ScopeTable::new(alloc);

@@ -16,6 +16,7 @@ ghost use Rattle.pat_resolver_heads.specs.Names.{names_view};
 ghost use Rattle.pat_resolver_heads.specs.Views.{heads_view};
 ghost use Rattle.pat_resolver_heads.specs.HeadPlaces.{interface_places};
 ghost use Rattle.pat_resolver.specs.Answers.{Explains};
+ghost use Rattle.pat_limits.specs.Limits.{most_number};
 
 use crate::entry::find_main;
 use crate::functions::{Resolution, check_functions, resolve_functions};
@@ -27,7 +28,7 @@ use std::alloc::Global;
 /// The program of a tree whose text ends at `end`, with the places of its parts, or the first rule that the tree breaks, with
 /// its place. Interfaces, functions and nodes are numbered in the order of the text. Want of memory claims nothing.
 pub fn resolve(alloc: Global, tree: &Tree, end: u32) -> Result<Program, ResolveError>
-    requires small { tree_size (tree_view tree.now) < 4294967295 }
+    requires small { tree_size (tree_view tree.now) < most_number }
     // Nothing is found in a tree that has a program; else what is found first is answered.
     ensures found { Meets result (findings end (tree_view tree.now)) }
     ensures program { IfOk result (λ p. program_view p ≡ numbered (tree_view tree.now)) }
@@ -44,7 +45,7 @@ pub fn resolve(alloc: Global, tree: &Tree, end: u32) -> Result<Program, ResolveE
 /// Whether a tree whose text ends at `end` has a program: Ok exactly where nothing is found in it, else the first rule that it
 /// breaks, with its place. No program is made. Want of memory claims nothing.
 pub fn examine(alloc: Global, tree: &Tree, end: u32) -> Result<(), ResolveError>
-    requires small { tree_size (tree_view tree.now) < 4294967295 }
+    requires small { tree_size (tree_view tree.now) < most_number }
     ensures found { Meets result (findings end (tree_view tree.now)) }
     // The same in other words.
     ensures resolved { OnOk result (Resolves end (tree_view tree.now) (numbered (tree_view tree.now))) }
@@ -54,7 +55,7 @@ pub fn examine(alloc: Global, tree: &Tree, end: u32) -> Result<(), ResolveError>
 }
 
 fn sound_tree(alloc: Global, tree: &Tree, end: u32) -> Result<(), ResolveError>
-    requires { tree_size (tree_view tree.now) < 4294967295 }
+    requires { tree_size (tree_view tree.now) < most_number }
     ensures { Meets result (findings end (tree_view tree.now)) }
 {
     let (heads, _main) = heads_and_main(alloc, tree, end)?;
@@ -62,7 +63,7 @@ fn sound_tree(alloc: Global, tree: &Tree, end: u32) -> Result<(), ResolveError>
 }
 
 fn whole_tree(alloc: Global, tree: &Tree, end: u32) -> Result<Program, ResolveError>
-    requires small { tree_size (tree_view tree.now) < 4294967295 }
+    requires small { tree_size (tree_view tree.now) < most_number }
     ensures found { Meets result (findings end (tree_view tree.now)) }
     ensures program { IfOk result (λ p. program_view p ≡ numbered (tree_view tree.now)) }
     ensures places { IfOk result (λ p. places_view p ≡ places (tree_view tree.now)) }
@@ -78,7 +79,7 @@ fn heads_and_main<'a>(
     tree: &'a Tree,
     end: u32,
 ) -> Result<(Heads<'a>, u32), ResolveError>
-    requires { tree_size (tree_view tree.now) < 4294967295 }
+    requires { tree_size (tree_view tree.now) < most_number }
     ensures found { Meets result (heads_findings (interface_names (tree_view tree.now)) [] [] (tree_view tree.now) ++ main_findings end (main_of (tree_view tree.now))) }
     ensures names { IfOk result (λ r. names_view r.0.names ≡ interface_names (tree_view tree.now)) }
     ensures heads { IfOk result (λ r. heads_view r.0 ≡ heads_of (tree_view tree.now)) }

@@ -12,6 +12,7 @@ ghost use Rattle.pat_resolver_heads.specs.Views.{heads_view};
 ghost use Rattle.pat_resolver_bodies.specs.Needs.{needed, term_need, clause_need, clauses_need, of_bodies, is_let};
 ghost use Rattle.pat_resolver_bodies.specs.Above.{IsAbove};
 ghost use Rattle.pat_resolver_bodies.specs.Steps.{bound_findings, bound_scope, bound_binders, bound_vars, bound_places, clause_findings, clause_kind, clause_binders, clause_vars, clause_places};
+ghost use Rattle.pat_limits.specs.Limits.{number_count};
 
 use crate::expressions::{check_expr, check_parts, check_shown};
 use crate::guards::{close_guard, open_guard, open_receive};
@@ -34,7 +35,7 @@ pub fn check_body<'a>(
     need: Kind,
     body: &'a Term,
 ) -> Result<(), ResolveError>
-    requires { length variables.old.kinds + binders_in (term_view body.now) < 4294967296 }
+    requires { length variables.old.kinds + binders_in (term_view body.now) < number_count }
     ensures found { Meets result (term_findings (heads_view heads.now) (scope_view scope.old) (length variables.old.kinds) (kind_view need) (term_view body.now)) }
     ensures kinds { OnOk result (map kind_view variables.new.kinds ≡ map kind_view variables.old.kinds ++ vars_of (heads_view heads.now) (scope_view scope.old) (length variables.old.kinds) (term_view body.now)) }
     ensures spans { OnOk result (map span_view variables.new.spans ≡ map span_view variables.old.spans ++ var_places (term_view body.now)) }
@@ -54,7 +55,7 @@ fn check_term<'a>(
     need: Option<Kind>,
     term: &'a Term,
 ) -> Result<Kind, ResolveError>
-    requires { length variables.old.kinds + binders_in (term_view term.now) < 4294967296 }
+    requires { length variables.old.kinds + binders_in (term_view term.now) < number_count }
     ensures found { Meets result (term_findings (heads_view heads.now) (scope_view scope.old) (length variables.old.kinds) (term_need (heads_view heads.now) (scope_view scope.old) (length variables.old.kinds) (option_map kind_view need) (term_view term.now)) (term_view term.now)) }
     ensures kind { IfOk result (λ k. kind_view k ≡ term_need (heads_view heads.now) (scope_view scope.old) (length variables.old.kinds) (option_map kind_view need) (term_view term.now)) }
     ensures kinds { OnOk result (map kind_view variables.new.kinds ≡ map kind_view variables.old.kinds ++ vars_of (heads_view heads.now) (scope_view scope.old) (length variables.old.kinds) (term_view term.now)) }
@@ -83,7 +84,7 @@ fn check_bound<'a>(
     name: &'a Option<Name>,
     bound: &'a Term,
 ) -> Result<(), ResolveError>
-    requires { length variables.old.kinds + bound_binders (option_map name_view name.now) (term_view bound.now) < 4294967296 }
+    requires { length variables.old.kinds + bound_binders (option_map name_view name.now) (term_view bound.now) < number_count }
     ensures found { Meets result (bound_findings (heads_view heads.now) (scope_view scope.old) (length variables.old.kinds) (option_map name_view name.now) (term_view bound.now)) }
     ensures kinds { OnOk result (map kind_view variables.new.kinds ≡ map kind_view variables.old.kinds ++ bound_vars (heads_view heads.now) (scope_view scope.old) (length variables.old.kinds) (option_map name_view name.now) (term_view bound.now)) }
     ensures spans { OnOk result (map span_view variables.new.spans ≡ map span_view variables.old.spans ++ bound_places (option_map name_view name.now) (term_view bound.now)) }
@@ -111,7 +112,7 @@ fn check_named<'a>(
     name: &'a Name,
     bound: &'a Term,
 ) -> Result<(), ResolveError>
-    requires { length variables.old.kinds + bound_binders (Some (name_view name.now)) (term_view bound.now) < 4294967296 }
+    requires { length variables.old.kinds + bound_binders (Some (name_view name.now)) (term_view bound.now) < number_count }
     ensures found { Meets result (bound_findings (heads_view heads.now) (scope_view scope.old) (length variables.old.kinds) (Some (name_view name.now)) (term_view bound.now)) }
     ensures kinds { OnOk result (map kind_view variables.new.kinds ≡ map kind_view variables.old.kinds ++ bound_vars (heads_view heads.now) (scope_view scope.old) (length variables.old.kinds) (Some (name_view name.now)) (term_view bound.now)) }
     ensures spans { OnOk result (map span_view variables.new.spans ≡ map span_view variables.old.spans ++ bound_places (Some (name_view name.now)) (term_view bound.now)) }
@@ -139,7 +140,7 @@ fn check_form<'a>(
     term: &'a Term,
 ) -> Result<Kind, ResolveError>
     requires shape { is_let (term_view term.now) ≡ false }
-    requires fits { length variables.old.kinds + binders_in (term_view term.now) < 4294967296 }
+    requires fits { length variables.old.kinds + binders_in (term_view term.now) < number_count }
     ensures found { Meets result (term_findings (heads_view heads.now) (scope_view scope.old) (length variables.old.kinds) (term_need (heads_view heads.now) (scope_view scope.old) (length variables.old.kinds) (option_map kind_view need) (term_view term.now)) (term_view term.now)) }
     ensures kind { IfOk result (λ k. kind_view k ≡ term_need (heads_view heads.now) (scope_view scope.old) (length variables.old.kinds) (option_map kind_view need) (term_view term.now)) }
     ensures kinds { OnOk result (map kind_view variables.new.kinds ≡ map kind_view variables.old.kinds ++ vars_of (heads_view heads.now) (scope_view scope.old) (length variables.old.kinds) (term_view term.now)) }
@@ -202,7 +203,7 @@ fn check_clauses<'a>(
     need: Option<Kind>,
     clauses: &'a [TreeClause],
 ) -> Result<Option<Kind>, ResolveError>
-    requires { length variables.old.kinds + clauses_binders_in (listed (map clause_view clauses.now)) < 4294967296 }
+    requires { length variables.old.kinds + clauses_binders_in (listed (map clause_view clauses.now)) < number_count }
     ensures found { Meets result (clauses_findings (heads_view heads.now) interface (scope_view scope.old) (length variables.old.kinds) (clauses_need (heads_view heads.now) interface (scope_view scope.old) (length variables.old.kinds) (option_map kind_view need) (listed (map clause_view clauses.now))) no_earlier (listed (map clause_view clauses.now))) }
     ensures kind { IfOk result (λ o. option_map kind_view o ≡ of_bodies (has_body (listed (map clause_view clauses.now))) (clauses_need (heads_view heads.now) interface (scope_view scope.old) (length variables.old.kinds) (option_map kind_view need) (listed (map clause_view clauses.now)))) }
     ensures kinds { OnOk result (map kind_view variables.new.kinds ≡ map kind_view variables.old.kinds ++ clauses_vars_of (heads_view heads.now) interface (scope_view scope.old) (length variables.old.kinds) (listed (map clause_view clauses.now))) }
@@ -232,7 +233,7 @@ fn check_clause<'a>(
     need: Option<Kind>,
     clause: &'a TreeClause,
 ) -> Result<Option<Kind>, ResolveError>
-    requires { length variables.old.kinds + clause_binders (clause_view clause.now) < 4294967296 }
+    requires { length variables.old.kinds + clause_binders (clause_view clause.now) < number_count }
     ensures found { Meets result (clause_findings (heads_view heads.now) interface (scope_view scope.old) (length variables.old.kinds) (clause_need (heads_view heads.now) interface (scope_view scope.old) (length variables.old.kinds) (option_map kind_view need) (clause_view clause.now)) (clause_view clause.now)) }
     ensures kind { IfOk result (λ o. option_map kind_view o ≡ option_map (needed (option_map kind_view need)) (clause_kind (heads_view heads.now) interface (scope_view scope.old) (length variables.old.kinds) (clause_view clause.now))) }
     ensures kinds { OnOk result (map kind_view variables.new.kinds ≡ map kind_view variables.old.kinds ++ clause_vars (heads_view heads.now) interface (scope_view scope.old) (length variables.old.kinds) (clause_view clause.now)) }

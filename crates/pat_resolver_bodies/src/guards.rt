@@ -12,6 +12,7 @@ ghost use Rattle.pat_resolver_heads.specs.Views.{heads_view};
 ghost use Rattle.pat_resolver_heads.specs.results.Results.{Meets, Refuses, first_of};
 ghost use Rattle.pat_resolver_bodies.specs.Above.{IsAbove};
 ghost use Rattle.pat_resolver_bodies.specs.Needs.{needed};
+ghost use Rattle.pat_limits.specs.Limits.{number_count};
 
 use crate::kinds::need_kind;
 use crate::lookups::{check_tag, mailbox_named};
@@ -69,7 +70,7 @@ pub fn open_receive<'a>(
     names: &'a [Name],
     from: &'a Name,
 ) -> Result<(), ResolveError>
-    requires { length variables.old.kinds + length names.now + 1 < 4294967296 }
+    requires { length variables.old.kinds + length names.now + 1 < number_count }
     ensures found { Meets result (tag_findings (name_view tag.now) (length (map name_view names.now)) (tag_named (heads_view heads.now) interface tag.now.text) ++ names_findings [] ((map name_view names.now) ++ name_view from.now ∷ [])) }
     ensures scope { OnOk result (scope_view scope.new ≡ clause_scope (heads_view heads.now) interface (scope_view scope.old) (length variables.old.kinds) (name_view tag.now) (map name_view names.now) (name_view from.now)) }
     ensures above { OnOk result (IsAbove scope.old scope.new) }

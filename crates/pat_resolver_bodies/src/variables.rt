@@ -6,6 +6,7 @@ ghost use Rattle.pat_resolver_spec.specs.Numbering.{kinds_for};
 ghost use Rattle.pat_core.specs.Views.{kind_view, sort_view};
 ghost use Rattle.pat_resolver_heads.specs.tables.Views.{scope_view};
 ghost use Rattle.pat_tree.specs.Views.{span_view, name_view};
+ghost use Rattle.pat_limits.specs.Limits.{number_count};
 
 use crate::kinds::kind_of_sort;
 use pat_core::{Kind, Sort};
@@ -29,7 +30,7 @@ pub fn bind<'a>(
     name: &'a Name,
     kind: Kind,
 ) -> Result<(), AllocError>
-    requires { length variables.old.kinds < 4294967296 }
+    requires { length variables.old.kinds < number_count }
     ensures scope { OnOk result (scope.new ≡ record { name = name.now.text; number = length variables.old.kinds; kind = kind } ∷ scope.old) }
     ensures kinds { OnOk result (variables.new.kinds ≡ variables.old.kinds ++ kind ∷ []) }
     ensures spans { OnOk result (variables.new.spans ≡ variables.old.spans ++ name.now.span ∷ []) }
@@ -47,7 +48,7 @@ pub fn bind_names<'a>(
     sorts: &[Sort],
 ) -> Result<(), AllocError>
     requires same { length names.now ≡ length sorts.now }
-    requires fits { length variables.old.kinds + length names.now < 4294967296 }
+    requires fits { length variables.old.kinds + length names.now < number_count }
     ensures scope { OnOk result (scope_view scope.new ≡ names_bound (length variables.old.kinds) (map name_view names.now) (map kind_of (map sort_view sorts.now)) (scope_view scope.old)) }
     ensures behind { OnOk result (drop (length names.now) scope.new ≡ scope.old) }
     ensures more { OnOk result (length scope.new ≡ length scope.old + length names.now) }

@@ -7,16 +7,17 @@ use Rattle.pat_words_spec.specs.Sizes.{size_of, levels_of}
 use Rattle.pat_words_laws.proofs.PatternLaws.{is_zero_same, is_one_same, pat_eq_same}
 use Rattle.pat_inclusion_spec.specs.ClosedForms.{is_small}
 use Rattle.pat_solve_bounded.specs.Limits.{within, sum_within, prod_within, star_within, zero_if}
+use Rattle.pat_limits.specs.Limits.{most_levels, most_nodes}
 
 -- ---- sizes of small patterns
 
-pub sizes : (e : Pat) → is_small e ≡ true → (size_of e ≤ 65536) × (levels_of e ≤ 16384)
+pub sizes : (e : Pat) → is_small e ≡ true → (size_of e ≤ most_nodes) × (levels_of e ≤ most_levels)
 sizes e h =
     let p = and_parts _ _ h in
-    (leb-true (size_of e) 65536 p.0, leb-true (levels_of e) 16384 p.1)
+    (leb-true (size_of e) most_nodes p.0, leb-true (levels_of e) most_levels p.1)
 
-small : (e : Pat) → size_of e ≤ 65536 → levels_of e ≤ 16384 → is_small e ≡ true
-small e a b = and_from _ _ (le-leb (size_of e) 65536 a) (le-leb (levels_of e) 16384 b)
+small : (e : Pat) → size_of e ≤ most_nodes → levels_of e ≤ most_levels → is_small e ≡ true
+small e a b = and_from _ _ (le-leb (size_of e) most_nodes a) (le-leb (levels_of e) most_levels b)
 
 differ : {A : Type 0} {b : Bool} → b ≡ true → b ≡ false → A
 differ p q = cc

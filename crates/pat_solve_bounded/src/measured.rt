@@ -5,14 +5,9 @@ ghost use Rattle.pat_patterns.specs.Views.{pattern_view};
 ghost use Rattle.pat_inclusion_spec.specs.ClosedForms.{is_small};
 ghost use Rattle.pat_solve_bounded.specs.Limits.{IsMeasured};
 
+use pat_limits::{MOST_LEVELS, MOST_NODES};
 use pat_patterns::{Pattern, levels, size};
 use std::alloc::AllocError;
-
-/// The most nodes that a pattern may have.
-pub const MOST_NODES: u32 = 65536;
-
-/// The most levels that a pattern may have.
-pub const MOST_LEVELS: u32 = 16384;
 
 /// A pattern of at most 65,536 nodes and 16,384 levels, with the numbers of both, and a bound below its variables.
 #[derive(Drop)]

@@ -7,7 +7,8 @@ ghost use Rattle.pat_patterns.specs.Views.{pattern_view};
 ghost use Rattle.pat_solve_bounded.specs.Limits.{within, sum_within, prod_within, star_within, both_fit, zero_if as zero_if_of};
 ghost use Rattle.pat_solve_bounded.specs.Views.{part_view, limited_view, measured_view};
 
-use crate::measured::{MOST_LEVELS, MOST_NODES, Measured};
+use crate::measured::Measured;
+use pat_limits::{MOST_LEVELS, MOST_NODES};
 use pat_patterns::Pattern;
 use std::alloc::{AllocError, Global};
 use std::sync::Arc;

@@ -17,6 +17,7 @@ use Rattle.pat_solve_elimination.specs.Rounds.{IsRebuilt, turn_fits}
 use Rattle.pat_solve_elimination.specs.Growing.{Lacks, grown, MayGrow}
 use Rattle.pat_solve_elimination.proofs.Rebuilt.{rebuilt_one}
 use Rattle.pat_solve_elimination.proofs.Fusing.{fused, alike, comes_from}
+use Rattle.pat_limits.specs.Limits.{most_levels, most_nodes}
 
 -- ---- values by their variables
 
@@ -222,7 +223,7 @@ module _ (vs : Values) (f : Pat) (may : MayGrow vs f) (rebuilt : AllRebuilt vs) 
       (some k)) in
       let n = may.nodes in
       let l = may.levels in
-      and_from _ _ (le-leb (size_of (subst_of s f)) 65536 (omega (arith, nodes, n))) (le-leb (levels_of (subst_of s f)) 16384 (omega (arith, levels, l)))
+      and_from _ _ (le-leb (size_of (subst_of s f)) most_nodes (omega (arith, nodes, n))) (le-leb (levels_of (subst_of s f)) most_levels (omega (arith, levels, l)))
 
   pub grows : (turn_fits vs f ≡ true) × (put_in_turn vs f ≡ subst_of (listed_in vs) f) × (is_small (subst_of (listed_in vs) f) ≡ true)
   grows = (turns_fit vs f rebuilt apart small, in_turn_at_once vs f rebuilt apart (λ none. absurd (may.some none)), small (listed_in vs) (every vs))

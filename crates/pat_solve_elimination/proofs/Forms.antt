@@ -5,6 +5,7 @@ use Rattle.pat_words_spec.specs.Patterns.{Pat, Zero, One, Tag, Sum, Prod, Star, 
 use Rattle.pat_inclusion_spec.specs.LinearSets.{LinearSet}
 use Rattle.pat_inclusion_spec.specs.ClosedForms.{is_small, lists_are_short, stars_are_short, is_short, only_empty, products, set_star, times_stars, sets_of, closed_form}
 use Rattle.pat_solve_bounded.specs.Limits.{within}
+use Rattle.pat_limits.specs.Limits.{most_sets}
 
 -- what is too large has no closed form
 pub none_of : (n : ℕ) (e : Pat) → None ≡ within e → None ≡ closed_form n e
@@ -63,7 +64,7 @@ form_is n e ss h =
     clash : Some ss ≡ None → ⊥
     clash p = cc
 
-pub form_short : (n : ℕ) (e : Pat) (ss : List LinearSet) → Some ss ≡ closed_form n e → length ss ≤ 4096
+pub form_short : (n : ℕ) (e : Pat) (ss : List LinearSet) → Some ss ≡ closed_form n e → length ss ≤ most_sets
 form_short n e ss h =
     let f = form_is n e ss h in
-    subst (λ x. length x ≤ 4096) (sym f.0) (leb-true (length (sets_of n e)) 4096 (short_sets n e f.1))
+    subst (λ x. length x ≤ most_sets) (sym f.0) (leb-true (length (sets_of n e)) most_sets (short_sets n e f.1))

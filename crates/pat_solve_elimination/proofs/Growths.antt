@@ -12,6 +12,7 @@ use Rattle.pat_solve_bounded.specs.replacing.Ascending.{paired}
 use Rattle.pat_solve_bounded.specs.replacing.Replacing.{listed_in}
 use Rattle.pat_solve_elimination.specs.Growing.{Lacks, grown, all_grown, Settled, MayGrow}
 use Rattle.pat_solve_elimination.specs.declared.growing.Growth.{Growth}
+use Rattle.pat_limits.specs.Limits.{most_levels, most_nodes}
 
 -- a pattern that has none of some variables lacks those that have values
 pub lacks_all : (ks : List ℕ) (vs : List Pat) (e : Pat) → ((i : ℕ) → i < length ks → has_var (get_or ks i 0) e ≡ false) → Lacks (paired ks vs) e
@@ -54,7 +55,7 @@ more_levels vs least most k l s = let h = s.levels in record { levels = omega (a
 -- what has been looked at, and what waits, is the whole pattern
 abbrev pub SoFar : Values → Pat → Growth → List Pat → Type 0
 SoFar vs f growth es =
-    (growth.nodes + all_grown vs es ≡ grown vs f) × (growth.nodes ≤ 65536) × ((k : ℕ) → Settled vs growth.levels k ⊎ (has_var k f ≡ any_has k es))
+    (growth.nodes + all_grown vs es ≡ grown vs f) × (growth.nodes ≤ most_nodes) × ((k : ℕ) → Settled vs growth.levels k ⊎ (has_var k f ≡ any_has k es))
 
 pub begun : (vs : Values) (f : Pat) (growth : Growth) → growth.nodes ≡ 0 → SoFar vs f growth (f ∷ [])
 begun vs f growth none_yet = (omega (arith, none_yet), omega (arith, none_yet), λ k. inr (none (has_var k f)))
@@ -63,7 +64,7 @@ begun vs f growth none_yet = (omega (arith, none_yet), omega (arith, none_yet), 
     none true = refl
     none false = refl
 
-pub grew : (vs : Values) (f : Pat) (before after : Growth) (es fs : List Pat) → SoFar vs f before es → after.nodes + all_grown vs fs ≡ before.nodes + all_grown vs es → after.nodes ≤ 65536 → before.levels ≤ after.levels → ((k : ℕ) → Settled vs after.levels k ⊎ (any_has k fs ≡ any_has k es)) → SoFar vs f after fs
+pub grew : (vs : Values) (f : Pat) (before after : Growth) (es fs : List Pat) → SoFar vs f before es → after.nodes + all_grown vs fs ≡ before.nodes + all_grown vs es → after.nodes ≤ most_nodes → before.levels ≤ after.levels → ((k : ℕ) → Settled vs after.levels k ⊎ (any_has k fs ≡ any_has k es)) → SoFar vs f after fs
 grew vs f before after es fs so same few levels settled = (
   same ∙ so.0,
   few,
@@ -75,7 +76,7 @@ grew vs f before after es fs so same few levels settled = (
       (so.2 k),
 )
 
-pub grown_up : (vs : Values) (f : Pat) (growth : Growth) → (vs ≡ [] → ⊥) → SoFar vs f growth [] → levels_of f + growth.levels ≤ 16384 → MayGrow vs f
+pub grown_up : (vs : Values) (f : Pat) (growth : Growth) → (vs ≡ [] → ⊥) → SoFar vs f growth [] → levels_of f + growth.levels ≤ most_levels → MayGrow vs f
 grown_up vs f growth some so levels =
     let all = so.0 in
     let few = so.1 in

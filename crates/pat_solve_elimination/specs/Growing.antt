@@ -5,6 +5,7 @@ use Rattle.pat_words_spec.specs.Sizes.{size_of, levels_of}
 use Rattle.pat_solve_spec.specs.Assignments.{Values}
 use Rattle.pat_solve_bounded.specs.Variables.{has_var}
 use Rattle.pat_solve_bounded.specs.replacing.Replacing.{listed_in}
+use Rattle.pat_limits.specs.Limits.{most_levels, most_nodes}
 
 -- the pattern has none of the variables
 abbrev pub Lacks : Values → Pat → Type 0
@@ -34,5 +35,5 @@ pub record MayGrow (vs : Values) (f : Pat) : Type 0 where
   pub some : vs ≡ [] → ⊥
   pub most : ℕ
   pub settled : (k : ℕ) → has_var k f ≡ true → Settled vs most k
-  pub nodes : grown vs f ≤ 65536
-  pub levels : levels_of f + most ≤ 16384
+  pub nodes : grown vs f ≤ most_nodes
+  pub levels : levels_of f + most ≤ most_levels

@@ -9,10 +9,12 @@ ghost use Rattle.pat_solve_bounded.specs.Views.{measured_view, measured_list};
 ghost use Rattle.pat_solve_bounded.specs.replacing.Ascending.{IsAscending, paired};
 ghost use Rattle.pat_solve_bounded.specs.replacing.Replacing.{listed_in};
 ghost use Rattle.pat_solve_elimination.specs.Growing.{all_grown, Settled, MayGrow};
+ghost use Rattle.pat_limits.specs.Limits.{most_nodes};
 
+use pat_limits::{MOST_LEVELS, MOST_NODES};
 use pat_patterns::Pattern;
 use pat_sequences::Stack;
-use pat_solve_bounded::{MOST_LEVELS, MOST_NODES, Measured, value_among};
+use pat_solve_bounded::{Measured, value_among};
 use std::alloc::{AllocError, Global};
 
 /// What the parts that have been looked at come to, with each value as it stands.
@@ -26,7 +28,7 @@ pub struct Growth {
 impl Growth {
     /// With a part more; `None` where these are too many nodes.
     fn with(self, nodes: u32, levels: u32) -> Option<Growth>
-        ensures { IfSome result (λ next. (next.nodes ≡ self.nodes + nodes) × (next.nodes ≤ 65536) × (next.levels ≡ max self.levels levels)) }
+        ensures { IfSome result (λ next. (next.nodes ≡ self.nodes + nodes) × (next.nodes ≤ most_nodes) × (next.levels ≡ max self.levels levels)) }
     {
         let nodes = self.nodes.saturating_add(nodes);
         if nodes > MOST_NODES {
@@ -79,7 +81,7 @@ fn grow<'a>(
 ) -> Result<Option<Growth>, AllocError>
     requires ascending { IsAscending variables.now }
     requires as_many { length variables.now ≡ length values.now }
-    ensures nodes { let vs = paired variables.now (measured_list values.now) in IfOk result (λ made. IfSome made (λ next. (next.nodes + all_grown vs (pointed waiting.new) ≡ growth.nodes + all_grown vs (pattern_view part.now ∷ pointed waiting.old)) × (next.nodes ≤ 65536))) }
+    ensures nodes { let vs = paired variables.now (measured_list values.now) in IfOk result (λ made. IfSome made (λ next. (next.nodes + all_grown vs (pointed waiting.new) ≡ growth.nodes + all_grown vs (pattern_view part.now ∷ pointed waiting.old)) × (next.nodes ≤ most_nodes))) }
     ensures levels { IfOk result (λ made. IfSome made (λ next. growth.levels ≤ next.levels)) }
     ensures settled { let vs = paired variables.now (measured_list values.now) in IfOk result (λ made. IfSome made (λ next. (k : ℕ) → Settled vs next.levels k ⊎ (any_has k (pointed waiting.new) ≡ any_has k (pattern_view part.now ∷ pointed waiting.old)))) }
     ensures fewer { IfOk result (λ made. IfSome made (λ next. nodes (pointed waiting.new) < nodes (pattern_view part.now ∷ pointed waiting.old))) }
@@ -108,7 +110,7 @@ fn grow_by_value(
 ) -> Option<Growth>
     requires ascending { IsAscending variables.now }
     requires as_many { length variables.now ≡ length values.now }
-    ensures nodes { let vs = paired variables.now (measured_list values.now) in IfSome result (λ next. (next.nodes ≡ growth.nodes + size_of (listed_in vs variable)) × (next.nodes ≤ 65536)) }
+    ensures nodes { let vs = paired variables.now (measured_list values.now) in IfSome result (λ next. (next.nodes ≡ growth.nodes + size_of (listed_in vs variable)) × (next.nodes ≤ most_nodes)) }
     ensures levels { IfSome result (λ next. growth.levels ≤ next.levels) }
     ensures settled { let vs = paired variables.now (measured_list values.now) in IfSome result (λ next. Settled vs next.levels variable) }
 {

@@ -16,6 +16,7 @@ use Rattle.pat_solve_spec.specs.LowerBounds.{right_side, sides_of}
 use Rattle.pat_solve_spec.specs.Assignments.{closed_rights, greatest_degree, bound_of, is_in_bounds}
 use Rattle.pat_solve_bounds.specs.renumbered.Systems.{picked}
 use Rattle.pat_solve_grids.specs.Rights.{right_is_flat, right_degree, all_flat, greatest}
+use Rattle.pat_limits.specs.Limits.{most_points}
 
 -- ---- right sides that are simple
 
@@ -102,7 +103,7 @@ module _ (n : ℕ) (cs : List Constraint) (simple : AllByRecursion (λ (c : Cons
   pub too_high : (degree : ℕ) → 1 ≤ n → degree ≡ min (greatest (map sides_of cs)) (2 ^ 32 - 1) → 2 ^ 32 - 1 ≤ degree → is_in_bounds n cs ≡ true → ⊥
   too_high degree some e l h =
       let t = (and_parts (list_all is_flat (closed_rights cs)) (grid_fits (bound_of cs) n) h).1 in
-      let points = leb-true ((bound_of cs + 1) ^ n) 65536 (and_parts (nat_le 1 (bound_of cs)) (nat_le ((bound_of cs + 1) ^ n) 65536) t).1 in
+      let points = leb-true ((bound_of cs + 1) ^ n) most_points (and_parts (nat_le 1 (bound_of cs)) (nat_le ((bound_of cs + 1) ^ n) most_points) t).1 in
       let same = degrees_same cs simple in
       let base = base_below (bound_of cs + 1) n some (omega arith) in
       omega arith

@@ -29,7 +29,7 @@ use Rattle.pat_grid.specs.tables.Views.{AreGrids}
 use Rattle.pat_witnesses.specs.declared.search.Refutation.{Refutation}
 use Rattle.pat_witnesses.specs.Views.{bound_view}
 use Rattle.pat_solve_spec.specs.LowerBounds.{sides_of, lowers_of, lowers_in}
-use Rattle.pat_solve_spec.specs.Answers.{most_nodes, tags_of, IsConstraint}
+use Rattle.pat_solve_spec.specs.Answers.{tags_of, IsConstraint}
 use Rattle.pat_solve_bounds.specs.lower_bounds.Rows.{numbers}
 use Rattle.pat_solve_bounds.proofs.Numbering.{numbers_are, numbers_have, numbers_ascend}
 use Rattle.pat_solve_bounds.specs.renumbered.Renaming.{place_in, renamed}
@@ -44,6 +44,7 @@ use Rattle.pat_solve_grids.proofs.Turning.{none_of_zero, picked_at}
 use Rattle.pat_solve_grids.proofs.Own.{side_is}
 use Rattle.pat_solve_grids.proofs.PointLists.{listed_count, listing_at, any_point}
 use Rattle.pat_solve_grids.proofs.Trees.{SameTrees, same_trees, vars, sides, system, found_to, found_from, large_to, large_from, inside_to, found_moves, found_back, large_moves, large_back, inside_moves}
+use Rattle.pat_limits.specs.Limits.{most_tree_nodes}
 
 fits_at : (p : core.Program) (cs : List Constraint) (n : ℕ) (c : Constraint) → AllByRecursion (ConstraintFits p (all_vars p)) cs → slice_get cs n ≡ Some c → ConstraintFits p (all_vars p) c
 fits_at p [] n c h at = cc
@@ -132,26 +133,26 @@ module _ (p : core.Program) (i : ℕ) (fits : AllByRecursion (ConstraintFits p (
   simple : (n : ℕ) (c : Constraint) → IsConstraint p n c → is_simple c.right ≡ true
   simple n c at = (fits_at p cs n c fits at).simple
 
-  found_program : (j n : ℕ) (c : Constraint) (w : Word) (b : Bound) → IsAt j n c → FoundAt (bounds_of sys) ren picks j w b → IsClosedOf p i n c × IsFound most_nodes (lowers_of p) c.left c.right w b
+  found_program : (j n : ℕ) (c : Constraint) (w : Word) (b : Bound) → IsAt j n c → FoundAt (bounds_of sys) ren picks j w b → IsClosedOf p i n c × IsFound most_tree_nodes (lowers_of p) c.left c.right w b
   found_program j n c w b h f =
       let r = found_to (bounds_of sys) (ren c.left) c.right w b (simple n c h.at) (subst (λ (d : bounds.Constraint). FoundIn (bounds_of sys) (ren d.left) d.right w b) (side j n c h) f) in (
         record { at = h.at; own = h.own_interface; closed = r.0 },
         found_moves (bounds_of sys) (lowers_of p) (ren c.left) c.left (trees j n c h) c.right w b r.1,
       )
 
-  program_found : (j n : ℕ) (c : Constraint) (w : Word) (b : Bound) → IsAt j n c → is_closed c.right ≡ true → IsFound most_nodes (lowers_of p) c.left c.right w b → FoundAt (bounds_of sys) ren picks j w b
+  program_found : (j n : ℕ) (c : Constraint) (w : Word) (b : Bound) → IsAt j n c → is_closed c.right ≡ true → IsFound most_tree_nodes (lowers_of p) c.left c.right w b → FoundAt (bounds_of sys) ren picks j w b
   program_found j n c w b h shut f =
       subst (λ (d : bounds.Constraint). FoundIn (bounds_of sys) (ren d.left) d.right w b) (sym (side j n c h))
       (found_from (bounds_of sys) (ren c.left) c.right w b shut (found_back (bounds_of sys) (lowers_of p) (ren c.left) c.left (trees j n c h) c.right w b f))
 
-  large_program : (j n : ℕ) (c : Constraint) → IsAt j n c → LargeAt (bounds_of sys) ren picks j → IsClosedOf p i n c × IsLarge most_nodes (lowers_of p) c.left c.right
+  large_program : (j n : ℕ) (c : Constraint) → IsAt j n c → LargeAt (bounds_of sys) ren picks j → IsClosedOf p i n c × IsLarge most_tree_nodes (lowers_of p) c.left c.right
   large_program j n c h f =
       let r = large_to (bounds_of sys) (ren c.left) c.right (simple n c h.at) (subst (λ (d : bounds.Constraint). LargeIn (bounds_of sys) (ren d.left) d.right) (side j n c h) f) in (
         record { at = h.at; own = h.own_interface; closed = r.0 },
         large_moves (bounds_of sys) (lowers_of p) (ren c.left) c.left (trees j n c h) c.right r.1,
       )
 
-  program_large : (j n : ℕ) (c : Constraint) → IsAt j n c → is_closed c.right ≡ true → IsLarge most_nodes (lowers_of p) c.left c.right → LargeAt (bounds_of sys) ren picks j
+  program_large : (j n : ℕ) (c : Constraint) → IsAt j n c → is_closed c.right ≡ true → IsLarge most_tree_nodes (lowers_of p) c.left c.right → LargeAt (bounds_of sys) ren picks j
   program_large j n c h shut f =
       subst (λ (d : bounds.Constraint). LargeIn (bounds_of sys) (ren d.left) d.right) (sym (side j n c h))
       (large_from (bounds_of sys) (ren c.left) c.right shut (large_back (bounds_of sys) (lowers_of p) (ren c.left) c.left (trees j n c h) c.right f))
@@ -165,7 +166,7 @@ module _ (p : core.Program) (i : ℕ) (fits : AllByRecursion (ConstraintFits p (
     first_of : (n : ℕ) (r : Refutation) → o ≡ Some (n, r) → IsFirst (bounds_of sys) ren picks ns (length ns) (Some (n, word_of r.word, bound_view r.tree))
     first_of n r e = subst (λ x. IsFirst (bounds_of sys) ren picks ns (length ns) (option_map refuted_view x)) e all.first
 
-    pub found_is : (n : ℕ) (r : Refutation) → o ≡ Some (n, r) → (c : Constraint) × IsClosedOf p i n c × IsFound most_nodes (lowers_of p) c.left c.right (word_of r.word) (bound_view r.tree)
+    pub found_is : (n : ℕ) (r : Refutation) → o ≡ Some (n, r) → (c : Constraint) × IsClosedOf p i n c × IsFound most_tree_nodes (lowers_of p) c.left c.right (word_of r.word) (bound_view r.tree)
     found_is n r e =
         let f = first_of n r e in
         let h = by_place f.0 f.1 in
@@ -174,7 +175,7 @@ module _ (p : core.Program) (i : ℕ) (fits : AllByRecursion (ConstraintFits p (
         let y = found_program f.0 n h.1 (word_of r.word) (bound_view r.tree) x f.3 in
         (h.1, y.0, y.1)
 
-    pub first_is : (n m : ℕ) (r : Refutation) (c : Constraint) (w : Word) (b : Bound) → o ≡ Some (n, r) → m < n → IsClosedOf p i m c → IsFound most_nodes (lowers_of p) c.left c.right w b → ⊥
+    pub first_is : (n m : ℕ) (r : Refutation) (c : Constraint) (w : Word) (b : Bound) → o ≡ Some (n, r) → m < n → IsClosedOf p i m c → IsFound most_tree_nodes (lowers_of p) c.left c.right w b → ⊥
     first_is n m r c w b e l closed found =
         let f = first_of n r e in
         let h = by_place f.0 f.1 in
@@ -183,20 +184,20 @@ module _ (p : core.Program) (i : ℕ) (fits : AllByRecursion (ConstraintFits p (
         let y = by_number m c closed in
         f.4 y.0 w b (ordered y.0 f.0 m n c h.1 y.1 x l) (program_found y.0 m c w b y.1 closed.closed found)
 
-    pub none_is : (m : ℕ) (c : Constraint) (w : Word) (b : Bound) → o ≡ None → IsClosedOf p i m c → IsFound most_nodes (lowers_of p) c.left c.right w b → ⊥
+    pub none_is : (m : ℕ) (c : Constraint) (w : Word) (b : Bound) → o ≡ None → IsClosedOf p i m c → IsFound most_tree_nodes (lowers_of p) c.left c.right w b → ⊥
     none_is m c w b e closed found =
         let none : IsFirst (bounds_of sys) ren picks ns (length ns) None = subst (λ x. IsFirst (bounds_of sys) ren picks ns (length ns) (option_map refuted_view x)) e all.first in
         let y = by_number m c closed in
         none y.0 w b y.1.inside (program_found y.0 m c w b y.1 closed.closed found)
 
-    pub large_is : large ≡ true → (n : ℕ) × (c : Constraint) × IsClosedOf p i n c × IsLarge most_nodes (lowers_of p) c.left c.right
+    pub large_is : large ≡ true → (n : ℕ) × (c : Constraint) × IsClosedOf p i n c × IsLarge most_tree_nodes (lowers_of p) c.left c.right
     large_is t =
         let f = all.large t in
         let h = by_place f.0 f.1 in
         let y = large_program f.0 h.0 h.1 h.2 f.2 in
         (h.0, h.1, y.0, y.1)
 
-    pub small_is : (n : ℕ) (c : Constraint) → large ≡ false → IsClosedOf p i n c → IsLarge most_nodes (lowers_of p) c.left c.right → ⊥
+    pub small_is : (n : ℕ) (c : Constraint) → large ≡ false → IsClosedOf p i n c → IsLarge most_tree_nodes (lowers_of p) c.left c.right → ⊥
     small_is n c t closed found =
         let y = by_number n c closed in
         all.small t y.0 y.1.inside (program_large y.0 n c y.1 closed.closed found)

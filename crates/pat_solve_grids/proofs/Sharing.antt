@@ -24,7 +24,6 @@ use Rattle.pat_grid.specs.Rows.{AreRows}
 use Rattle.pat_grid.proofs.Meaning.{rows_many, rows_point, least_like}
 use Rattle.pat_counterexample_search.specs.Readings.{IsRead, IsReading}
 use Rattle.pat_counterexample_search.proofs.Search.{read_right}
-use Rattle.pat_solve_spec.specs.Answers.{most_nodes}
 use Rattle.pat_solve_bounds.specs.renumbered.Renaming.{renamed}
 use Rattle.pat_solve_bounds.specs.renumbered.Systems.{side_at, picked}
 use Rattle.pat_solve_bounds.proofs.Renames.{renamed_tags}
@@ -33,6 +32,7 @@ use Rattle.pat_solve_grids.specs.Laying.{laid_if, last_if, laid_side, side_place
 use Rattle.pat_solve_grids.specs.Least.{AreLeastOf}
 use Rattle.pat_solve_grids.specs.Limits.{limited, IsTold, IsSettled}
 use Rattle.pat_solve_grids.proofs.Turning.{turn, each_at}
+use Rattle.pat_limits.specs.Limits.{most_tree_nodes}
 
 -- ---- layouts
 
@@ -117,7 +117,7 @@ module _ (rename : Pat → Pat) (zs : List Constraint) (ns : List ℕ) where
 
 -- ---- the table
 
-pub batch_board : (b : Board) (symbols : List Symbol) → grid_fits b.k b.tags ≡ true → b.points ≡ points_in b.k b.tags → b.limit ≤ 4096 → b.given.now ≡ [] → symbols_view b.symbols.now ≡ symbols → AllByRecursion (TagFits b.tags) symbols → IsBoard b
+pub batch_board : (b : Board) (symbols : List Symbol) → grid_fits b.k b.tags ≡ true → b.points ≡ points_in b.k b.tags → b.limit ≤ most_tree_nodes → b.given.now ≡ [] → symbols_view b.symbols.now ≡ symbols → AllByRecursion (TagFits b.tags) symbols → IsBoard b
 batch_board b symbols fits points limit given same fit = record {
   fits = fits;
   points = points;
@@ -128,7 +128,7 @@ batch_board b symbols fits points limit given same fit = record {
 
 -- ---- the limit
 
-pub limited_board : (b : Board) (limit : ℕ) → IsBoard b → limit ≤ 4096 → IsBoard (limited b limit)
+pub limited_board : (b : Board) (limit : ℕ) → IsBoard b → limit ≤ most_tree_nodes → IsBoard (limited b limit)
 limited_board b limit board most = record {
   fits = board.fits;
   points = board.points;
@@ -138,19 +138,19 @@ limited_board b limit board most = record {
 }
 
 -- below the greatest limit an answer that isn't "larger trees alone" is right for the greatest as well
-raised : (b : Board) (entries : List ℕ) (lower : ℕ → Pat) (left f : Pat) (s r : ℕ) → b.limit < most_nodes → (IsReading b entries s r LargeAnswer → ⊥) → (a : Search) → IsReading b entries s r a → IsAnswer b.limit lower left f a → IsAnswer most_nodes lower left f a
+raised : (b : Board) (entries : List ℕ) (lower : ℕ → Pat) (left f : Pat) (s r : ℕ) → b.limit < most_tree_nodes → (IsReading b entries s r LargeAnswer → ⊥) → (a : Search) → IsReading b entries s r a → IsAnswer b.limit lower left f a → IsAnswer most_tree_nodes lower left f a
 raised b entries lower left f s r less told InsideAnswer reading h = h
 raised b entries lower left f s r less told (FoundAnswer w t) reading h = let size = h.1 in (h.0, omega (arith, less, size))
 raised b entries lower left f s r less told LargeAnswer reading h = absurd (told reading)
 
-told_right : (b : Board) (entries : List ℕ) (lower : ℕ → Pat) (left f : Pat) (s r : ℕ) → b.limit ≤ most_nodes → ((b.limit ≡ most_nodes → ⊥) → IsReading b entries s r LargeAnswer → ⊥) → (a : Search) → IsReading b entries s r a → IsAnswer b.limit lower left f a → IsAnswer most_nodes lower left f a
+told_right : (b : Board) (entries : List ℕ) (lower : ℕ → Pat) (left f : Pat) (s r : ℕ) → b.limit ≤ most_tree_nodes → ((b.limit ≡ most_tree_nodes → ⊥) → IsReading b entries s r LargeAnswer → ⊥) → (a : Search) → IsReading b entries s r a → IsAnswer b.limit lower left f a → IsAnswer most_tree_nodes lower left f a
 told_right b entries lower left f s r most told a reading h =
     ⊎_elim
     (λ less. raised b entries lower left f s r less (told (λ same. omega (arith, less, same))) a reading h)
     (λ more. subst (λ m. IsAnswer m lower left f a) (omega (arith, most, more)) h)
-    (cases_lt b.limit most_nodes)
+    (cases_lt b.limit most_tree_nodes)
 
-module _ (b : Board) (system : List Pat) (place : ℕ → ℕ) (zs : List Constraint) (ns : List ℕ) (from to : ℕ) (entries slice : List ℕ) (law : SearchLaw) (done : IsDone (setting_of b) (table_of (setting_of b) entries)) (limit : b.limit ≤ most_nodes) (lo : from ≤ to) (hi : to ≤ length ns) where
+module _ (b : Board) (system : List Pat) (place : ℕ → ℕ) (zs : List Constraint) (ns : List ℕ) (from to : ℕ) (entries slice : List ℕ) (law : SearchLaw) (done : IsDone (setting_of b) (table_of (setting_of b) entries)) (limit : b.limit ≤ most_tree_nodes) (lo : from ≤ to) (hi : to ≤ length ns) where
   abbrev those : List ℕ
   those = take (to - from) (drop from ns)
 
@@ -188,7 +188,7 @@ module _ (b : Board) (system : List Pat) (place : ℕ → ℕ) (zs : List Constr
       points = rows_point b (bounds_of system) entries slice grids rows same points done flat;
     }
 
-    ready_by : (left : Pat) (r : Right) (side : Option (ℕ × ℕ)) → RightSearchable b.k b.tags r → ((b.limit ≡ most_nodes → ⊥) → IsTold b slice side) → StandFor (renamed place) all left r side → IsReadyFor b slice (bounds_of system) left r side
+    ready_by : (left : Pat) (r : Right) (side : Option (ℕ × ℕ)) → RightSearchable b.k b.tags r → ((b.limit ≡ most_tree_nodes → ⊥) → IsTold b slice side) → StandFor (renamed place) all left r side → IsReadyFor b slice (bounds_of system) left r side
     ready_by left (VarRight k) side fits told stand = stand
     ready_by left (PatternRight f) side fits told stand = (
       stand.0,

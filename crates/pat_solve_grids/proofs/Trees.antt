@@ -13,15 +13,16 @@ use Rattle.pat_infer_spec.specs.Shapes.{PatternFits, ConstraintFits, is_simple}
 use Rattle.pat_infer_spec.specs.Walk.{inferred, all_vars}
 use Rattle.pat_solve_spec.specs.LowerBounds.{right_side, sides_of, constraints_in, lowers_of}
 use Rattle.pat_solve_spec.specs.Assignments.{vars_in}
-use Rattle.pat_solve_spec.specs.Answers.{most_nodes, tags_of}
+use Rattle.pat_solve_spec.specs.Answers.{tags_of}
 use Rattle.pat_solve_bounds.proofs.Apart.{apart_to, apart_from}
 use Rattle.pat_solve_bounds.specs.renumbered.Renaming.{place_in, renamed}
 use Rattle.pat_solve_bounds.proofs.Systematic.{SideWithin, summed, system_is, tree_from, tree_to}
 use Rattle.pat_solve_grids.specs.Findings.{FoundIn, LargeIn, InsideIn}
+use Rattle.pat_limits.specs.Limits.{most_tree_nodes}
 
 -- ---- right sides that are simple
 
-pub found_to : (lower : ℕ → Pat) (left f : Pat) (w : Word) (b : Bound) → is_simple f ≡ true → FoundIn lower left (right_side f) w b → (is_closed f ≡ true) × IsFound most_nodes lower left f w b
+pub found_to : (lower : ℕ → Pat) (left f : Pat) (w : Word) (b : Bound) → is_simple f ≡ true → FoundIn lower left (right_side f) w b → (is_closed f ≡ true) × IsFound most_tree_nodes lower left f w b
 found_to lower left Zero w b s h = (refl, h)
 found_to lower left One w b s h = (refl, h)
 found_to lower left (Tag m) w b s h = (refl, h)
@@ -30,7 +31,7 @@ found_to lower left (Prod e g) w b s h = (s, h)
 found_to lower left (Star e) w b s h = (s, h)
 found_to lower left (Var k) w b s h = absurd h
 
-pub found_from : (lower : ℕ → Pat) (left f : Pat) (w : Word) (b : Bound) → is_closed f ≡ true → IsFound most_nodes lower left f w b → FoundIn lower left (right_side f) w b
+pub found_from : (lower : ℕ → Pat) (left f : Pat) (w : Word) (b : Bound) → is_closed f ≡ true → IsFound most_tree_nodes lower left f w b → FoundIn lower left (right_side f) w b
 found_from lower left Zero w b s h = h
 found_from lower left One w b s h = h
 found_from lower left (Tag m) w b s h = h
@@ -39,7 +40,7 @@ found_from lower left (Prod e g) w b s h = h
 found_from lower left (Star e) w b s h = h
 found_from lower left (Var k) w b s h = cc
 
-pub large_to : (lower : ℕ → Pat) (left f : Pat) → is_simple f ≡ true → LargeIn lower left (right_side f) → (is_closed f ≡ true) × IsLarge most_nodes lower left f
+pub large_to : (lower : ℕ → Pat) (left f : Pat) → is_simple f ≡ true → LargeIn lower left (right_side f) → (is_closed f ≡ true) × IsLarge most_tree_nodes lower left f
 large_to lower left Zero s h = (refl, h)
 large_to lower left One s h = (refl, h)
 large_to lower left (Tag m) s h = (refl, h)
@@ -48,7 +49,7 @@ large_to lower left (Prod e g) s h = (s, h)
 large_to lower left (Star e) s h = (s, h)
 large_to lower left (Var k) s h = absurd h
 
-pub large_from : (lower : ℕ → Pat) (left f : Pat) → is_closed f ≡ true → IsLarge most_nodes lower left f → LargeIn lower left (right_side f)
+pub large_from : (lower : ℕ → Pat) (left f : Pat) → is_closed f ≡ true → IsLarge most_tree_nodes lower left f → LargeIn lower left (right_side f)
 large_from lower left Zero s h = h
 large_from lower left One s h = h
 large_from lower left (Tag m) s h = h
@@ -74,19 +75,19 @@ pub record SameTrees (L M : ℕ → Pat) (e f : Pat) : Type 0 where
   pub from : (b : Bound) (w : Word) → Shows M b f w → Shows L b e w
 
 module _ (L M : ℕ → Pat) (e f : Pat) (same : SameTrees L M e f) where
-  pub found_moves : (right : Pat) (w : Word) (b : Bound) → IsFound most_nodes L e right w b → IsFound most_nodes M f right w b
+  pub found_moves : (right : Pat) (w : Word) (b : Bound) → IsFound most_tree_nodes L e right w b → IsFound most_tree_nodes M f right w b
   found_moves right w b h = let r = h.0 in ((same.to b w r.0, r.1), h.1)
 
-  pub found_back : (right : Pat) (w : Word) (b : Bound) → IsFound most_nodes M f right w b → IsFound most_nodes L e right w b
+  pub found_back : (right : Pat) (w : Word) (b : Bound) → IsFound most_tree_nodes M f right w b → IsFound most_tree_nodes L e right w b
   found_back right w b h = let r = h.0 in ((same.from b w r.0, r.1), h.1)
 
-  pub large_moves : (right : Pat) → IsLarge most_nodes L e right → IsLarge most_nodes M f right
+  pub large_moves : (right : Pat) → IsLarge most_tree_nodes L e right → IsLarge most_tree_nodes M f right
   large_moves right h =
       let one = h.0 in
       let r = one.2 in
       ((one.0, one.1, (same.to one.1 one.0 r.0, r.1)), λ w b k. h.1 w b (same.from b w k.0, k.1))
 
-  pub large_back : (right : Pat) → IsLarge most_nodes M f right → IsLarge most_nodes L e right
+  pub large_back : (right : Pat) → IsLarge most_tree_nodes M f right → IsLarge most_tree_nodes L e right
   large_back right h =
       let one = h.0 in
       let r = one.2 in

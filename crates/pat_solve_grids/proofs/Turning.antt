@@ -9,9 +9,9 @@ use Rattle.pat_words_spec.specs.Patterns.{Pat, Zero}
 use Rattle.pat_inclusion_spec.specs.bounds.Trees.{Bound, EmptyTree, Shows}
 use Rattle.pat_inclusion_spec.specs.bounds.Assignments.{Right, PatternRight, VarRight, Constraint}
 use Rattle.pat_inclusion_spec.specs.bounds.Searches.{IsInside, IsFound, IsLarge, Search, InsideAnswer, FoundAnswer, LargeAnswer, IsAnswer}
-use Rattle.pat_solve_spec.specs.Answers.{most_nodes}
 use Rattle.pat_solve_bounds.specs.renumbered.Systems.{side_at, picked}
 use Rattle.pat_solve_grids.specs.Findings.{Findings, first_or, noted, SidesSearched, IsSearched, FoundIn, LargeIn, InsideIn, FoundAt, LargeAt, InsideAt, IsFirst, AreFound}
+use Rattle.pat_limits.specs.Limits.{most_tree_nodes}
 
 -- ---- no tree shows a word of 0
 
@@ -22,13 +22,13 @@ none_of_zero lower w b h = absurd h
 -- ---- one more
 
 module _ (lower : ℕ → Pat) (left : Pat) where
-  found_not_inside : (f : Pat) (w : Word) (b : Bound) → IsInside lower left f → IsFound most_nodes lower left f w b → ⊥
+  found_not_inside : (f : Pat) (w : Word) (b : Bound) → IsInside lower left f → IsFound most_tree_nodes lower left f w b → ⊥
   found_not_inside f w b all found = let h = found.0 in h.1 (all w (b, h.0))
 
-  large_not_inside : (f : Pat) → IsInside lower left f → IsLarge most_nodes lower left f → ⊥
+  large_not_inside : (f : Pat) → IsInside lower left f → IsLarge most_tree_nodes lower left f → ⊥
   large_not_inside f all large = let h = large.0 in let r = h.2 in r.1 (all h.0 (h.1, r.0))
 
-  found_not_large : (f : Pat) (w : Word) (b : Bound) → IsLarge most_nodes lower left f → IsFound most_nodes lower left f w b → ⊥
+  found_not_large : (f : Pat) (w : Word) (b : Bound) → IsLarge most_tree_nodes lower left f → IsFound most_tree_nodes lower left f w b → ⊥
   found_not_large f w b large found =
       let more = large.1 w b found.0 in
       let size = found.1 in
@@ -73,13 +73,13 @@ module _ (lower : ℕ → Pat) (rename : Pat → Pat) (cs : List Constraint) (ns
           (subst (InsideIn lower here) (sym e) tt)
       go (PatternRight f) e h = answered h.0 h.1 h.2
         where
-          found_is : (w : Word) (b : Bound) → FoundAt lower rename cs m w b → IsFound most_nodes lower here f w b
+          found_is : (w : Word) (b : Bound) → FoundAt lower rename cs m w b → IsFound most_tree_nodes lower here f w b
           found_is w b x = subst (λ r. FoundIn lower here r w b) e x
 
-          large_is : LargeAt lower rename cs m → IsLarge most_nodes lower here f
+          large_is : LargeAt lower rename cs m → IsLarge most_tree_nodes lower here f
           large_is x = subst (LargeIn lower here) e x
 
-          answered : (a : Search) → IsAnswer most_nodes lower here f a → new ≡ noted a n old → AreFound lower rename cs ns (suc m) new
+          answered : (a : Search) → IsAnswer most_tree_nodes lower here f a → new ≡ noted a n old → AreFound lower rename cs ns (suc m) new
           answered InsideAnswer right same =
               nothing (sym same)
               (λ w b x. found_not_inside lower here f w b right (found_is w b x))

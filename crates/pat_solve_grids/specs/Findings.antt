@@ -7,8 +7,8 @@ use Rattle.pat_words_spec.specs.Tags.{tags_below}
 use Rattle.pat_inclusion_spec.specs.bounds.Trees.{Bound}
 use Rattle.pat_inclusion_spec.specs.bounds.Assignments.{Right, PatternRight, VarRight, Constraint}
 use Rattle.pat_inclusion_spec.specs.bounds.Searches.{IsInside, IsFound, IsLarge, Search, InsideAnswer, FoundAnswer, LargeAnswer, IsAnswer}
-use Rattle.pat_solve_spec.specs.Answers.{most_nodes}
 use Rattle.pat_solve_bounds.specs.renumbered.Systems.{side_at}
+use Rattle.pat_limits.specs.Limits.{most_tree_nodes}
 
 -- the first constraint that is refuted, with the word and the tree, and whether one is oversized
 pub record Findings : Type 0 where
@@ -39,7 +39,7 @@ pub record IsSearchable (k n : ℕ) (c : Constraint) : Type 0 where
 
 -- the left side, renamed, has been searched for words that the right side lacks, if that has no variable
 abbrev pub SidesSearched : (ℕ → Pat) → Pat → Right → ℕ → Findings → Findings → Type 0
-SidesSearched lower left (PatternRight f) n old new = (a : Search) × IsAnswer most_nodes lower left f a × (new ≡ noted a n old)
+SidesSearched lower left (PatternRight f) n old new = (a : Search) × IsAnswer most_tree_nodes lower left f a × (new ≡ noted a n old)
 SidesSearched lower left (VarRight k) n old new = new ≡ old
 
 abbrev pub IsSearched : (ℕ → Pat) → (Pat → Pat) → Constraint → ℕ → Findings → Findings → Type 0
@@ -49,12 +49,12 @@ IsSearched lower rename c n old new = SidesSearched lower (rename c.left) c.righ
 
 -- a tree within the limit refutes the constraint
 abbrev pub FoundIn : (ℕ → Pat) → Pat → Right → Word → Bound → Type 0
-FoundIn lower left (PatternRight f) w b = IsFound most_nodes lower left f w b
+FoundIn lower left (PatternRight f) w b = IsFound most_tree_nodes lower left f w b
 FoundIn lower left (VarRight k) w b = ⊥
 
 -- larger ones alone do
 abbrev pub LargeIn : (ℕ → Pat) → Pat → Right → Type 0
-LargeIn lower left (PatternRight f) = IsLarge most_nodes lower left f
+LargeIn lower left (PatternRight f) = IsLarge most_tree_nodes lower left f
 LargeIn lower left (VarRight k) = ⊥
 
 -- none does

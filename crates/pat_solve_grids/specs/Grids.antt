@@ -13,9 +13,10 @@ use Rattle.pat_witnesses.specs.declared.search.Refutation.{Refutation}
 use Rattle.pat_witnesses.specs.Views.{bound_view}
 use Rattle.pat_solve_spec.specs.LowerBounds.{lowers_of, lowers_in}
 use Rattle.pat_solve_spec.specs.Assignments.{vars_in}
-use Rattle.pat_solve_spec.specs.Answers.{most_nodes, tags_of, grid_bound, IsConstraint}
+use Rattle.pat_solve_spec.specs.Answers.{tags_of, grid_bound, IsConstraint}
 use Rattle.pat_solve_grids.specs.declared.entry.InterfaceGrids.{InterfaceGrids}
 use Rattle.pat_solve_grids.specs.Points.{points_by}
+use Rattle.pat_limits.specs.Limits.{most_tree_nodes}
 
 -- constraint n is one of the interface, without variables on its right
 pub record IsClosedOf (p : Program) (i n : ℕ) (c : Constraint) : Type 0 where
@@ -26,9 +27,9 @@ pub record IsClosedOf (p : Program) (i n : ℕ) (c : Constraint) : Type 0 where
 pub record AreGridsOf (p : Program) (i : ℕ) (g : InterfaceGrids) : Type 0 where
   pub count : length g.points ≡ length (vars_in i 1 (all_vars p))
   pub least : AreLeastPoints (grid_bound p i) (tags_of p i) (lowers_in p i) (points_by (vars_in i 1 (all_vars p)) g.points)
-  pub found : (n : ℕ) (r : Refutation) → g.refuted ≡ Some (n, r) → (c : Constraint) × IsClosedOf p i n c × IsFound most_nodes (lowers_of p) c.left c.right (word_of r.word) (bound_view r.tree)
-  pub first : (n m : ℕ) (r : Refutation) (c : Constraint) (w : Word) (b : Bound) → g.refuted ≡ Some (n, r) → m < n → IsClosedOf p i m c → IsFound most_nodes (lowers_of p) c.left c.right w b → ⊥
-  pub none : (m : ℕ) (c : Constraint) (w : Word) (b : Bound) → g.refuted ≡ None → IsClosedOf p i m c → IsFound most_nodes (lowers_of p) c.left c.right w b → ⊥
-  pub large : IsTrue g.is_oversized → (n : ℕ) × (c : Constraint) × IsClosedOf p i n c × IsLarge most_nodes (lowers_of p) c.left c.right
-  pub small : (n : ℕ) (c : Constraint) → IsFalse g.is_oversized → IsClosedOf p i n c → IsLarge most_nodes (lowers_of p) c.left c.right → ⊥
+  pub found : (n : ℕ) (r : Refutation) → g.refuted ≡ Some (n, r) → (c : Constraint) × IsClosedOf p i n c × IsFound most_tree_nodes (lowers_of p) c.left c.right (word_of r.word) (bound_view r.tree)
+  pub first : (n m : ℕ) (r : Refutation) (c : Constraint) (w : Word) (b : Bound) → g.refuted ≡ Some (n, r) → m < n → IsClosedOf p i m c → IsFound most_tree_nodes (lowers_of p) c.left c.right w b → ⊥
+  pub none : (m : ℕ) (c : Constraint) (w : Word) (b : Bound) → g.refuted ≡ None → IsClosedOf p i m c → IsFound most_tree_nodes (lowers_of p) c.left c.right w b → ⊥
+  pub large : IsTrue g.is_oversized → (n : ℕ) × (c : Constraint) × IsClosedOf p i n c × IsLarge most_tree_nodes (lowers_of p) c.left c.right
+  pub small : (n : ℕ) (c : Constraint) → IsFalse g.is_oversized → IsClosedOf p i n c → IsLarge most_tree_nodes (lowers_of p) c.left c.right → ⊥
   pub inside : (n : ℕ) (c : Constraint) → g.refuted ≡ None → IsFalse g.is_oversized → IsClosedOf p i n c → IsInside (lowers_of p) c.left c.right

@@ -7,9 +7,9 @@ use Rattle.pat_inclusion_spec.specs.bounds.Assignments.{Right, PatternRight, Var
 use Rattle.pat_inclusion_spec.specs.bounds.Searches.{Search, IsAnswer}
 use Rattle.pat_grid.specs.declared.tables.board.Board.{Board}
 use Rattle.pat_counterexample_search.specs.Readings.{IsReading}
-use Rattle.pat_solve_spec.specs.Answers.{most_nodes}
 use Rattle.pat_solve_bounds.specs.renumbered.Systems.{side_at}
 use Rattle.pat_solve_grids.specs.Findings.{Findings, noted}
+use Rattle.pat_limits.specs.Limits.{most_tree_nodes}
 
 -- the symbols made so far, and those of both sides
 abbrev pub laid_both : List Symbol → Pat → Pat → List Symbol
@@ -48,7 +48,7 @@ all_places rename made (c ∷ cs) = side_places rename made c ∷ all_places ren
 -- what the table says at both numbers is a right answer of the search
 abbrev pub IsReadyFor : Board → List ℕ → (ℕ → Pat) → Pat → Right → Option (ℕ × ℕ) → Type 0
 IsReadyFor b entries lower left (PatternRight f) side =
-    (s r : ℕ) × (side ≡ Some (s, r)) × ((a : Search) → IsReading b entries s r a → IsAnswer most_nodes lower left f a)
+    (s r : ℕ) × (side ≡ Some (s, r)) × ((a : Search) → IsReading b entries s r a → IsAnswer most_tree_nodes lower left f a)
 IsReadyFor b entries lower left (VarRight k) side = side ≡ None
 
 -- so for each of the sides, whose constraints' numbers stand from a place on

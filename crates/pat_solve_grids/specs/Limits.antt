@@ -3,7 +3,7 @@ use Rattle.std.specs.Prelude.{◌≡◌, ℕ, ◌<◌, List, length, get_or, Opt
 use Rattle.pat_inclusion_spec.specs.bounds.Searches.{LargeAnswer}
 use Rattle.pat_grid.specs.declared.tables.board.Board.{Board}
 use Rattle.pat_counterexample_search.specs.Readings.{IsReading}
-use Rattle.pat_solve_spec.specs.Answers.{most_nodes}
+use Rattle.pat_limits.specs.Limits.{most_tree_nodes}
 
 -- the board with another limit
 abbrev pub limited : Board → ℕ → Board
@@ -25,4 +25,4 @@ IsTold b entries (Some side) = IsReading b entries side.0 side.1 LargeAnswer →
 -- so of each of the sides, unless the limit is the greatest one
 abbrev pub IsSettled : Board → List ℕ → List (Option (ℕ × ℕ)) → Type 0
 IsSettled b entries sides =
-    (j : ℕ) → j < length sides → (b.limit ≡ most_nodes → ⊥) → IsTold b entries (get_or sides j None)
+    (j : ℕ) → j < length sides → (b.limit ≡ most_tree_nodes → ⊥) → IsTold b entries (get_or sides j None)

@@ -24,6 +24,7 @@ ghost use Rattle.pat_solve_grids.specs.Laying.{AreReady, IsNoted};
 ghost use Rattle.pat_solve_grids.specs.Least.{AreLeastOf};
 ghost use Rattle.pat_solve_grids.specs.Limits.{limited, IsTold, IsSettled};
 ghost use Rattle.pat_solve_grids.specs.Views.{findings_view};
+ghost use Rattle.pat_limits.specs.Limits.{most_tree_nodes};
 
 use crate::findings::{Findings, note};
 use crate::laying::lay_each;
@@ -32,13 +33,11 @@ use pat_grid::{Board, least_sizes, row_grids};
 use pat_grid_points::{Grid, SparseList, count_points, lay_out_all};
 use pat_inclusion_laws::closed_laws;
 use pat_infer_problems::Constraint;
+use pat_limits::MOST_TREE_NODES;
 use pat_patterns::{Pattern, size};
 use pat_sequences::Sequence;
 use pat_types::Right;
 use std::alloc::{AllocError, Global};
-
-/// The number of nodes that a refutation's tree has at most.
-const MOST_NODES: u16 = 4096;
 
 /// Where a batch ends that begins at a place: before the sides of its constraints but the first have more symbols than there is room
 /// for.
@@ -160,7 +159,7 @@ fn settled_sizes(
     sides: &[Option<(usize, usize)>],
 ) -> Result<(u16, SparseList<u16>), AllocError>
     requires { IsBoard board.now }
-    ensures limit { IfOk result (λ r. r.0 ≤ 4096) }
+    ensures limit { IfOk result (λ r. r.0 ≤ most_tree_nodes) }
     ensures all { IfOk result (λ r. HasAllEntries (setting_of (limited board.now r.0)) r.1) }
     ensures done { IfOk result (λ r. let g = setting_of (limited board.now r.0) in IsDone g (table_of g r.1)) }
     ensures settled { IfOk result (λ r. IsSettled (limited board.now r.0) r.1 sides.now) }
@@ -169,7 +168,7 @@ fn settled_sizes(
     loop {
         let now = Board { limit, ..*board };
         let entries = least_sizes(alloc, &now)?;
-        if limit == MOST_NODES {
+        if limit == MOST_TREE_NODES {
             return Ok((limit, entries));
         }
         if !is_any_large(&now, &entries, sides) {
@@ -181,11 +180,11 @@ fn settled_sizes(
 
 /// A greater limit: 32, then four times as much, and at last the greatest.
 fn next_limit(limit: u16) -> u16
-    requires { limit < 4096 }
+    requires { limit < most_tree_nodes }
     ensures more { limit < result }
-    ensures most { result ≤ 4096 }
+    ensures most { result ≤ most_tree_nodes }
 {
-    (limit * 4).max(32).min(MOST_NODES)
+    (limit * 4).max(32).min(MOST_TREE_NODES)
 }
 
 /// Whether at this limit one of the sides has larger trees alone.

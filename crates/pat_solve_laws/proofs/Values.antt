@@ -29,6 +29,7 @@ use Rattle.pat_infer_laws.proofs.Gathering.{all_with}
 use Rattle.pat_infer_laws.proofs.Shown.{subst_sum, subst_prod}
 use Rattle.pat_solve_spec.specs.Derived.{Form, Patterns, Grids, HasForm, SidesShown, ConstraintShown, ValuesShow, derivation_with, no_certs, scope_by}
 use Rattle.pat_solve_laws.proofs.Formed.{formed_fits}
+use Rattle.pat_limits.specs.Limits.{most_points}
 
 module _ (s : Scope) (fit : ValuesFit s) where
   pub sides_included : (i : ℕ) (e f : Pat) (form : Form) → is_formed s i e ≡ true → is_formed s i f ≡ true → SidesShown s i e f form → Included (subst_of (pattern_of s) e) (subst_of (pattern_of s) f)
@@ -41,7 +42,7 @@ module _ (s : Scope) (fit : ValuesFit s) where
       let n : ℕ = s.tags i in
       let x = and_parts (grid_fits k n) (is_large_enough s k f && cuts_lie k n (subst_of (pattern_of s) e) (subst_of (pattern_of s) f)) h in
       let y = and_parts (is_large_enough s k f) (cuts_lie k n (subst_of (pattern_of s) e) (subst_of (pattern_of s) f)) x.1 in
-      let z = and_parts (nat_le 1 k) (nat_le ((k + 1) ^ n) 65536) x.0 in
+      let z = and_parts (nat_le 1 k) (nat_le ((k + 1) ^ n) most_points) x.0 in
       (grid_law s k i e f fit a b (leb-true 1 k z.0) y.0).0 y.1
 
   -- ---- values in pattern form, and those that aren't

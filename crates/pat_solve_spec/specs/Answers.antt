@@ -15,10 +15,7 @@ use Rattle.pat_infer_spec.specs.Walk.{inferred, all_vars}
 use Rattle.pat_solve_spec.specs.LowerBounds.{constraints_in, lowers_of, lowers_in}
 use Rattle.pat_solve_spec.specs.Assignments.{Values, vars_in, assigned, value_in, assignment_fits, bound_of, is_in_bounds}
 use Rattle.pat_solve_spec.specs.Derived.{Form, Patterns, Grids, IsCovered}
-
--- the most nodes of a tree that refutes
-abbrev pub most_nodes : ℕ
-most_nodes = 4096
+use Rattle.pat_limits.specs.Limits.{most_tree_nodes}
 
 -- what is answered; variables are numbered from 1, constraints and interfaces from 0
 pub data Answer : Type 0 where
@@ -98,12 +95,12 @@ module _ (p : Program) where
     pub constraint : Constraint
     pub at : IsConstraint n constraint
     pub searched : IsSearched constraint
-    pub found : IsFound most_nodes (lowers_of p) constraint.left constraint.right w b
+    pub found : IsFound most_tree_nodes (lowers_of p) constraint.left constraint.right w b
 
   -- the right does lack such a word, but no tree that shows it keeps to the limit
   pub record IsOversized (c : Constraint) : Type 0 where
     pub searched : IsSearched c
-    pub large : IsLarge most_nodes (lowers_of p) c.left c.right
+    pub large : IsLarge most_tree_nodes (lowers_of p) c.left c.right
 
   -- a constraint of an interface without values that isn't directly covered
   pub record IsUndecided (n : ℕ) : Type 0 where

@@ -12,7 +12,7 @@ pub fn read_digits(text: &[u8]) -> Option<u32>
             return None;
         }
         let next = number as u64 * 10 + (*byte - b'0') as u64;
-        if next > 4294967295 {
+        if next > u32::MAX as u64 {
             return None;
         }
         number = next as u32;

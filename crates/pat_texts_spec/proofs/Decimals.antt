@@ -10,6 +10,7 @@ use Rattle.std.proofs.lemmas.Str.Parse.{digit_from_value, numerals_by_value, tel
 use Rattle.std.proofs.lemmas.Fmt.{decimal_is_IsNumeral, first_decimal, decimal-digits_value, decimal_digit}
 use Rattle.pat_texts_spec.specs.Numbers.{is_number, is_digit, read_digits, read_number}
 use Rattle.pat_texts_spec.proofs.Choices.{taken, untaken, passed, skipped}
+use Rattle.pat_limits.specs.Limits.{most_number}
 
 -- the value of a digit
 digit_is : (b : ℕ) → is_digit b ≡ true → digit_value b ≡ b - 48
@@ -38,7 +39,7 @@ grows : (n : ℕ) (ds : List ℕ) → n ≤ digits_value_after 10 n ds
 grows n [] = omega arith
 grows n (c ∷ cs) = omega (arith, grows (n * 10 + digit_value c) cs)
 
-read_all : (n : ℕ) (ds : List ℕ) → AllDigits 10 ds → digits_value_after 10 n ds ≤ 4294967295 → read_digits n ds ≡ Some (digits_value_after 10 n ds)
+read_all : (n : ℕ) (ds : List ℕ) → AllDigits 10 ds → digits_value_after 10 n ds ≤ most_number → read_digits n ds ≡ Some (digits_value_after 10 n ds)
 read_all n [] d small = refl
 read_all n (c ∷ cs) d small =
     let k = digit_from_value c d.0 in
@@ -46,7 +47,7 @@ read_all n (c ∷ cs) d small =
     let m : ℕ = n * 10 + digit_value c in
     let same : n * 10 + (c - 48) ≡ m = omega (arith, is) in
     let room = grows m cs in
-    let test : (is_digit c && is_number (n * 10 + (c - 48))) ≡ true = and_from (is_digit c) (is_number (n * 10 + (c - 48))) (and_from (nat_le 48 c) (nat_le c 57) (le-leb 48 c k.0) (le-leb c 57 k.1)) (le-leb (n * 10 + (c - 48)) 4294967295 (omega (arith, same, room, small))) in
+    let test : (is_digit c && is_number (n * 10 + (c - 48))) ≡ true = and_from (is_digit c) (is_number (n * 10 + (c - 48))) (and_from (nat_le 48 c) (nat_le c 57) (le-leb 48 c k.0) (le-leb c 57 k.1)) (le-leb (n * 10 + (c - 48)) most_number (omega (arith, same, room, small))) in
     passed (is_digit c && is_number (n * 10 + (c - 48))) (read_digits (n * 10 + (c - 48)) cs) None test
     ∙ ap (λ j. read_digits j cs) same ∙ read_all m cs d.1 small
 
@@ -57,12 +58,12 @@ number_spelled (b ∷ []) n e = of (b ∷ []) n (digits_read 0 (b ∷ []) n refl
   where
     of : (bs : List ℕ) (n : ℕ) → ReadDigits 0 bs n → 0 < length bs → (get_or bs 0 0 ≡ 48 → length bs ≡ 1) → (bs ≡ decimal n) × (is_number n ≡ true)
     of bs n r some lead =
-        let small = leb-true n 4294967295 r.small in
+        let small = leb-true n most_number r.small in
         (sym (decimal-digits_value (numerals_by_value (AllDigits 10) tells_digits) bs r.digits some lead (omega (arith, r.value, small))) ∙ ap decimal r.value, r.small)
 number_spelled (b ∷ c ∷ bs) n e =
     let t = untaken (b == 48) (read_digits 0 (b ∷ c ∷ bs)) n e in
     let r = digits_read 0 (b ∷ c ∷ bs) n refl t.1 in
-    let small = leb-true n 4294967295 r.small in
+    let small = leb-true n most_number r.small in
     (sym (decimal-digits_value (numerals_by_value (AllDigits 10) tells_digits) (b ∷ c ∷ bs) r.digits (omega arith) (λ z. absurd (clash b z t.0)) (omega (arith, r.value, small))) ∙ ap decimal r.value, r.small)
   where
     clash : (b : ℕ) → b ≡ 48 → (b == 48) ≡ false → ⊥
@@ -77,10 +78,10 @@ read_one (b ∷ c ∷ bs) n some lead e =
 -- each number of 32 bits is read
 pub number_read : (n : ℕ) → is_number n ≡ true → read_number (decimal n) ≡ Some n
 number_read n s =
-    let small = leb-true n 4294967295 s in
+    let small = leb-true n most_number s in
     let k = decimal_is_IsNumeral n (omega (arith, small)) in
     read_one (decimal n) n k.0.0 (lead n small) (read_all 0 (decimal n) k.0.1 (omega (arith, k.1, small)) ∙ ap Some k.1)
   where
-    lead : (n : ℕ) → n ≤ 4294967295 → 1 < length (decimal n) → 48 < get_or (decimal n) 0 0
+    lead : (n : ℕ) → n ≤ most_number → 1 < length (decimal n) → 48 < get_or (decimal n) 0 0
     lead zero small l = absurd (omega (arith, l, ap length (decimal_digit 0 (omega arith))))
     lead (suc n) small l = first_decimal (suc n) (omega arith) (omega (arith, small))

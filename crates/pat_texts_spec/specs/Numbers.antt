@@ -1,9 +1,10 @@
 -- Numbers in decimal: of at most 32 bits, with no zero in front.
 use Rattle.std.specs.Prelude.{ℕ, ◌+◌, ◌*◌, ◌-◌, Bool, true, false, ◌&&◌, ◌==◌, nat_le, nat_eq, if◌then◌else◌, List, [], ◌∷◌, Option, Some, None}
+use Rattle.pat_limits.specs.Limits.{most_number}
 
 -- the number is one that a text may have
 abbrev pub is_number : ℕ → Bool
-is_number n = nat_le n 4294967295
+is_number n = nat_le n most_number
 
 -- a decimal digit
 abbrev pub is_digit : ℕ → Bool

@@ -19,6 +19,7 @@ use Rattle.pat_turn.specs.declared.view.Stage.TheVariants.{Spent, Idle, Waits, H
 use Rattle.pat_turn.specs.Rule.{entries_naming, tickets_out, ticket_count, IsLive, Facts, Stands, Took, Knows, IsOut, IsTurn, Mine, drew, Comes, looked, passed, MayPut, opened, counted, another, part_of, both, spent}
 use Rattle.pat_turn.proofs.Lists.{prefix_self, prefix_trans, put, put_case, put_here, put_else, at_below, at_more, sum_set, sum_snoc, sum_few, entries_none, some_is, all_at, get_there, named_below}
 use Rattle.pat_turn.specs.Shown.{ShownPass, as_part, IsOfAll}
+use Rattle.pat_limits.specs.Limits.{most_workers}
 
 -- whether the seat has the value
 abbrev holds_it : Stage → Bool
@@ -406,7 +407,7 @@ module _ {V N E : Type 0} (name_of : V → N) (log_of : V → List E) (by : E �
       }
 
   -- the table as it is made: the value is at home, and there is one pass
-  pub opens : (x : V) → name_of x ≡ name → log_of x ≡ [] → 0 < passes → passes ≤ 64 → Rule (opening (0 ∷ 0 ∷ []) (Some x ∷ []) (opened name))
+  pub opens : (x : V) → name_of x ≡ name → log_of x ≡ [] → 0 < passes → passes ≤ most_workers → Rule (opening (0 ∷ 0 ∷ []) (Some x ∷ []) (opened name))
   opens x named bare some_pass few =
       let f : Facts E = record { seats = 1; drawn = 0; served = 0; log = []; part = λ _. []; keeper = λ k. k; holder = λ _. 0; busy = false } in
       let only : (j : ℕ) (u : View N E) → get_elem? (opened name ∷ []) j ≡ some u → (j ≡ 0) × (opened name ≡ u) = λ j u e. ⊎_elim (λ (h : get_elem? [] j ≡ some u). absurd (some-ne-none u (sym h))) (λ (t : (j ≡ 0) × (opened name ≡ u)). t) (at_more [] (opened name) u j e) in record {

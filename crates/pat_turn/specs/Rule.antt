@@ -10,6 +10,7 @@ use Rattle.pat_turn.specs.declared.view.View.{View}
 use Rattle.pat_turn.specs.declared.view.Part.{Part}
 use Rattle.pat_turn.specs.declared.view.Stage.{Stage}
 use Rattle.pat_turn.specs.declared.view.Stage.TheVariants.{Spent, Idle, Waits, Holds}
+use Rattle.pat_limits.specs.Limits.{most_workers}
 
 -- the entries of the log that name the number k
 abbrev pub entries_naming : {E : Type 0} → (E → ℕ) → ℕ → List E → List E
@@ -74,7 +75,7 @@ pub record IsTurn {V N E : Type 0} (name_of : V → N) (log_of : V → List E) (
   pub facts : Facts E
   pub words : s.words ≡ facts.drawn % 2 ^ 64 ∷ facts.served % 2 ^ 64 ∷ []
   pub count : length s.views ≡ facts.seats
-  pub few : (facts.seats ≤ passes) × (passes ≤ 64)
+  pub few : (facts.seats ≤ passes) × (passes ≤ most_workers)
   pub tickets : sum_by tickets_out s.views + facts.served ≡ facts.drawn
   pub fresh : (k : ℕ) → facts.seats ≤ k → facts.keeper k ≡ k
   pub knows : (j : ℕ) (v : View N E) → get_elem? s.views j ≡ some v → IsLive v.stage → Knows name facts j v

@@ -6,6 +6,7 @@ ghost use Rattle.pat_turn.specs.Rule.{Comes, MayPut, entries_naming, opened};
 ghost use Rattle.pat_turn.specs.Shown.{AreNew, AreAll, GoesOn, IsOfAll, newcomers, turn_of, as_part};
 ghost use Rattle.pat_turn.specs.declared.view.Stage.TheVariants.{Idle};
 ghost use Rattle.pat_turn.specs.Passes.{IsIdle, IsHolding, IsTable, known, with_seen};
+ghost use Rattle.pat_limits.specs.Limits.{most_workers};
 
 use crate::bells::{Bells, is_near};
 use crate::law::{About, Law};
@@ -317,7 +318,7 @@ impl<V: Kept> Turn<V> {
 impl<V: Kept> Turn<V> {
     /// A turn with this value, and its passes, which have seen nothing.
     pub fn new(alloc: Global, value: V, passes: u32) -> Result<(Turn<V>, Vec<Pass<V>>), AllocError>
-        requires passes { (0 < passes) × (passes ≤ 64) }
+        requires passes { (0 < passes) × (passes ≤ most_workers) }
         requires empty { V.log value ≡ [] }
         ensures turn { IfOk result (λ r. (r.0.name ≡ V.name value) × (r.0.passes ≡ passes)) }
         ensures passes { IfOk result (λ r. AreNew r.0 r.1.items) }

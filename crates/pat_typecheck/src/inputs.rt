@@ -9,6 +9,7 @@ ghost use Rattle.pat_input.specs.Inputs.{IsRead};
 ghost use Rattle.pat_front.specs.Texts.{IsTreeText, Explains as ExplainsText};
 ghost use Rattle.pat_typecheck.specs.Explains.{Explains};
 ghost use Rattle.pat_typecheck.specs.Checks.{IsChecked, IsCheckedProgram, SaysReason};
+ghost use Rattle.pat_limits.specs.Limits.{most_number};
 
 use crate::accepting::{Unaccepted, accept};
 use pat_core::Program;
@@ -42,7 +43,7 @@ pub fn check_input(alloc: Global, input: Input) -> Result<Checked, AllocError>
 // So of the tree of a text that has so many bytes.
 fn check_tree_text(alloc: Global, tree: &Tree, end: u32) -> Result<Checked, AllocError>
     requires text { (bytes : List ℕ) × IsTreeText bytes (tree_view tree.now) × (end ≡ length bytes) }
-    requires small { tree_size (tree_view tree.now) < 4294967295 }
+    requires small { tree_size (tree_view tree.now) < most_number }
     ensures { (bytes : List ℕ) → IsTreeText bytes (tree_view tree.now) → end ≡ length bytes → IfOk result (IsChecked bytes) }
 {
     match program_of(alloc, tree, end) {

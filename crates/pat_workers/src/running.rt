@@ -1,6 +1,7 @@
 // A run by workers.
 ghost use Rattle.std.specs.Prelude.{◌<◌, ◌≤◌, IfOk};
 ghost use Rattle.pat_workers.specs.Runs.{RunGives};
+ghost use Rattle.pat_limits.specs.Limits.{most_messages, most_steps, most_workers};
 
 use crate::finishing::{Finished, finish, part};
 use crate::working::work_all;
@@ -24,9 +25,9 @@ pub fn run<R: Threads + Wait + Sync, G: Gate>(
     messages: u32,
     gate: &G,
 ) -> Result<Finished, AllocError>
-    requires workers { (0 < workers) × (workers ≤ 64) }
-    requires steps { steps ≤ 1000000 }
-    requires messages { (0 < messages) × (messages ≤ 1000000) }
+    requires workers { (0 < workers) × (workers ≤ most_workers) }
+    requires steps { steps ≤ most_steps }
+    requires messages { (0 < messages) × (messages ≤ most_messages) }
     ensures { IfOk result (RunGives accepted workers steps messages) }
 {
     let program = accepted.into_program();

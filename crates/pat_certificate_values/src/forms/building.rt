@@ -4,13 +4,12 @@ ghost use Rattle.pat_words_spec.specs.Patterns.{Pat, sum_of, prod_of, star_of};
 ghost use Rattle.pat_words_spec.specs.Sizes.{size_of};
 ghost use Rattle.pat_patterns.specs.Views.{pattern_view};
 ghost use Rattle.pat_certificate_values.specs.forms.Limits.{IsCounted, IsLimited, Limits};
+ghost use Rattle.pat_limits.specs.Limits.{most_nodes};
 
+use pat_limits::MOST_NODES;
 use pat_patterns::{Pattern, size};
 use std::alloc::{AllocError, Global};
 use std::sync::Arc;
-
-/// The most nodes that are built.
-const MOST_NODES: u32 = 65_536;
 
 /// A pattern with its number of nodes, of which there are 65,536 at most.
 #[derive(Drop)]
@@ -146,7 +145,7 @@ pub fn sum_within(
 
 fn zero_if(part: Built) -> Option<Built>
     requires { IsCounted part }
-    ensures { (e : Pat) → 65536 < size_of e → Limits (prod_of e (pattern_view part.pattern)) result × Limits (prod_of (pattern_view part.pattern) e) result }
+    ensures { (e : Pat) → most_nodes < size_of e → Limits (prod_of e (pattern_view part.pattern)) result × Limits (prod_of (pattern_view part.pattern) e) result }
 {
     if part.pattern.is_zero() {
         Some(part)

@@ -5,6 +5,7 @@ ghost use Rattle.pat_inclusion_spec.specs.Points as grid;
 ghost use Rattle.pat_certificate_values.specs.points.Views.{counts_view};
 
 use pat_bags::Bag;
+use pat_limits::MOST_POINTS;
 
 /// Whether grids of so many tags with this bound are worked with: there are 65,536 points at most.
 fn grid_fits(k: u32, tags: u32) -> bool
@@ -14,7 +15,7 @@ fn grid_fits(k: u32, tags: u32) -> bool
         return false;
     }
     match (k as u64 + 1).checked_pow(tags) {
-        Some(count) => count <= 65536,
+        Some(count) => count <= MOST_POINTS,
         None => false,
     }
 }

@@ -8,6 +8,7 @@ use Rattle.pat_inclusion_spec.specs.Covers.{makes}
 use Rattle.pat_cover_certificates.specs.declared.coefficients.failed.Note.{Note}
 use Rattle.pat_cover_certificates.specs.declared.coefficients.frames.Frame.{Frame}
 use Rattle.pat_cover_certificates.specs.coefficients.Numbers.{NoNumbers}
+use Rattle.pat_limits.specs.Limits.{most_number, number_count}
 
 -- the numbers so far
 abbrev pub numbers_of : List Frame → List ℕ
@@ -52,13 +53,13 @@ CameToNothing n ps failed = (i : ℕ) (note : Note) → slice_get failed i ≡ S
 -- the lists of at most so many numbers
 abbrev pub lists_of : ℕ → ℕ
 lists_of zero = 1
-lists_of (suc k) = 1 + 4294967296 * lists_of k
+lists_of (suc k) = 1 + number_count * lists_of k
 
 -- those that don't come before the numbers so far
 abbrev pub lists_left : List Word → List Frame → ℕ
 lists_left ps [] = lists_of (length ps)
 lists_left [] (f ∷ fs) = 1
-lists_left (p ∷ ps) (f ∷ fs) = (4294967295 - f.number) * lists_of (length ps) + lists_left ps fs
+lists_left (p ∷ ps) (f ∷ fs) = (most_number - f.number) * lists_of (length ps) + lists_left ps fs
 
 -- what comes of going on to the next numbers: what is left then, or none are left
 abbrev pub Advances : ℕ → List Word → Word → List Frame → List Frame → Option Bag → Type 0

@@ -7,6 +7,7 @@ ghost use Rattle.pat_derivation_text_spec.specs.LineReading as reading;
 ghost use Rattle.pat_derivation_lines.specs.patterns.Answers.{Gives, Leaves};
 ghost use Rattle.pat_derivation_lines.specs.patterns.Views.{names_of};
 ghost use Rattle.pat_texts.specs.Pieces.{seen};
+ghost use Rattle.pat_limits.specs.Limits.{number_count};
 
 use crate::nodes::values::read_value;
 use pat_core::{Interface, Program};
@@ -62,7 +63,7 @@ fn var_named(
     name: &[u8],
     text: &[u8],
 ) -> Result<(u32, VarValue), Unread>
-    requires { length program.now.interfaces < 4294967296 }
+    requires { length program.now.interfaces < number_count }
     ensures { Gives var_view (reading.var_named (program_view program.now) (name.now, text.now)) result }
 {
     match find_interface(program, name) {
@@ -78,7 +79,7 @@ fn read_var(
     count: usize,
     text: &[u8],
 ) -> Result<(u32, VarValue), Unread>
-    requires { length program.now.interfaces < 4294967296 }
+    requires { length program.now.interfaces < number_count }
     ensures { Gives var_view (reading.read_var (program_view program.now) (suc count) text.now) result }
 {
     match behind_next(text, count) {
@@ -98,7 +99,7 @@ fn node_with(
     needs: &[u8],
     certs: &[u8],
 ) -> Result<DerivedNode, Unread>
-    requires { length program.now.interfaces < 4294967296 }
+    requires { length program.now.interfaces < number_count }
     ensures { Gives line_view (reading.node_with (program_view program.now) (result_view of) (needs.now, certs.now)) result }
 {
     let env = read_needs(alloc, program, needs)?;
@@ -116,7 +117,7 @@ fn node_of(
     front: &[u8],
     text: &[u8],
 ) -> Result<DerivedNode, Unread>
-    requires { length program.now.interfaces < 4294967296 }
+    requires { length program.now.interfaces < number_count }
     ensures { Gives line_view (reading.node_of (program_view program.now) (front.now, text.now)) result }
 {
     match before(front, b" ") {
@@ -138,7 +139,7 @@ fn read_node(
     number: usize,
     text: &[u8],
 ) -> Result<DerivedNode, Unread>
-    requires { length program.now.interfaces < 4294967296 }
+    requires { length program.now.interfaces < number_count }
     ensures { Gives line_view (reading.read_node (program_view program.now) number text.now) result }
 {
     match behind_number(text, number) {
@@ -152,7 +153,7 @@ fn read_node(
 
 /// A variable more.
 fn add_var(alloc: Global, program: &Program, d: &mut Derivation, text: &[u8]) -> Result<(), Unread>
-    requires { length program.now.interfaces < 4294967296 }
+    requires { length program.now.interfaces < number_count }
     ensures { Leaves (reading.with_var (program_view program.now) (derivation_view d.old) text.now) (derivation_view d.new) result }
 {
     if !d.nodes.is_empty() {
@@ -165,7 +166,7 @@ fn add_var(alloc: Global, program: &Program, d: &mut Derivation, text: &[u8]) ->
 
 /// A node more.
 fn add_node(alloc: Global, program: &Program, d: &mut Derivation, text: &[u8]) -> Result<(), Unread>
-    requires { length program.now.interfaces < 4294967296 }
+    requires { length program.now.interfaces < number_count }
     ensures { Leaves (reading.with_node (program_view program.now) (derivation_view d.old) text.now) (derivation_view d.new) result }
 {
     let node = read_node(alloc, program, d.nodes.len(), text)?;
@@ -180,7 +181,7 @@ pub fn read_line(
     d: &mut Derivation,
     line: &[u8],
 ) -> Result<(), Unread>
-    requires { length program.now.interfaces < 4294967296 }
+    requires { length program.now.interfaces < number_count }
     ensures { Leaves (reading.with_line (program_view program.now) (derivation_view d.old) line.now) (derivation_view d.new) result }
 {
     match behind(line, b"var ") {

@@ -10,13 +10,11 @@ ghost use Rattle.pat_derivation_lines.specs.patterns.Views.{part_view, parts_vie
 ghost use Rattle.pat_derivation_lines.specs.patterns.Answers.{Gives, Leaves};
 
 use crate::patterns::unread::Unread;
+use pat_limits::MOST_LEVELS;
 use pat_patterns::Pattern;
 use pat_sequences::Stack;
 use std::alloc::Global;
 use std::sync::Arc;
-
-/// The most levels that a pattern may have.
-pub const MOST_LEVELS: u32 = 16384;
 
 /// The most that may wait: each takes a level, or brackets round a part that has one.
 pub const MOST_WAITING: usize = 32768;

@@ -5,6 +5,7 @@ use Rattle.std.specs.Prelude.{ℕ, zero, suc, ◌+◌, Bool, true, false, ◌&&�
 use Rattle.pat_words_spec.specs.Patterns.{Pat, Zero, One, Tag, Sum, Prod, Star, Var}
 use Rattle.pat_texts_spec.specs.Numbers.{read_number}
 use Rattle.pat_derivation_text_spec.specs.patterns.PatternText.{is_sum, is_sum_or_product, is_mark}
+use Rattle.pat_limits.specs.Limits.{most_levels}
 
 -- what waits: a star, an opened bracket, a sum or a product with its left side
 pub data Op : Type 0 where
@@ -40,7 +41,7 @@ having ops parts = record { wants = false; ops = ops; parts = parts }
 
 -- a part without brackets, if it has no more levels than are taken
 abbrev pub part_of : Pat → ℕ → Option Part
-part_of e n = if nat_le n 16384 then Some (record { pattern = e; levels = n; bracketed = false }) else None
+part_of e n = if nat_le n most_levels then Some (record { pattern = e; levels = n; bracketed = false }) else None
 
 abbrev pub star_part : Part → Option Part
 star_part e = if agree e.bracketed (is_sum_or_product e.pattern) then part_of (Star e.pattern) (1 + e.levels) else None

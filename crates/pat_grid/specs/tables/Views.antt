@@ -10,6 +10,7 @@ use Rattle.pat_grid_points.specs.Views.{points_of}
 use Rattle.pat_grid_points.specs.declared.symbols.symbol.Symbol.{Symbol}
 use Rattle.pat_grid_points.specs.symbols.Views.{symbols_view}
 use Rattle.pat_grid.specs.declared.tables.board.Board.{Board}
+use Rattle.pat_limits.specs.Limits.{most_tree_nodes}
 
 -- the points of a grid, if there is one
 abbrev pub points_in_grid : Option Grid → List Word
@@ -42,6 +43,6 @@ AreGrids k n grids = (j : ℕ) (g : Grid) → slice_get grids j ≡ Some g → (
 pub record IsBoard (b : Board) : Type 0 where
   pub fits : IsTrue (grid_fits b.k b.tags)
   pub points : b.points ≡ points_in b.k b.tags
-  pub limit : b.limit ≤ 4096
+  pub limit : b.limit ≤ most_tree_nodes
   pub tags : TagsAreBelow b.tags (flat_view b.symbols.now b.roots.now)
   pub given : AreGrids b.k b.tags b.given.now

@@ -7,6 +7,7 @@ ghost use Rattle.pat_reduce.specs.Views.{entry_view};
 ghost use Rattle.pat_machine.specs.Gives.{outcome_view};
 ghost use Rattle.pat_machine.specs.Remains.{remains_of};
 ghost use Rattle.pat_history.specs.run_reports.RunText.{output_line, output_text, run_text, replay_text, order_text};
+ghost use Rattle.pat_limits.specs.Limits.{number_count};
 
 use crate::run_reports::counting::count_steps;
 use crate::run_reports::standing::push_standing;
@@ -24,7 +25,7 @@ pub fn text_of(
     outcome: Outcome,
 ) -> Result<Vec<u8>, AllocError>
     requires history { IsHistory (map entry_view entries.now) }
-    requires few { length entries.now < 4294967296 }
+    requires few { length entries.now < number_count }
     ensures { (c : Config) → c.printed ≡ printed.now → remains_of c ≡ remains.now → IfOk result (λ t. t.items ≡ run_text (map entry_view entries.now) c (outcome_view outcome)) }
 {
     let mut text = crate::writing::write(alloc, entries)?;
@@ -41,7 +42,7 @@ pub fn replay_text_of(
     remains: &Remains,
     standing: Option<Outcome>,
 ) -> Result<Vec<u8>, AllocError>
-    requires { length entries.now < 4294967296 }
+    requires { length entries.now < number_count }
     ensures { (c : Config) → c.printed ≡ printed.now → remains_of c ≡ remains.now → IfOk result (λ t. t.items ≡ replay_text (map entry_view entries.now) c (option_map outcome_view standing)) }
 {
     let mut text = Vec::new(alloc);
@@ -59,7 +60,7 @@ pub fn order_text_of(
     standing: Option<Outcome>,
 ) -> Result<Vec<u8>, AllocError>
     requires history { IsHistory (map entry_view entries.now) }
-    requires few { length entries.now < 4294967296 }
+    requires few { length entries.now < number_count }
     ensures { (c : Config) → c.printed ≡ printed.now → remains_of c ≡ remains.now → IfOk result (λ t. t.items ≡ order_text (map entry_view entries.now) c (option_map outcome_view standing)) }
 {
     let mut text = crate::writing::write(alloc, entries)?;

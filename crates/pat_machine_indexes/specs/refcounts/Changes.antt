@@ -4,10 +4,11 @@ use Rattle.pat_machine_laws.specs.refcounts.Counting.{count_at}
 use Rattle.pat_machine_indexes.specs.declared.refcounts.names.Names.{Names}
 use Rattle.pat_machine_indexes.specs.declared.refcounts.changing.Change.{Change}
 use Rattle.pat_machine_indexes.specs.declared.refcounts.changing.Change.TheVariants.{Come, Go}
+use Rattle.pat_limits.specs.Limits.{number_count}
 
 -- so many names more of each mailbox can be counted
 abbrev pub HasPlaces : Names → (ℕ → ℕ) → Type 0
-HasPlaces ns more = (a : ℕ) → 0 < more a → (a < length ns.times.items) × (count_at ns.times.items a + more a < 4294967296)
+HasPlaces ns more = (a : ℕ) → 0 < more a → (a < length ns.times.items) × (count_at ns.times.items a + more a < number_count)
 
 -- so many names more of each mailbox are counted
 pub record Counts (old : Names) (more : ℕ → ℕ) (new : Names) : Type 0 where

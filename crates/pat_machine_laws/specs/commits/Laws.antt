@@ -14,6 +14,7 @@ use Rattle.pat_machine_spec.specs.Lendings.{Out, all_in, allowance_of, allowance
 use Rattle.pat_machine_spec.specs.Turns.{IsReady, IsTurn, turn}
 use Rattle.pat_machine_spec.specs.Refusals.{IsRefusedAt}
 use Rattle.pat_machine_spec.specs.Machines.{MachineInvariant, HasRoom}
+use Rattle.pat_limits.specs.Limits.{most_steps}
 
 -- the test of a thread says yes exactly where a step of it is open
 abbrev pub OpenTestIsExact : Type 0
@@ -58,7 +59,7 @@ TopKeepsFrame =
 -- what a machine keeps is true at the start of a typable program
 abbrev pub StartKeeps : Type 0
 StartKeeps =
-    (p : Program) (budget limit : ℕ) → WellFormed p → IsTypable p → budget ≤ 1000000 → 0 < limit → MachineInvariant p budget limit (start p) [] budget (all_in (start p).next_thread)
+    (p : Program) (budget limit : ℕ) → WellFormed p → IsTypable p → budget ≤ most_steps → 0 < limit → MachineInvariant p budget limit (start p) [] budget (all_in (start p).next_thread)
 
 -- it stays true where a ready thread is taken,
 abbrev pub TakeKeeps : Type 0

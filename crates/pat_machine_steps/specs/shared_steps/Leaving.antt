@@ -4,10 +4,11 @@ use Rattle.pat_semantics_spec.specs.Configs.{Thread, Message, Config, thread_at}
 use Rattle.pat_semantics_spec.specs.Steps.{Act, ActNew, ActSend, ActSpawn, ActReceive}
 use Rattle.pat_machine_laws.specs.refcounts.Naming.{times_in}
 use Rattle.pat_machine_laws.specs.refcounts.Counting.{count_at, times_if_message, times_if_thread, times_if_top, last_message}
+use Rattle.pat_limits.specs.Limits.{number_count}
 
 -- the names of each mailbox can be counted, and one that is named was made
 pub record CanBeCounted (c : Config) : Type 0 where
-  pub few : (a : ℕ) → times_in a c < 4294967296
+  pub few : (a : ℕ) → times_in a c < number_count
   pub made : (a : ℕ) → 0 < times_in a c → a < c.next_mailbox
 
 -- how many mailboxes the act makes

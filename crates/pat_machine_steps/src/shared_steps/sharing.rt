@@ -13,6 +13,7 @@ ghost use Rattle.pat_machine_threads.specs.Settling.{settled_thread};
 ghost use Rattle.pat_machine_states.specs.Taking.{taken_act, taken_message};
 ghost use Rattle.pat_machine_steps.specs.shared_steps.Settling.{IsSettled, StandsStill, half_way, Finishes};
 ghost use Rattle.pat_machine_steps.specs.shared_steps.Leaving.{CanBeCounted};
+ghost use Rattle.pat_limits.specs.Limits.{number_count};
 
 use crate::shared_steps::counting::{count_end, count_thread, leave_thread};
 use pat_machine_states::{Counted, Names, State, Taken};
@@ -37,7 +38,7 @@ pub fn share(
     requires ordered { IsOrdered state.old }
     requires room { HasRoom state.old }
     requires settled { IsSettled (program_view code.now.program) state.old thread allowance settled }
-    requires frames { length settled.end.frames < 4294967296 }
+    requires frames { length settled.end.frames < number_count }
     requires typed { (s : ThreadOf) → thread_at state.old thread ≡ Some s → IsTypedBySome (program_view code.now.program) (half_way state.old thread s settled) }
     requires place { vec_len names.old.times < vec_capacity names.old.times }
     requires counted { AreCounted names.old.times.items state.old }

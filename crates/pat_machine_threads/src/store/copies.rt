@@ -4,6 +4,7 @@ ghost use Rattle.pat_reduce.specs.threads.ThreadViews.{message_view};
 ghost use Rattle.pat_reduce.specs.Views.{config_view, threads_view};
 ghost use Rattle.pat_machine_threads.specs.table.Entries.{entries_from};
 ghost use Rattle.pat_machine_threads.specs.store.Placed.{numbered};
+ghost use Rattle.pat_limits.specs.Limits.{number_count};
 
 use crate::copies::copy_state;
 use crate::store::Placed;
@@ -40,7 +41,7 @@ fn copy_threads(
     alloc: Global,
     slots: &[Option<ThreadState>],
 ) -> Result<Sequence<(u32, ThreadState)>, AllocError>
-    requires { length slots.now < 4294967296 }
+    requires { length slots.now < number_count }
     ensures { IfOk result (λ own. threads_view own ≡ threads_view (entries_from 0 slots.now)) }
 {
     let mut own = Sequence::new(alloc);

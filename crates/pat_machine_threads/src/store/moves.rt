@@ -7,6 +7,7 @@ ghost use Rattle.pat_reduce.specs.threads.ThreadViews.{thread_view};
 ghost use Rattle.pat_reduce.specs.Views.{threads_view};
 ghost use Rattle.pat_machine_laws.specs.thread_frames.Alone.{put_back, AreLeft};
 ghost use Rattle.pat_machine_threads.specs.store.Placed.{hollow, in_list};
+ghost use Rattle.pat_limits.specs.Limits.{most_number};
 
 use crate::table::Table;
 use pat_reduce::{Control, ThreadState};
@@ -48,7 +49,7 @@ fn hollow(alloc: Global) -> ThreadState
 pub(crate) fn put_back(threads: &mut Sequence<(u32, ThreadState)>, table: &mut Table, thread: u32)
     requires left { (made : ℕ) × AreLeft thread table.old.made (threads_view threads.old) made }
     requires there { (s : ThreadOf) × (lookup (nat_eq thread) (threads_view table.old.entries) ≡ Some s) }
-    requires number { table.old.made < 4294967295 }
+    requires number { table.old.made < most_number }
     requires room { 0 < table.old.spare }
     ensures none { threads.new ≡ [] }
     ensures made { (made : ℕ) → AreLeft thread table.old.made (threads_view threads.old) made → table.new.made ≡ made }

@@ -5,6 +5,7 @@ ghost use Rattle.pat_reduce.specs.Views.{config_view, threads_view};
 ghost use Rattle.pat_machine_threads.specs.table.Entries.{entries_from};
 ghost use Rattle.pat_machine_threads.specs.store.Placed.{numbered};
 ghost use Rattle.pat_machine_threads.specs.store.Remains.{remains_of};
+ghost use Rattle.pat_limits.specs.Limits.{number_count};
 
 use crate::store::Placed;
 use pat_reduce::{Config, ThreadState};
@@ -53,7 +54,7 @@ fn list_threads(alloc: Global, threads: &[(u32, ThreadState)]) -> Result<Sequenc
 
 // The numbers of the slots in which a thread stands.
 fn list_slots(alloc: Global, slots: &[Option<ThreadState>]) -> Result<Sequence<u32>, AllocError>
-    requires { length slots.now < 4294967296 }
+    requires { length slots.now < number_count }
     ensures { IfOk result (λ own. own ≡ keys_of (threads_view (entries_from 0 slots.now))) }
 {
     let mut own = Sequence::new(alloc);

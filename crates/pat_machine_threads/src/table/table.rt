@@ -8,6 +8,7 @@ ghost use Rattle.pat_reduce.specs.declared.threads.state.ThreadState.{ThreadStat
 ghost use Rattle.pat_reduce.specs.threads.ThreadViews.{control_view, frame_view, thread_view};
 ghost use Rattle.pat_reduce.specs.Views.{threads_view};
 ghost use Rattle.pat_machine_threads.specs.table.Entries.{entries_from};
+ghost use Rattle.pat_limits.specs.Limits.{most_number, number_count};
 
 use pat_reduce::{Control, Frame, ThreadState};
 use pat_sequences::{Base, Stack};
@@ -39,12 +40,13 @@ impl Drop for Table {
 impl Model for Table {
     ghost use Rattle.std.specs.Prelude.{◌≡◌, ◌+◌, ◌<◌, ◌≤◌, length, vec_len, vec_capacity};
     ghost use Rattle.pat_machine_threads.specs.table.Entries.{Threads, entries_from};
+    ghost use Rattle.pat_limits.specs.Limits.{number_count};
 
     ghost Value = { Threads };
 
     ghost view = { λ t. record { entries = entries_from 0 t.slots.items; made = length t.slots.items; spare = t.spare } };
 
-    ghost invariant = { λ t. (t.present ≡ length (entries_from 0 t.slots.items)) × (length t.slots.items < 4294967296) × (vec_len t.slots + t.spare ≤ vec_capacity t.slots) };
+    ghost invariant = { λ t. (t.present ≡ length (entries_from 0 t.slots.items)) × (length t.slots.items < number_count) × (vec_len t.slots + t.spare ≤ vec_capacity t.slots) };
 }
 
 impl Table {
@@ -77,7 +79,7 @@ impl Table {
     pub fn slots(&self) -> &[Option<ThreadState>]
         ensures there { entries_from 0 result.now ≡ self.now.entries }
         ensures made { length result.now ≡ self.now.made }
-        ensures few { length result.now < 4294967296 }
+        ensures few { length result.now < number_count }
         ensures ascends { AscendsFrom 0 (keys_of (threads_view self.now.entries)) }
         ensures below { AllByRecursion (λ e. e.0 < self.now.made) (threads_view self.now.entries) }
     {
@@ -107,7 +109,7 @@ impl Table {
 
     /// A further thread, under the next number. It takes no memory.
     pub fn add(&mut self, state: ThreadState)
-        requires number { self.old.made < 4294967295 }
+        requires number { self.old.made < most_number }
         requires room { 0 < self.old.spare }
         ensures { self.new ≡ record { entries = self.old.entries ++ (self.old.made, state) ∷ []; made = self.old.made + 1; spare = self.old.spare - 1 } }
     {

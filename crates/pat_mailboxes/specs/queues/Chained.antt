@@ -3,6 +3,7 @@ use Rattle.std.specs.Prelude.{◌≡◌, ℕ, ◌-◌, ◌<◌, List, [], length
 use Rattle.pat_mailboxes.specs.queues.Nodes.{path, AreApart}
 use Rattle.pat_mailboxes.specs.declared.queues.chains.Chain.{Chain}
 use Rattle.pat_mailboxes.specs.declared.queues.chains.Chains.{Chains}
+use Rattle.pat_limits.specs.Limits.{number_count}
 
 abbrev pub nodes_of : List ℕ → Chain → List ℕ
 nodes_of links c = path links c.len c.first
@@ -17,7 +18,7 @@ EndsWell links c = 0 < c.len → slice_index (nodes_of links c) (c.len - 1) ≡ 
 
 -- a region whose links lead through the free nodes and through those of each queue, while some nodes stand in no chain
 pub record IsLinked (links : List ℕ) (first spare : ℕ) (queues : List Chain) (loose : List ℕ) : Type 0 where
-  pub fits : length links < 4294967296
+  pub fits : length links < number_count
   pub apart : AreApart (length links) loose (path links spare first) (map (nodes_of links) queues)
   pub ends : (q : ℕ) → EndsWell links (get_or queues q no_chain)
 

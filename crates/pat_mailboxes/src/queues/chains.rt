@@ -1,6 +1,7 @@
 // The nodes of a region, each in the chain of the free ones or in that of one queue.
 ghost use Rattle.std.specs.Prelude.{◌≡◌, ◌+◌, ◌-◌, ◌<◌, cond, [], ◌∷◌, ◌++◌, length, slice_index, slice_set, remove, OnOk, OnErr, vec_len, vec_capacity};
 ghost use Rattle.pat_mailboxes.specs.queues.Chained.{IsChained, queue_nodes, nodes_in};
+ghost use Rattle.pat_limits.specs.Limits.{number_count};
 
 use crate::queues::links::node_at;
 use std::alloc::{AllocError, Global};
@@ -39,7 +40,7 @@ impl Chains {
     /// A further node, which is free. There is room for it.
     pub(crate) fn add_node(&mut self)
         requires chained { IsChained self.old [] }
-        requires fits { vec_len self.old.links + 1 < 4294967296 }
+        requires fits { vec_len self.old.links + 1 < number_count }
         requires room { vec_len self.old.links < vec_capacity self.old.links }
         ensures chained { IsChained self.new [] }
         ensures spare { self.new.spare ≡ self.old.spare + 1 }

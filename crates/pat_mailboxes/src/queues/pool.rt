@@ -106,7 +106,7 @@ impl<T: Drop> Pool<T> {
     {
         let queue = self.marks.len();
         // Queues are numbered with 32 bits.
-        if queue >= 4294967296 {
+        if queue > u32::MAX as usize {
             return Err(AllocError);
         }
         self.marks.reserve(1)?;

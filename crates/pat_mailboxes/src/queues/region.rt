@@ -2,6 +2,7 @@
 ghost use Rattle.std.specs.Prelude.{◌≡◌, ℕ, ◌+◌, ◌<◌, ◌≤◌, List, [], ◌∷◌, ◌++◌, length, map, option_map, get_or, Some, None, IfOk, IsSome, OnOk, OnErr, slice_get, slice_set, remove, vec_len, vec_capacity};
 ghost use Rattle.pat_mailboxes.specs.queues.Pooled.{IsRegion, contents};
 ghost use Rattle.pat_mailboxes.specs.queues.Queues.{Finds};
+ghost use Rattle.pat_limits.specs.Limits.{number_count};
 
 use crate::queues::Test;
 use crate::queues::chains::Chains;
@@ -36,7 +37,7 @@ impl<T: Drop> Region<T> {
         ensures err { OnErr result (self.new.chains.spare ≡ self.old.chains.spare) }
     {
         // Nodes are numbered with 32 bits.
-        if self.held.len() + more as usize >= 4294967296 {
+        if self.held.len() + more as usize > u32::MAX as usize {
             return Err(AllocError);
         }
         self.make_room(more)?;
@@ -64,7 +65,7 @@ impl<T: Drop> Region<T> {
     // Adds a free node, for which there is room.
     fn add_node(&mut self)
         requires region { IsRegion self.old }
-        requires fits { vec_len self.old.held + 1 < 4294967296 }
+        requires fits { vec_len self.old.held + 1 < number_count }
         requires values { vec_len self.old.held < vec_capacity self.old.held }
         requires links { vec_len self.old.chains.links < vec_capacity self.old.chains.links }
         ensures region { IsRegion self.new }

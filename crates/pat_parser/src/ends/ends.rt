@@ -7,12 +7,14 @@ ghost use Rattle.pat_tree.specs.Views.{span_view, name_view, expr_view, term_vie
 ghost use Rattle.pat_parser.specs.states.Views.{guarding_view, clause_head_view, frame_view, block_frame_view, clause_frame_view, stack_view};
 ghost use Rattle.pat_parser.specs.states.Answers.{Gives, Makes};
 ghost use Rattle.pat_parser.specs.ends.Answers.{standing};
+ghost use Rattle.pat_limits.specs.Limits.{most_statements};
 
 use crate::states::{
     BlockFrame, ClauseFrame, ClauseHead, Control, Defining, Fault, Frame, Frames, Guarding,
     LetFrame, Place, State, at, begun, boxed_term, done, over, refused, too_deep, top, with_clause,
     with_decl,
 };
+use pat_limits::MOST_STATEMENTS;
 use pat_syntax::{Mark, Reserved, Span, TokenKind};
 use pat_tree::{Decl, Form, Name, Term, TreeClause, TreeExpr, TreeType};
 use std::alloc::Global;
@@ -305,9 +307,9 @@ fn takes_next(stack: &Frames) -> bool
 
 /// Whether one more statement may be open.
 fn has_statement_room(statements: u16) -> bool
-    ensures { result ≡ nat_lt statements 4095 }
+    ensures { result ≡ nat_lt statements most_statements }
 {
-    statements < 4095
+    u32::from(statements) < MOST_STATEMENTS
 }
 
 fn next_term(place: Place, term: Box<Term>, from: u32) -> Result<State, Fault>

@@ -10,10 +10,11 @@ use Rattle.pat_syntax.specs.Views.{kind_view, token_view}
 use Rattle.pat_tree.specs.Views.{span_view}
 use Rattle.pat_parser_phrases.specs.declared.tokens.fault.ParseError.{ParseError}
 use Rattle.pat_parser_phrases.specs.declared.tokens.fault.ParseError.TheVariants as errors
+use Rattle.pat_limits.specs.Limits.{most_open, most_statements}
 
 -- how much may be open at once
 abbrev pub limits : Limits
-limits = record { tokens = 255; statements = 4095 }
+limits = record { tokens = most_open; statements = most_statements }
 
 -- a tree, or why there is none, and at which offset
 abbrev pub Answer : Type 0

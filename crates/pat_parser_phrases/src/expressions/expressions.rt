@@ -9,6 +9,7 @@ ghost use Rattle.pat_parser_phrases.specs.tokens.Answers.{Rest, Parses, answer, 
 ghost use Rattle.pat_parser_phrases.specs.expressions.Views.{operand_view, pending_view};
 ghost use Rattle.pat_parser_phrases.specs.expressions.Operators.{operator_of, operator_step};
 ghost use Rattle.pat_parser_phrases.specs.expressions.Reads.{behind_operand, behind_expression};
+ghost use Rattle.pat_limits.specs.Limits.{most_open};
 
 use crate::expressions::operands::{Operand, Pending, nothing, whole, with_operator};
 use crate::tokens::{ParseError, Tokens, has_room, is_mark};
@@ -154,7 +155,7 @@ fn open_operator(
     last: ExpressionRead,
 ) -> Result<Pending, ParseError>
     ensures opens { (fs : List m.Frame) (s : ℕ) (ts : Rest) → Parses result (after (operator_step fs opened last.operators s (pending_view pending) (operand_view last.operand) last.to (op_view op)) last.token.span.from ts) (λ p. answer (m.state (m.Want (pending_view p)) fs opened (suc last.operators) s) ts) }
-    ensures room { IfOk result (λ _. opened + last.operators < 255) }
+    ensures room { IfOk result (λ _. opened + last.operators < most_open) }
 {
     let at = last.token.span.from;
     if matches!(op, Op::Equal | Op::Less) && pending.compared.is_some() {

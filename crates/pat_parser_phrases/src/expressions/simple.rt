@@ -7,6 +7,7 @@ ghost use Rattle.pat_syntax.specs.declared.token.TokenKind.TheVariants.{Word as 
 ghost use Rattle.pat_tree.specs.Views.{span_view, name_view, expr_view, term_at, term_view};
 ghost use Rattle.pat_parser_phrases.specs.tokens.Answers.{Rest, Parses, answer, after};
 ghost use Rattle.pat_parser_phrases.specs.expressions.Reads.{behind_expression, behind_term, no_expression, is_simple};
+ghost use Rattle.pat_limits.specs.Limits.{most_open};
 
 use crate::expressions::arguments::arguments;
 use crate::expressions::expressions::{ExpressionRead, expression, expression_named};
@@ -220,7 +221,7 @@ pub fn simple_term(
 /// The test of an `if`, from behind the `if` to behind the opening brace of the first block.
 pub fn test(alloc: Global, tokens: &mut Tokens, opened: u16) -> Result<TreeExpr, ParseError>
     ensures reads { (fs : List m.Frame) (from s : ℕ) → Parses result (answer (m.state (m.Want m.nothing) (m.AtExpr (m.InTest from) ∷ fs) opened 0 s) tokens.old) (λ e. answer (m.state (m.Start true) (m.AtBlock (m.InYes (expr_view e) from opened s) ∷ fs) (suc opened) 0 s) tokens.new) }
-    ensures room { IfOk result (λ _. opened < 255) }
+    ensures room { IfOk result (λ _. opened < most_open) }
     ensures no_more { length tokens.new.0 ≤ length tokens.old.0 }
 {
     let Token { kind, span } = tokens.next()?;

@@ -1,7 +1,9 @@
 // Why tokens are no program.
 ghost use Rattle.std.specs.Prelude.{◌≡◌, ◌+◌, nat_lt};
 ghost use Rattle.pat_parser_phrases.specs.declared.tokens.fault.ParseError.TheVariants.{NoMemory};
+ghost use Rattle.pat_limits.specs.Limits.{most_open};
 
+use pat_limits::MOST_OPEN;
 use std::alloc::{AllocError, AllocFailed};
 use thiserror::Error;
 
@@ -38,7 +40,7 @@ impl<T: Drop> From<AllocFailed<T>> for ParseError {
 
 /// Whether one more bracket or operator may be open.
 pub fn has_room(opened: u16, operators: u16) -> bool
-    ensures { result ≡ nat_lt (opened + operators) 255 }
+    ensures { result ≡ nat_lt (opened + operators) most_open }
 {
-    u64::from(opened) + u64::from(operators) < 255
+    u64::from(opened) + u64::from(operators) < MOST_OPEN
 }

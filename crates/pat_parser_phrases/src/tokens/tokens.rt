@@ -6,6 +6,7 @@ ghost use Rattle.pat_parser_spec.specs.Machine as m;
 ghost use Rattle.pat_syntax.specs.Views.{kind_view, mark_view};
 ghost use Rattle.pat_tree.specs.Views.{name_view, span_view};
 ghost use Rattle.pat_parser_phrases.specs.tokens.Answers.{answer, after, moved, OnlyMark, Parses, Takes};
+ghost use Rattle.pat_limits.specs.Limits.{most_open};
 
 use crate::tokens::fault::{ParseError, has_room};
 use pat_syntax::{Mark, Span, Token, TokenKind};
@@ -106,7 +107,7 @@ impl Tokens {
     /// Takes the next token, where it has to be this mark, which opens a bracket where so many are open.
     pub fn open(&mut self, mark: Mark, opened: u16) -> Result<(), ParseError>
         ensures opened { (x y : m.State) → OnlyMark x (mark_view mark) → ((w : trees.Span) → moved x (kinds.Mark (mark_view mark)) w ≡ m.Opens opened 0 y) → Parses result (answer x self.old) (λ u. answer y self.new) }
-        ensures room { IfOk result (λ u. opened < 255) }
+        ensures room { IfOk result (λ u. opened < most_open) }
         ensures no_more { length self.new.0 ≤ length self.old.0 }
     {
         let place = self.mark(mark)?;

@@ -7,6 +7,7 @@ ghost use Rattle.pat_syntax.specs.Views.{kind_view};
 ghost use Rattle.pat_tree.specs.Views.{span_view, pattern_view};
 ghost use Rattle.pat_parser_phrases.specs.tokens.Answers.{Parses, answer, after, moved};
 ghost use Rattle.pat_parser_phrases.specs.types.Ends.{behind_pattern, behind_factor, held_view, before_view};
+ghost use Rattle.pat_limits.specs.Limits.{most_open};
 
 use crate::tokens::{ParseError, Tokens, has_room};
 use pat_syntax::{Mark, Span, Token, TokenKind};
@@ -39,7 +40,7 @@ fn after_opening(
     place: Span,
 ) -> Result<Token, ParseError>
     ensures taken { (x : m.State) → m.finish x ≡ None → Parses result (after (m.Opens opened operators x) place.from tokens.old) (λ t. after (moved x (kind_view t.kind) (span_view t.span)) t.span.from tokens.new) }
-    ensures room { IfOk result (λ t. opened + operators < 255) }
+    ensures room { IfOk result (λ t. opened + operators < most_open) }
     ensures fewer { IfOk result (λ t. length tokens.new.0 < length tokens.old.0) }
     ensures no_more { length tokens.new.0 ≤ length tokens.old.0 }
 {

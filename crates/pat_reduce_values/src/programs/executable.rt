@@ -4,6 +4,7 @@ ghost use Rattle.pat_semantics_laws.specs.Programs.{is_free};
 ghost use Rattle.pat_semantics_laws.specs.WellFormed.{WellFormed};
 ghost use Rattle.pat_core.specs.Views.{program_view};
 ghost use Rattle.pat_reduce_values.specs.programs.FreeVariables.{is_listed};
+ghost use Rattle.pat_limits.specs.Limits.{number_count};
 
 use crate::programs::Variables;
 use crate::programs::free_variables::list_free;
@@ -17,7 +18,7 @@ pub struct Executable {
     pub program: Program,
     free: Sequence<Variables>,
     ghost listed: { (x n : ℕ) → is_listed free n x ≡ is_free (program_view program) x n },
-    ghost small: { (x n : ℕ) → IsTrue (is_free (program_view program) x n) → x < 4294967296 },
+    ghost small: { (x n : ℕ) → IsTrue (is_free (program_view program) x n) → x < number_count },
 }
 
 impl Executable {

@@ -2,6 +2,7 @@
 ghost use Rattle.std.specs.Prelude.{◌≡◌, ◌≤◌, ◌<◌, ◌||◌, ℕ, false, nat_eq, IsTrue, OnOk, OnErr};
 ghost use Rattle.pat_semantics_laws.specs.Programs.{is_among};
 ghost use Rattle.pat_semantics_laws.specs.WellFormed.{count_among};
+ghost use Rattle.pat_limits.specs.Limits.{number_count};
 
 use pat_sequences::Sequence;
 use std::alloc::{AllocError, Global};
@@ -11,7 +12,7 @@ use std::alloc::{AllocError, Global};
 pub struct Variables {
     pub listed: Sequence<u32>,
     ghost once: { (x : ℕ) → count_among x listed ≤ 1 },
-    ghost small: { (x : ℕ) → IsTrue (is_among x listed) → x < 4294967296 },
+    ghost small: { (x : ℕ) → IsTrue (is_among x listed) → x < number_count },
 }
 
 impl Variables {

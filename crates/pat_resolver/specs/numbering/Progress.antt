@@ -18,6 +18,7 @@ use Rattle.pat_resolver.specs.numbering.Kinds.{HasAt}
 use Rattle.pat_resolver.specs.declared.numbering.guards.Bodies.{Bodies}
 use Rattle.pat_resolver.specs.declared.numbering.state.Context.{Context}
 use Rattle.pat_resolver.specs.declared.numbering.state.Numbering.{Numbering}
+use Rattle.pat_limits.specs.Limits.{number_count}
 
 -- where a node stands in the text
 abbrev pub node_place : CodeNode → tree.Span
@@ -29,8 +30,8 @@ kinds_of c = map kind_view c.kinds.now
 
 -- there is room for so many nodes and so many variables, and the kinds of the variables are these
 pub record Fits (c : Context) (s : Numbering) (nodes variables : ℕ) (ks : List Kind) : Type 0 where
-  pub room : length s.nodes + nodes < 4294967296
-  pub names : s.next + variables < 4294967296
+  pub room : length s.nodes + nodes < number_count
+  pub names : s.next + variables < number_count
   pub kinds : HasAt (kinds_of c) s.next ks
 
 -- these nodes were appended, with their places; so many variables were numbered, and these are in scope besides

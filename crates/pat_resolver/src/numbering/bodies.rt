@@ -8,6 +8,7 @@ ghost use Rattle.pat_resolver_spec.specs.Places.{node_places};
 ghost use Rattle.pat_resolver.specs.numbering.Kinds.{HasAt};
 ghost use Rattle.pat_resolver_heads.specs.tables.Views.{scope_view};
 ghost use Rattle.pat_tree.specs.Views.{span_view, term_view};
+ghost use Rattle.pat_limits.specs.Limits.{number_count};
 
 use crate::numbering::state::{Context, Numbering};
 use pat_core::Kind;
@@ -38,8 +39,8 @@ impl<'a> Numbering<'a> {
         kind: Kind,
         body: &'a Term,
     ) -> Result<(), AllocError>
-        requires room { length self.old.nodes + nodes_in (term_view body.now) < 4294967296 }
-        requires names { self.old.next + binders_in (term_view body.now) < 4294967296 }
+        requires room { length self.old.nodes + nodes_in (term_view body.now) < number_count }
+        requires names { self.old.next + binders_in (term_view body.now) < number_count }
         requires kinds { HasAt (map kind_view context.now.kinds.now) self.old.next (vars_of (heads_view context.now.heads.now) (scope_view self.old.scope) self.old.next (term_view body.now)) }
         ensures nodes { OnOk result (map node_view self.new.nodes ≡ map node_view self.old.nodes ++ nodes_of (heads_view context.now.heads.now) context.now.function (scope_view self.old.scope) (length self.old.nodes) self.old.next (kind_view kind) (term_view body.now)) }
         ensures places { OnOk result (map (λ d. span_view d.span) self.new.nodes ≡ map (λ d. span_view d.span) self.old.nodes ++ node_places (term_view body.now)) }

@@ -7,6 +7,7 @@ ghost use Rattle.pat_resolver_spec.specs.Numbering.{numbers_from};
 ghost use Rattle.pat_resolver.specs.numbering.Progress.{kinds_of, no_bodies, receive_of, AddsTerm, AddsClauses, AddsReceive, ClausesFit, Notes, ReceiveFits, TermFits};
 ghost use Rattle.pat_resolver_heads.specs.tables.Views.{scope_view};
 ghost use Rattle.pat_tree.specs.Views.{clause_view, name_view, pattern_view, span_view, term_view};
+ghost use Rattle.pat_limits.specs.Limits.{number_count};
 
 use crate::numbering::lookups::{guarded_interface, tag_number, variable_number};
 use crate::numbering::state::{Context, Numbering, Spot};
@@ -155,7 +156,7 @@ impl<'a> Numbering<'a> {
         names: &'a Sequence<Name>,
     ) -> Result<Sequence<u32>, AllocError>
         requires kinds { self.old.next + length names.now ≤ length context.now.kinds.now }
-        requires room { self.old.next + length names.now < 4294967296 }
+        requires room { self.old.next + length names.now < number_count }
         ensures numbers { IfOk result (λ ns. ns ≡ numbers_from self.old.next (map name_view names.now)) }
         ensures next { IfOk result (λ ns. self.new.next ≡ self.old.next + length names.now) }
         ensures nodes { IfOk result (λ ns. self.new.nodes ≡ self.old.nodes) }

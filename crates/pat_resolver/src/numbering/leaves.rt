@@ -4,6 +4,7 @@ ghost use Rattle.pat_core.specs.Views.{kind_view};
 ghost use Rattle.pat_parser_spec.specs.Trees.{PrintTerm, NewTerm, FreeTerm, SendTerm, CallTerm, ValueTerm};
 ghost use Rattle.pat_resolver.specs.numbering.Progress.{AddsTerm};
 ghost use Rattle.pat_tree.specs.Views.{expr_view, name_view, span_view};
+ghost use Rattle.pat_limits.specs.Limits.{number_count};
 
 use crate::numbering::expressions::{number_args, number_expr};
 use crate::numbering::lookups::{
@@ -96,7 +97,7 @@ impl<'a> Numbering<'a> {
         spot: Spot,
         mailbox: &Name,
     ) -> Result<(), AllocError>
-        requires { length self.old.nodes + 2 < 4294967296 }
+        requires { length self.old.nodes + 2 < number_count }
         ensures { OnOk result (AddsTerm context.now (kind_view spot.kind) (FreeTerm (name_view mailbox.now) (span_view spot.span)) self.old self.new) }
     {
         let var = variable_number(&self.scope, &mailbox.text);

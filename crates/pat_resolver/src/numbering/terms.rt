@@ -5,6 +5,7 @@ ghost use Rattle.pat_parser_spec.specs.Trees.{SpawnTerm};
 ghost use Rattle.pat_core.specs.declared.program.Node.{Node};
 ghost use Rattle.pat_resolver.specs.numbering.Progress.{AddsTerm, AddsLet, FillsIf, IsLast, LetFits, TermFits};
 ghost use Rattle.pat_tree.specs.Views.{expr_view, name_view, span_view, term_view};
+ghost use Rattle.pat_limits.specs.Limits.{number_count};
 
 use crate::numbering::expressions::number_expr;
 use crate::numbering::state::{Context, Numbering, Spot};
@@ -183,8 +184,8 @@ impl<'a> Numbering<'a> {
         test: &TreeExpr,
     ) -> Result<(), AllocError>
         requires there { place < length self.old.nodes }
-        requires room { place + 1 < 4294967296 }
-        requires other { other < 4294967296 }
+        requires room { place + 1 < number_count }
+        requires other { other < number_count }
         ensures { OnOk result ((d : Node) × FillsIf context.now (kind_view spot.kind) (span_view spot.span) (expr_view test.now) place other d self.old self.new) }
     {
         let test = number_expr(alloc, &self.scope, test)?;

@@ -3,6 +3,7 @@ use Rattle.std.specs.Prelude.{ℕ, ◌<◌, ◌≤◌, ◌&&◌, nat_le, bytes_e
 use Rattle.pat_texts_spec.specs.Numbers.{read_digits}
 use Rattle.pat_run.specs.declared.options.options.Choice.{Choice}
 use Rattle.pat_run.specs.declared.options.options.RunOptions.{RunOptions}
+use Rattle.pat_limits.specs.Limits.{most_messages, most_steps, most_workers}
 
 -- the number that one to seven decimal digits spell
 abbrev pub number_of : List ℕ → Option ℕ
@@ -11,17 +12,17 @@ number_of word = if nat_le 1 (length word) && nat_le (length word) 7 then read_d
 -- a number of workers that wasn't chosen yet, from 1 to 64
 abbrev pub with_workers : Choice → Option ℕ → Option Choice
 with_workers c None = None
-with_workers c (Some n) = if is_none c.workers && (nat_le 1 n && nat_le n 64) then Some (record { workers = Some n; steps = c.steps; messages = c.messages }) else None
+with_workers c (Some n) = if is_none c.workers && (nat_le 1 n && nat_le n most_workers) then Some (record { workers = Some n; steps = c.steps; messages = c.messages }) else None
 
 -- a number of steps that wasn't chosen yet, from 0 to 1,000,000
 abbrev pub with_steps : Choice → Option ℕ → Option Choice
 with_steps c None = None
-with_steps c (Some n) = if is_none c.steps && nat_le n 1000000 then Some (record { workers = c.workers; steps = Some n; messages = c.messages }) else None
+with_steps c (Some n) = if is_none c.steps && nat_le n most_steps then Some (record { workers = c.workers; steps = Some n; messages = c.messages }) else None
 
 -- a number of messages that wasn't chosen yet, from 1 to 1,000,000
 abbrev pub with_messages : Choice → Option ℕ → Option Choice
 with_messages c None = None
-with_messages c (Some n) = if is_none c.messages && (nat_le 1 n && nat_le n 1000000) then Some (record { workers = c.workers; steps = c.steps; messages = Some n }) else None
+with_messages c (Some n) = if is_none c.messages && (nat_le 1 n && nat_le n most_messages) then Some (record { workers = c.workers; steps = c.steps; messages = Some n }) else None
 
 -- one option: its name and its number
 abbrev pub with_option : Choice → (name number : List ℕ) → Option Choice
@@ -43,7 +44,7 @@ or_default (Some m) n = m
 
 -- one worker, 100,000 steps and 1,000,000 messages, where nothing else is chosen
 abbrev pub with_defaults : Choice → RunOptions
-with_defaults c = record { workers = or_default c.workers 1; steps = or_default c.steps 100000; messages = or_default c.messages 1000000 }
+with_defaults c = record { workers = or_default c.workers 1; steps = or_default c.steps 100000; messages = or_default c.messages most_messages }
 
 abbrev pub nothing_chosen : Choice
 nothing_chosen = record { workers = None; steps = None; messages = None }
@@ -55,11 +56,11 @@ options_of words = option_map with_defaults (choices nothing_chosen words)
 -- ---- bounds
 
 abbrev pub ChosenWithin : Choice → Type 0
-ChosenWithin c = IfSome c.workers (λ n. (0 < n) × (n ≤ 64)) × IfSome c.steps (λ n. n ≤ 1000000) × IfSome c.messages (λ n. (0 < n) × (n ≤ 1000000))
+ChosenWithin c = IfSome c.workers (λ n. (0 < n) × (n ≤ most_workers)) × IfSome c.steps (λ n. n ≤ most_steps) × IfSome c.messages (λ n. (0 < n) × (n ≤ most_messages))
 
 -- from 1 to 64 workers, at most 1,000,000 steps, and from 1 to 1,000,000 messages
 pub record IsWithin (o : RunOptions) : Type 0 where
-  pub workers : (0 < o.workers) × (o.workers ≤ 64)
-  pub steps : o.steps ≤ 1000000
+  pub workers : (0 < o.workers) × (o.workers ≤ most_workers)
+  pub steps : o.steps ≤ most_steps
   pub some : 0 < o.messages
-  pub messages : o.messages ≤ 1000000
+  pub messages : o.messages ≤ most_messages

@@ -2,6 +2,7 @@
 ghost use Rattle.std.specs.Prelude.{◌≡◌, map, string_bytes, IfSome};
 ghost use Rattle.pat_run.specs.options.Options as chosen;
 
+use pat_limits::{MOST_MESSAGES, MOST_STEPS, MOST_WORKERS};
 use pat_texts::read_digits;
 
 /// How many workers a run has, how many steps it may take, and how many messages may be pending in it.
@@ -80,7 +81,7 @@ fn with_workers(choice: Choice, number: Option<u32>) -> Option<Choice>
 {
     match number {
         Some(workers) => {
-            if choice.workers.is_none() && (1 <= workers && workers <= 64) {
+            if choice.workers.is_none() && (1 <= workers && workers <= MOST_WORKERS) {
                 Some(Choice {
                     workers: Some(workers),
                     steps: choice.steps,
@@ -101,7 +102,7 @@ fn with_steps(choice: Choice, number: Option<u32>) -> Option<Choice>
 {
     match number {
         Some(steps) => {
-            if choice.steps.is_none() && steps <= 1_000_000 {
+            if choice.steps.is_none() && steps <= MOST_STEPS {
                 Some(Choice {
                     workers: choice.workers,
                     steps: Some(steps),
@@ -122,7 +123,7 @@ fn with_messages(choice: Choice, number: Option<u32>) -> Option<Choice>
 {
     match number {
         Some(messages) => {
-            if choice.messages.is_none() && (1 <= messages && messages <= 1_000_000) {
+            if choice.messages.is_none() && (1 <= messages && messages <= MOST_MESSAGES) {
                 Some(Choice {
                     workers: choice.workers,
                     steps: choice.steps,
@@ -162,7 +163,7 @@ fn with_defaults(choice: Choice) -> RunOptions
     };
     let messages = match choice.messages {
         Some(messages) => messages,
-        None => 1_000_000,
+        None => MOST_MESSAGES,
     };
     RunOptions {
         workers,

@@ -2,6 +2,7 @@
 ghost use Rattle.std.specs.Prelude.{◌<◌, ◌≤◌, IfOk, Some};
 ghost use Rattle.pat_machine.specs.Gives.{IsOver, OutcomeGives};
 ghost use Rattle.pat_run.specs.single.Runs.{RunGives};
+ghost use Rattle.pat_limits.specs.Limits.{most_messages, most_steps};
 
 use pat_machine::{Machine, Outcome};
 use pat_typed_program::Accepted;
@@ -22,9 +23,9 @@ pub fn run(
     steps: u64,
     messages: u32,
 ) -> Result<Finished, AllocError>
-    requires steps { steps ≤ 1000000 }
+    requires steps { steps ≤ most_steps }
     requires some { 0 < messages }
-    requires messages { messages ≤ 1000000 }
+    requires messages { messages ≤ most_messages }
     ensures { IfOk result (RunGives accepted steps messages) }
 {
     let mut machine = Machine::new(alloc, accepted, steps, messages)?;

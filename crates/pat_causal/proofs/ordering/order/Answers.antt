@@ -1,10 +1,10 @@
 use Rattle.std.proofs.Common.{◌+◌, ◌≤◌, length, map, sym, ap, ◌∙◌, subst, arith}
 use Rattle.std.proofs.lemmas.List.{with_items_is}
 use Rattle.pat_reduce.specs.Views.{entry_view}
-use Rattle.pat_causal_spec.specs.Reordered.{most_entries}
 use Rattle.pat_causal_laws.proofs.Histories.{leads_replays}
 use Rattle.pat_causal.proofs.Fronts.{IsFront, no_front, front_small, push_moves, push_known, push_few, moved, all_ordered}
 use Rattle.pat_causal.proofs.ordering.order.Goals as goal
+use Rattle.pat_limits.specs.Limits.{most_entries}
 
 pub loop-i-init : goal.loop-i-init
 loop-i-init c = no_front c.args.entries.now c.new-ordered.result.items c.new-places.result.items c.none-counts.result c.new-ordered.ensures.items c.new-places.ensures.items c.none-counts.ensures.spawned c.none-counts.ensures.sent

@@ -2,9 +2,9 @@ use Rattle.std.proofs.Common.{◌<◌, length, map, arith}
 use Rattle.std.proofs.lemmas.List.{length-map}
 use Rattle.pat_core.specs.Views.{program_view}
 use Rattle.pat_reduce.specs.Views.{config_view, entry_view}
-use Rattle.pat_causal_spec.specs.Reordered.{most_entries}
 use Rattle.pat_command_order.proofs.Answering.{too_many}
 use Rattle.pat_command_order.proofs.command.in_order.Goals as goal
+use Rattle.pat_limits.specs.Limits.{most_entries}
 
 pub returns-then-len-gt-MOST_ENTRIES : goal.returns-then-len-gt-MOST_ENTRIES
 returns-then-len-gt-MOST_ENTRIES c = λ bytes replays.

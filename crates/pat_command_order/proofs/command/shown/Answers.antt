@@ -3,10 +3,11 @@ use Rattle.std.proofs.lemmas.List.{length-map}
 use Rattle.pat_core.specs.Views.{program_view}
 use Rattle.pat_semantics_spec.specs.Runs.{IsHistory}
 use Rattle.pat_reduce.specs.Views.{config_view, entry_view}
-use Rattle.pat_causal_spec.specs.Reordered.{most_entries, IsReordered}
+use Rattle.pat_causal_spec.specs.Reordered.{IsReordered}
 use Rattle.pat_causal_laws.proofs.Histories.{leads_history}
 use Rattle.pat_command_order.proofs.Answering.{leads_length, ordered_is}
 use Rattle.pat_command_order.proofs.command.shown.Goals as goal
+use Rattle.pat_limits.specs.Limits.{most_entries}
 
 pub order_text_of-requires-clause-history : goal.order_text_of-requires-clause-history
 order_text_of-requires-clause-history c =

@@ -7,6 +7,6 @@ overflow_mul-points c =
     let l = mul-le-mul_right (c.args.k + 1) c.loop-counted.invariant.few in
     omega arith
 
-pub returns-then-points-gt65536 : goal.returns-then-points-gt65536
-returns-then-points-gt65536 c =
+pub returns-then-points-gt-MOST_POINTS : goal.returns-then-points-gt-MOST_POINTS
+returns-then-points-gt-MOST_POINTS c =
     too_many c.args.k c.args.tags c.loop-counted.counted c.loop-counted.points (omega arith) c.loop-counted.invariant.number (omega arith)

@@ -11,10 +11,11 @@ use Rattle.pat_resolver_heads.specs.Views.{heads_view}
 use Rattle.pat_resolver.specs.Steps.{definition_view, body_findings}
 use Rattle.pat_resolver.proofs.Room.{names_few}
 use Rattle.pat_resolver.proofs.functions.check_decl.Goals as goal
+use Rattle.pat_limits.specs.Limits.{number_count}
 
 pub check_function-requires-clause-names : goal.check_function-requires-clause-names
 check_function-requires-clause-names c =
-    names_few (name_view c.in-Def.name) _ _ _ _ c.as_slice.ensures (subst (λ d. decl_size (decl_view d) < 4294967296) c.in-Def.is c.requires.names)
+    names_few (name_view c.in-Def.name) _ _ _ _ c.as_slice.ensures (subst (λ d. decl_size (decl_view d) < number_count) c.in-Def.is c.requires.names)
 
 pub returns-in-Def-clause-found : goal.returns-in-Def-clause-found
 returns-in-Def-clause-found c =

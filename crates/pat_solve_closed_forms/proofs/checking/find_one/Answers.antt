@@ -9,12 +9,13 @@ use Rattle.pat_solve_closed_forms.specs.Sides.{right_pattern}
 use Rattle.pat_solve_closed_forms.specs.Forms.{side_sets, side_view, values_by}
 use Rattle.pat_solve_closed_forms.proofs.Reflexive.{follows_same, no_right_form}
 use Rattle.pat_solve_closed_forms.proofs.checking.find_one.Goals as goal
+use Rattle.pat_limits.specs.Limits.{most_sets}
 
 pub find_against-requires-clause-right : goal.find_against-requires-clause-right
 find_against-requires-clause-right c =
     let f = subst_of (values_by c.args.by.now) (right_pattern (right_view c.args.constraint.now.right)) in
     let own : Some (side_sets c.in-Some.form) ≡ closed_form most_tags f = subst (λ o. side_view o ≡ closed_form most_tags f) c.in-Some.is c.in_ok-right.ensures in
-    let short : length (side_sets c.in-Some.form) ≤ 4096 = form_short most_tags f (side_sets c.in-Some.form) own in
+    let short : length (side_sets c.in-Some.form) ≤ most_sets = form_short most_tags f (side_sets c.in-Some.form) own in
     omega (arith, short)
 
 pub returns-then-same : goal.returns-then-same

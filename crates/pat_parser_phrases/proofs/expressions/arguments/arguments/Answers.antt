@@ -6,11 +6,12 @@ use Rattle.pat_syntax.specs.Views.{kind_view}
 use Rattle.pat_tree.specs.Views.{span_view, expr_view}
 use Rattle.pat_parser_phrases.proofs.Joining.{comma_taken, in_arguments}
 use Rattle.pat_parser_phrases.proofs.expressions.arguments.arguments.Goals as goal
+use Rattle.pat_limits.specs.Limits.{most_open}
 
 pub loop-args-init : goal.loop-args-init
 loop-args-init c = record {
   same = λ h fs s.
-      let room : nat_lt (c.args.opened + 0) 255 ≡ true = cc in
+      let room : nat_lt (c.args.opened + 0) most_open ≡ true = cc in
       let first = c.in_ok-next.next in
       let state = m.state m.FirstArg (m.AtExpr (m.InArgs h [] c.args.opened) ∷ fs) (suc c.args.opened) 0 s in
       in_arguments h fs c.args.opened s c.new-args.result c.args.at (kind_view first.kind) (span_view first.span) first.span.from c.args.tokens.now c.next.new.self room c.new-args.ensures (λ e. let h = c.is_mark.ensures.1 e in cc) (c.in_ok-next.ensures.taken state refl);

@@ -11,10 +11,11 @@ use Rattle.pat_parser_phrases.specs.expressions.Operators.{operator_of}
 use Rattle.pat_parser_phrases.specs.expressions.Reads.{behind_expression}
 use Rattle.pat_parser_phrases.proofs.Joining.{in_bracket, operator_taken}
 use Rattle.pat_parser_phrases.proofs.expressions.expressions.+expression.Goals as goal
+use Rattle.pat_limits.specs.Limits.{most_open}
 
 pub bracket-returns-in_err-inner-clause-reads : goal.bracket-returns-in_err-inner-clause-reads
 bracket-returns-in_err-inner-clause-reads t c = λ fs s p.
-    let room : nat_lt (c.args.opened + c.args.operators) 255 ≡ true = cc in
+    let room : nat_lt (c.args.opened + c.args.operators) most_open ≡ true = cc in
     let next = c.in_ok-kind.field-0 in
     let inside = m.AtExpr (m.InBracket p c.args.from c.args.opened) ∷ fs in
     let e = in_bracket fs c.args.opened c.args.operators s (c.args.opened + 1) p c.args.from (kind_view next.kind) (span_view next.span) next.span.from c.args.tokens.now c.next.new.self room (omega arith) (λ e. let h = c.is_mark.ensures.1 e in cc) (c.in_ok-kind.ensures.taken (m.state m.Opened inside (suc c.args.opened) c.args.operators s) refl) in
@@ -22,7 +23,7 @@ bracket-returns-in_err-inner-clause-reads t c = λ fs s p.
 
 pub bracket-returns-clause-reads : goal.bracket-returns-clause-reads
 bracket-returns-clause-reads t c = λ fs s p.
-    let room : nat_lt (c.args.opened + c.args.operators) 255 ≡ true = cc in
+    let room : nat_lt (c.args.opened + c.args.operators) most_open ≡ true = cc in
     let next = c.in_ok-kind.field-0 in
     let inside = m.AtExpr (m.InBracket p c.args.from c.args.opened) ∷ fs in
     let e = in_bracket fs c.args.opened c.args.operators s (c.args.opened + 1) p c.args.from (kind_view next.kind) (span_view next.span) next.span.from c.args.tokens.now c.next.new.self room (omega arith) (λ e. let h = c.is_mark.ensures.1 e in cc) (c.in_ok-kind.ensures.taken (m.state m.Opened inside (suc c.args.opened) c.args.operators s) refl) in

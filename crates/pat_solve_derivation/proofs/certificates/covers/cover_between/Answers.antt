@@ -15,6 +15,7 @@ use Rattle.pat_certificate_checks.proofs.CoverTags.{cover_shown}
 use Rattle.pat_solve_elimination.proofs.Forms.{form_short}
 use Rattle.pat_solve_derivation.specs.certificates.Making.{scope_in}
 use Rattle.pat_solve_derivation.proofs.certificates.covers.cover_between.Goals as goal
+use Rattle.pat_limits.specs.Limits.{most_sets}
 
 pub cover_of-requires-clause-few : goal.cover_of-requires-clause-few
 cover_of-requires-clause-few c =
@@ -22,7 +23,7 @@ cover_of-requires-clause-few c =
     let sets = c.as_slice-2.result.now in
     let f = subst_of (pattern_of s) (pattern_view c.args.right.now) in
     let form : Some (sets_view sets) ≡ closed_form (s.tags c.args.interface) f = ap (λ x. Some x) c.as_slice-2.ensures ∙ sym c.in_ok-right.ensures in
-    let short : length (sets_view sets) ≤ 4096 = form_short (s.tags c.args.interface) f (sets_view sets) form in
+    let short : length (sets_view sets) ≤ most_sets = form_short (s.tags c.args.interface) f (sets_view sets) form in
     let as_many : length (sets_view sets) ≡ length sets = length-map sets set_view in
     omega (arith, short, as_many)
 
