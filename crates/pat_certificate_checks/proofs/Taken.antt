@@ -10,8 +10,8 @@ use Rattle.pat_certificate_checks.proofs.Arms.{arm_of_itself}
 use Rattle.pat_certificate_checks.specs.Shown.{Leaves, but_first, left_by, Takes}
 use Rattle.pat_derivations.specs.declared.data.Cert.{Cert as CodeCert}
 use Rattle.pat_derivations.specs.Views.{certs_view}
-use Rattle.pat_certificate_checks.specs.declared.showing.Outcome.{Outcome}
-use Rattle.pat_certificate_checks.specs.declared.showing.Outcome.TheVariants as outcome
+use Rattle.pat_certificate_checks.specs.declared.showing.Showing.{Showing}
+use Rattle.pat_certificate_checks.specs.declared.showing.Showing.TheVariants as outcome
 
 abbrev one : Option ℕ → Pat → Pat → Inclusion
 one i e f = record { interface = i; left = e; right = f }
@@ -64,7 +64,7 @@ not_reflexive s i e certs f = not_formed s i e e certs (ap₂ (λ a b. a && b) f
 pub leaves_all : (s : Scope) (qs : List Inclusion) (certs : List Cert) → [] ≡ qs → Leaves s qs certs (Some certs)
 leaves_all s qs certs e more = ap (λ xs. are_shown s (xs ++ more) certs) (sym e)
 
-pub leaves_by : (s : Scope) (q : Inclusion) (qs : List Inclusion) (certs : List Cert) (how : Outcome) → q ∷ [] ≡ qs → Takes s q.interface q.left q.right certs how → Leaves s qs certs (left_by how certs)
+pub leaves_by : (s : Scope) (q : Inclusion) (qs : List Inclusion) (certs : List Cert) (how : Showing) → q ∷ [] ≡ qs → Takes s q.interface q.left q.right certs how → Leaves s qs certs (left_by how certs)
 leaves_by s q qs certs how e t = subst (λ xs. Leaves s xs certs (left_by how certs)) e t
 
 but_first_view : (certs : List CodeCert) → but_first (certs_view certs) ≡ certs_view (drop 1 certs)

@@ -3,8 +3,8 @@ use Rattle.std.specs.Prelude.{◌≡◌, ℕ, false, List, [], ◌∷◌, ◌++�
 use Rattle.pat_words_spec.specs.Patterns.{Pat}
 use Rattle.pat_inclusion_spec.specs.Values.{Scope}
 use Rattle.pat_inclusion_spec.specs.Certificates.{Cert, Inclusion, are_shown}
-use Rattle.pat_certificate_checks.specs.declared.showing.Outcome.{Outcome}
-use Rattle.pat_certificate_checks.specs.declared.showing.Outcome.TheVariants as outcome
+use Rattle.pat_certificate_checks.specs.declared.showing.Showing.{Showing}
+use Rattle.pat_certificate_checks.specs.declared.showing.Showing.TheVariants as outcome
 
 -- what the inclusions and others ask of the certificates is what the others ask of those that are left
 abbrev pub Leaves : Scope → List Inclusion → List Cert → Option (List Cert) → Type 0
@@ -17,11 +17,11 @@ but_first [] = []
 but_first (cert ∷ certs) = certs
 
 -- what is left where the inclusion is shown so
-abbrev pub left_by : Outcome → List Cert → Option (List Cert)
+abbrev pub left_by : Showing → List Cert → Option (List Cert)
 left_by outcome.NotShown certs = None
 left_by outcome.Trivially certs = Some certs
 left_by outcome.ByNext certs = Some (but_first certs)
 
 -- so it is of one inclusion
-abbrev pub Takes : Scope → Option ℕ → Pat → Pat → List Cert → Outcome → Type 0
+abbrev pub Takes : Scope → Option ℕ → Pat → Pat → List Cert → Showing → Type 0
 Takes s i e f certs how = Leaves s (record { interface = i; left = e; right = f } ∷ []) certs (left_by how certs)

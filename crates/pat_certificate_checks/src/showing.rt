@@ -57,7 +57,7 @@ pub fn cert_shows(
 
 /// How an inclusion is shown, or that it is not.
 #[derive(Clone, Copy, Debug, PartialEq, Eq)]
-pub enum Outcome {
+pub enum Showing {
     /// It is not.
     NotShown,
     /// It is trivial.
@@ -77,7 +77,7 @@ fn shown_in(
     left: &Pattern,
     right: &Pattern,
     certs: &[Cert],
-) -> Result<Outcome, AllocError>
+) -> Result<Showing, AllocError>
     requires well { WellFormed (program_view program.now) }
     requires values { IsTrue (values_fit (scope_of (program_view program.now) (derivation_view derivation.now))) }
     requires plain { patterns_view plain.now ≡ all_plain (derivation_view derivation.now).vars }
@@ -86,15 +86,15 @@ fn shown_in(
     ensures { IfOk result (Takes (scope_of (program_view program.now) (derivation_view derivation.now)) (Some interface) (pattern_view left.now) (pattern_view right.now) (certs_view certs.now)) }
 {
     if is_trivial(alloc, plain, left, right)? {
-        return Ok(Outcome::Trivially);
+        return Ok(Showing::Trivially);
     }
     match certs.first() {
-        None => Ok(Outcome::NotShown),
+        None => Ok(Showing::NotShown),
         Some(cert) => {
             if cert_shows(alloc, program, derivation, interface, left, right, cert)? {
-                Ok(Outcome::ByNext)
+                Ok(Showing::ByNext)
             } else {
-                Ok(Outcome::NotShown)
+                Ok(Showing::NotShown)
             }
         }
     }
@@ -109,21 +109,21 @@ fn shown(
     plain: &[Pattern],
     needed: &Inclusion,
     certs: &[Cert],
-) -> Result<Outcome, AllocError>
+) -> Result<Showing, AllocError>
     requires well { WellFormed (program_view program.now) }
     requires values { IsTrue (values_fit (scope_of (program_view program.now) (derivation_view derivation.now))) }
     requires plain { patterns_view plain.now ≡ all_plain (derivation_view derivation.now).vars }
     ensures { IfOk result (Takes (scope_of (program_view program.now) (derivation_view derivation.now)) needed.now.interface (side_view needed.now.left) (pattern_view needed.now.right.now) (certs_view certs.now)) }
 {
     match needed.interface {
-        None => Ok(Outcome::NotShown),
+        None => Ok(Showing::NotShown),
         Some(interface) => {
             let left = needed.left.as_pattern();
             let right = needed.right;
             if !is_formed(program, derivation, interface, left)
                 || !is_formed(program, derivation, interface, right)
             {
-                return Ok(Outcome::NotShown);
+                return Ok(Showing::NotShown);
             }
             shown_in(
                 alloc, program, derivation, plain, interface, left, right, certs,
@@ -151,9 +151,9 @@ fn after_inclusion<'a>(
     match inclusion_of(alloc, demand)? {
         None => Ok(Some(certs)),
         Some(needed) => match shown(alloc, program, derivation, plain, &needed, certs)? {
-            Outcome::NotShown => Ok(None),
-            Outcome::Trivially => Ok(Some(certs)),
-            Outcome::ByNext => Ok(Some(but_first(certs))),
+            Showing::NotShown => Ok(None),
+            Showing::Trivially => Ok(Some(certs)),
+            Showing::ByNext => Ok(Some(but_first(certs))),
         },
     }
 }

@@ -10,7 +10,7 @@ use Rattle.pat_machine_spec.specs.Lendings.{allowance_of, allowances}
 use Rattle.pat_machine_spec.specs.Machines.{MachineInvariant}
 use Rattle.pat_machine_spec.specs.Tops.{top_of}
 use Rattle.pat_machine_indexes.specs.ready_sets.Wakings.{is_named_by}
-use Rattle.pat_machine_indexes.specs.ready_sets.Waits.{HasSpace, CanHold, HasRoom}
+use Rattle.pat_machine_indexes.specs.ready_sets.ReadySets.{HasSpace, CanHold, HasRoom}
 use Rattle.pat_machine_indexes.specs.ready_sets.Noted.{AreNoted}
 use Rattle.pat_machine_steps.specs.wakeups.Naming.{times_in_thread}
 use Rattle.pat_machine_steps.specs.wakeups.Counting.{AreCounted}

@@ -14,5 +14,5 @@ mod taking;
 pub use job::{CommitRefused, Job, Named, Outcome, Receipt, StateRefused, TakeRefused};
 pub use machine::Machine;
 pub use mailboxes::MailboxesOf;
-pub use pat_machine_indexes::{Mailboxes, Names};
+pub use pat_machine_indexes::{Mailboxes, RefCounts};
 pub use pat_machine_steps::Remains;

@@ -5,13 +5,13 @@ ghost use Rattle.pat_machine.specs.Parted.{shown, IsKept};
 ghost use Rattle.pat_machine.specs.Reading.{ShowsMailboxes};
 
 use crate::parts::Parts;
-use pat_machine_indexes::{Mailboxes, Names};
+use pat_machine_indexes::{Mailboxes, RefCounts};
 
 /// The mailboxes of a machine: what is pending in each live one, and how often each is named.
 #[derive(Clone, Copy, Drop)]
 pub struct MailboxesOf<'a> {
     pub messages: &'a Mailboxes,
-    pub names: &'a Names,
+    pub names: &'a RefCounts,
 }
 
 impl MailboxesOf<'_> {

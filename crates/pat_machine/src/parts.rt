@@ -9,8 +9,8 @@ ghost use Rattle.pat_machine.specs.Shown.{IsNew};
 ghost use Rattle.pat_limits.specs.Limits.{most_steps};
 
 use pat_core::Program;
-use pat_machine_indexes::Waits;
-use pat_machine_steps::{Names, State};
+use pat_machine_indexes::ReadySets;
+use pat_machine_steps::{RefCounts, IndexedConfig};
 use pat_reduce::Entry;
 use pat_reduce_values::Executable;
 use std::alloc::{AllocError, Global};
@@ -20,11 +20,11 @@ use std::alloc::{AllocError, Global};
 pub struct Parts {
     pub alloc: Global,
     pub code: Executable,
-    pub state: State,
+    pub state: IndexedConfig,
     /// How often each mailbox is named.
-    pub names: Names,
+    pub names: RefCounts,
     /// The threads that may go on, those that are about to send, and those that sleep.
-    pub waits: Waits,
+    pub waits: ReadySets,
     pub history: Vec<Entry>,
     pub budget: u64,
     pub limit: u32,
@@ -55,14 +55,14 @@ impl Parts {
         ensures start { IfOk result (λ m. IsNew program steps messages (shown m)) }
     {
         let code = Executable::new(alloc, program)?;
-        let state = State::start(alloc, &code)?;
-        let waits = Waits::start(alloc)?;
+        let state = IndexedConfig::start(alloc, &code)?;
+        let waits = ReadySets::start(alloc)?;
         let out = nobody_out(alloc, state.threads_made())?;
         Ok(Parts {
             alloc,
             code,
             state,
-            names: Names::new(alloc),
+            names: RefCounts::new(alloc),
             waits,
             history: Vec::new(alloc),
             budget: steps,

@@ -16,8 +16,8 @@ use Rattle.pat_machine_laws.proofs.Calls.{others_stay, sleepers_called}
 use Rattle.pat_machine_laws.proofs.Supersets.{enabled_there}
 use Rattle.pat_machine_laws.proofs.Senders.{found_in_both}
 use Rattle.pat_machine_laws.specs.wakeups.Senders.{is_about_to_send, IsAboutToSend, AreCandidates, lesser}
-use Rattle.pat_machine_indexes.specs.declared.ready_sets.waits.Waits.{Waits}
-use Rattle.pat_machine_indexes.specs.ready_sets.Waits.{sleeper_at, IsAwake, IsHeld, SleepsAt, Adds, Holds, Removes, WakesThose, PutsToSleep, AddsMailbox}
+use Rattle.pat_machine_indexes.specs.declared.ready_sets.waits.ReadySets.{ReadySets}
+use Rattle.pat_machine_indexes.specs.ready_sets.ReadySets.{sleeper_at, IsAwake, IsHeld, SleepsAt, Adds, Holds, Removes, WakesThose, PutsToSleep, AddsMailbox}
 use Rattle.pat_machine_indexes.specs.ready_sets.Ascending.{Has}
 use Rattle.pat_machine_indexes.specs.ready_sets.Noted.{IsAsleep, IsSender, IsNoted, AreNoted, WentOn, WereNoted, WereWoken, FreesListed, IsReady, Settles}
 use Rattle.pat_machine_indexes.proofs.Sorted.{find_filtered}
@@ -25,7 +25,7 @@ use Rattle.pat_machine_indexes.proofs.Slept.{appended}
 
 -- ---- one thread, as it stands now
 
-noted_on : (p : Program) (d : Config) (w v : Waits) (u : ℕ) → (IsAwake w u → IsAwake v u) → (IsHeld w u → IsHeld v u) → ((a : ℕ) → SleepsAt w a u → SleepsAt v a u) → IsNoted p d w u → IsNoted p d v u
+noted_on : (p : Program) (d : Config) (w v : ReadySets) (u : ℕ) → (IsAwake w u → IsAwake v u) → (IsHeld w u → IsHeld v u) → ((a : ℕ) → SleepsAt w a u → SleepsAt v a u) → IsNoted p d w u → IsNoted p d v u
 noted_on p d w v u awake held asleep noted q there = ⊎_elim
     (λ on. inl (awake on))
     (λ rest. ⊎_elim
@@ -35,10 +35,10 @@ noted_on p d w v u awake held asleep noted q there = ⊎_elim
     (noted q there)
 
 -- who sleeps is as it was
-slept_on : (w v : Waits) (u : ℕ) → v.sleepers.items ≡ w.sleepers.items → (a : ℕ) → SleepsAt w a u → SleepsAt v a u
+slept_on : (w v : ReadySets) (u : ℕ) → v.sleepers.items ≡ w.sleepers.items → (a : ℕ) → SleepsAt w a u → SleepsAt v a u
 slept_on w v u same a = subst (λ l. sleeper_at l a ≡ Some u) (sym same)
 
-module _ (p : Program) (d : Config) (w v : Waits) (t : ℕ) where
+module _ (p : Program) (d : Config) (w v : ReadySets) (t : ℕ) where
   pub settled_asleep : (a : ℕ) → IsWaiting p d t a → PutsToSleep w t a v → Settles p d w t v
   settled_asleep a waits s = record {
     order = s.order;
@@ -76,7 +76,7 @@ module _ (p : Program) (d : Config) (w v : Waits) (t : ℕ) where
 
 -- ---- those that may free a mailbox since thread t let its name go
 
-module _ (p : Program) (w v : Waits) (t n : ℕ) (act : Option Act) (d : Config) (named : List ℕ) (received : Option Message) where
+module _ (p : Program) (w v : ReadySets) (t n : ℕ) (act : Option Act) (d : Config) (named : List ℕ) (received : Option Message) where
   brought : (were : WereNoted p w t act n d named received) (b : Option Act) (a : ℕ) → act ≡ b → brings were.went.before b a ≡ true → is_brought_by a received ≡ true
   brought were (Some (ActReceive k)) a is h = ap (is_brought_by a) (were.brought k is) ∙ h
   brought were _ a is h = cc
@@ -107,13 +107,13 @@ module _ (p : Program) (w v : Waits) (t n : ℕ) (act : Option Act) (d : Config)
 -- ---- the others, after thread t took its steps
 
 -- as it is with those that were noted
-pub record Keeps (p : Program) (c : Config) (act : Option Act) (d : Config) (w v : Waits) : Type 0 where
+pub record Keeps (p : Program) (c : Config) (act : Option Act) (d : Config) (w v : ReadySets) : Type 0 where
   pub awake : (u : ℕ) → IsAwake w u → IsAwake v u
   pub held : v.senders ≡ w.senders
   pub asleep : (a u : ℕ) → SleepsAt w a u → SleepsAt v a u ⊎ IsAwake v u
   pub called : (a u : ℕ) → SendsTo p c act d u a → SleepsAt w a u → IsAwake v u
 
-module _ (p : Program) (w v : Waits) (t n : ℕ) (act : Option Act) (d : Config) (were : WereWoken p w t act n d) where
+module _ (p : Program) (w v : ReadySets) (t n : ℕ) (act : Option Act) (d : Config) (were : WereWoken p w t act n d) where
   abbrev went : WentOn p t act n d
   went = were.went
 
@@ -151,7 +151,7 @@ module _ (p : Program) (w v : Waits) (t n : ℕ) (act : Option Act) (d : Config)
               (keeps.asleep s.mailbox u s.asleep)
 
 -- no message was sent
-pub kept_as_is : (p : Program) (c d : Config) (act : Option Act) (w : Waits) → (act ≡ Some ActSend → ⊥) → Keeps p c act d w w
+pub kept_as_is : (p : Program) (c d : Config) (act : Option Act) (w : ReadySets) → (act ≡ Some ActSend → ⊥) → Keeps p c act d w w
 kept_as_is p c d act w none = record {
   awake = λ u on. on;
   held = refl;
@@ -160,7 +160,7 @@ kept_as_is p c d act w none = record {
 }
 
 -- a mailbox was made
-pub kept_with_more : (p : Program) (c d : Config) (w v : Waits) → AddsMailbox w v → Keeps p c (Some ActNew) d w v
+pub kept_with_more : (p : Program) (c d : Config) (w v : ReadySets) → AddsMailbox w v → Keeps p c (Some ActNew) d w v
 kept_with_more p c d w v more = record {
   awake = λ u on. subst (λ l. Has l u) (sym more.awake) on;
   held = more.senders;
@@ -169,7 +169,7 @@ kept_with_more p c d w v more = record {
 }
 
 -- the thread that slept where the message came was woken, if it may receive that
-pub kept_with_woken : (p : Program) (c d : Config) (w v : Waits) → WakesThose (IsReady p d) w v → Keeps p c (Some ActSend) d w v
+pub kept_with_woken : (p : Program) (c d : Config) (w v : ReadySets) → WakesThose (IsReady p d) w v → Keeps p c (Some ActSend) d w v
 kept_with_woken p c d w v woken = record {
   awake = woken.others;
   held = woken.senders;
@@ -177,7 +177,7 @@ kept_with_woken p c d w v woken = record {
   called = λ a u sent s. woken.woken a u (record { front = c.messages; message = sent.message; last = sent.last; next = sent.next; mailbox = sent.mailbox; receives = sent.receives }) s;
 }
 
-module _ (p : Program) (w v : Waits) (t n : ℕ) (d : Config) (were : WereWoken p w t (Some ActSpawn) n d) where
+module _ (p : Program) (w v : ReadySets) (t n : ℕ) (d : Config) (were : WereWoken p w t (Some ActSpawn) n d) where
   -- the thread that was spawned was settled
   pub others_with_newcomer : Settles p d w n v → (u : ℕ) → (t ≡ u → ⊥) → IsNoted p d v u
   others_with_newcomer s u other = ⊎_elim
@@ -188,7 +188,7 @@ module _ (p : Program) (w v : Waits) (t n : ℕ) (d : Config) (were : WereWoken 
       (cases_Bool (nat_eq u n))
 
 -- and thread t itself
-pub all_noted : (p : Program) (w v : Waits) (t : ℕ) (d : Config) → ((u : ℕ) → (t ≡ u → ⊥) → IsNoted p d w u) → Settles p d w t v → AreNoted p d v.awake.numbers.items v.senders.numbers.items v.sleepers.items
+pub all_noted : (p : Program) (w v : ReadySets) (t : ℕ) (d : Config) → ((u : ℕ) → (t ≡ u → ⊥) → IsNoted p d w u) → Settles p d w t v → AreNoted p d v.awake.numbers.items v.senders.numbers.items v.sleepers.items
 all_noted p w v t d others s = record {
   order = s.order;
   all = λ u. ⊎_elim
@@ -204,7 +204,7 @@ start_first None u q h = cc
 start_first (Some f) u q h =
     (elim (nat_eq u 0) as (λ b. cond b (Some (record { control = Rattle.pat_semantics_spec.specs.Configs.Running f.body []; frames = [] })) None ≡ Some q → (b || false) ≡ true) [ true ↦ λ k. refl | false ↦ λ k. cc ]) h
 
-pub start_noted : (p : Program) (w : Waits) → w.awake.numbers.items ≡ 0 ∷ [] → w.senders.numbers.items ≡ [] → AreNoted p (start p) w.awake.numbers.items w.senders.numbers.items w.sleepers.items
+pub start_noted : (p : Program) (w : ReadySets) → w.awake.numbers.items ≡ 0 ∷ [] → w.senders.numbers.items ≡ [] → AreNoted p (start p) w.awake.numbers.items w.senders.numbers.items w.sleepers.items
 start_noted p w first none = record {
   order = (subst (AscendsFrom 0) (sym first) (omega arith, tt), subst (AscendsFrom 0) (sym none) tt);
   all = λ u q there. inl (subst (λ l. is_among u l ≡ true) (sym first) (start_first (function_at p p.main) u q there));
@@ -213,7 +213,7 @@ start_noted p w first none = record {
 -- ---- what may go on
 
 -- whoever has an enabled step may go on, or is about to send
-pub candidates : (p : Program) (c : Config) (w : Waits) → AreNoted p c w.awake.numbers.items w.senders.numbers.items w.sleepers.items → AreCandidates p c w.awake.numbers.items w.senders.numbers.items
+pub candidates : (p : Program) (c : Config) (w : ReadySets) → AreNoted p c w.awake.numbers.items w.senders.numbers.items w.sleepers.items → AreCandidates p c w.awake.numbers.items w.senders.numbers.items
 candidates p c w noted t can =
     let s = enabled_there p c t can in
     ⊎_elim
@@ -225,7 +225,7 @@ candidates p c w noted t can =
     (noted.all t s.0 s.1)
 
 -- so the first ready thread above another one is found among those, and among the senders where there is space
-pub first_ready : (p : Program) (c : Config) (limit : ℕ) (out : Out) (last : Option ℕ) (w : Waits) → IsOrdered c → AreNoted p c w.awake.numbers.items w.senders.numbers.items w.sleepers.items
+pub first_ready : (p : Program) (c : Config) (limit : ℕ) (out : Out) (last : Option ℕ) (w : ReadySets) → IsOrdered c → AreNoted p c w.awake.numbers.items w.senders.numbers.items w.sleepers.items
     → lesser (find (is_ready p c limit out) (filter (is_above last) w.awake.numbers.items)) (if has_space c limit then find (is_ready p c limit out) (filter (is_above last) w.senders.numbers.items) else None) ≡ ready_above p c limit out last
 first_ready p c limit out last w order noted =
     let test = is_ready p c limit out in

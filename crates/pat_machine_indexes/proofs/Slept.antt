@@ -3,7 +3,7 @@ use Rattle.std.proofs.Common.{◌≡◌, ℕ, zero, suc, ◌+◌, ◌<◌, ◌�
 use Rattle.std.proofs.lemmas.Bool.{cases_Bool, eqb-true, eqb-false}
 use Rattle.pat_machine_spec.specs.Lendings.{flat}
 use Rattle.pat_machine_laws.proofs.Tables.{set_here, set_elsewhere}
-use Rattle.pat_machine_indexes.specs.ready_sets.Waits.{sleeper_at, count_asleep}
+use Rattle.pat_machine_indexes.specs.ready_sets.ReadySets.{sleeper_at, count_asleep}
 
 -- where a thread sleeps, none sleeps but that
 pub cleared : (ss : List (Option ℕ)) (a t b u : ℕ) → sleeper_at ss a ≡ Some t → sleeper_at ss b ≡ Some u → (sleeper_at (slice_set ss a None) b ≡ Some u) ⊎ (u ≡ t)

@@ -1,10 +1,10 @@
 -- Sleepers that are woken, one after another.
 use Rattle.std.proofs.Common.{◌≡◌, ℕ, ◌+◌, refl, ◌∙◌, subst, ◌⊎◌, inl, inr, ⊎_elim, arith}
-use Rattle.pat_machine_indexes.specs.declared.ready_sets.waits.Waits.{Waits}
-use Rattle.pat_machine_indexes.specs.ready_sets.Waits.{IsInOrder, IsAwake, SleepsAt, Takes, Wakes, WakesThose}
+use Rattle.pat_machine_indexes.specs.declared.ready_sets.waits.ReadySets.{ReadySets}
+use Rattle.pat_machine_indexes.specs.ready_sets.ReadySets.{IsInOrder, IsAwake, SleepsAt, Takes, Wakes, WakesThose}
 
 -- what is taken one after another
-takes_both : (n m : ℕ) (w x v : Waits) → Takes n w x → Takes m x v → Takes (n + m) w v
+takes_both : (n m : ℕ) (w x v : ReadySets) → Takes n w x → Takes m x v → Takes (n + m) w v
 takes_both n m w x v first rest =
     let len = first.len in
     let more = rest.len in
@@ -17,7 +17,7 @@ takes_both n m w x v first rest =
     record { len = omega arith; capacity = omega arith; held = omega arith; hold = omega arith }
 
 -- none of these sleeps
-pub none_woken : (Those : (a u : ℕ) → Type 0) (w : Waits) → IsInOrder w → ((a u : ℕ) → Those a u → SleepsAt w a u → IsAwake w u) → WakesThose Those w w
+pub none_woken : (Those : (a u : ℕ) → Type 0) (w : ReadySets) → IsInOrder w → ((a u : ℕ) → Those a u → SleepsAt w a u → IsAwake w u) → WakesThose Those w w
 none_woken Those w order none = record {
   order = order;
   others = λ u on. on;
@@ -30,7 +30,7 @@ none_woken Those w order none = record {
 }
 
 -- they sleep at one mailbox
-pub one_woken : (Those : (a u : ℕ) → Type 0) (w v : Waits) (b : ℕ) → ((a u : ℕ) → Those a u → a ≡ b) → Wakes w b v → WakesThose Those w v
+pub one_woken : (Those : (a u : ℕ) → Type 0) (w v : ReadySets) (b : ℕ) → ((a u : ℕ) → Those a u → a ≡ b) → Wakes w b v → WakesThose Those w v
 one_woken Those w v b here woken = record {
   order = woken.order;
   others = woken.others;
@@ -43,7 +43,7 @@ one_woken Those w v b here woken = record {
 }
 
 -- those of fewer
-pub fewer_woken : (Those These : (a u : ℕ) → Type 0) (w v : Waits) → ((a u : ℕ) → These a u → Those a u) → WakesThose Those w v → WakesThose These w v
+pub fewer_woken : (Those These : (a u : ℕ) → Type 0) (w v : ReadySets) → ((a u : ℕ) → These a u → Those a u) → WakesThose Those w v → WakesThose These w v
 fewer_woken Those These w v fewer woken = record {
   order = woken.order;
   others = woken.others;
@@ -56,7 +56,7 @@ fewer_woken Those These w v fewer woken = record {
 }
 
 -- first some, and then the rest
-pub both_woken : (First Then All : (a u : ℕ) → Type 0) (w x v : Waits) → ((a u : ℕ) → All a u → First a u ⊎ Then a u) → WakesThose First w x → WakesThose Then x v → WakesThose All w v
+pub both_woken : (First Then All : (a u : ℕ) → Type 0) (w x v : ReadySets) → ((a u : ℕ) → All a u → First a u ⊎ Then a u) → WakesThose First w x → WakesThose Then x v → WakesThose All w v
 both_woken First Then All w x v parts one two = record {
   order = two.order;
   others = λ u on. two.others u (one.others u on);

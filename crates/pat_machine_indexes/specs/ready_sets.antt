@@ -1,5 +1,5 @@
 pub use Rattle.pat_machine_laws.specs.wakeups.Wakings
 pub use Rattle.pat_machine_laws.specs.wakeups.Senders
 pub mod Ascending
-pub mod Waits
+pub mod ReadySets
 pub mod Noted

@@ -8,5 +8,5 @@ mod refcounts;
 pub use messages::{
     Mailboxes, Numbered, Taken, copy_pending, count_live, delivery, first_message, list_live,
 };
-pub use ready_sets::{Ascending, Waits, lesser};
-pub use refcounts::{Counted, Names, list_top};
+pub use ready_sets::{Ascending, ReadySets, lesser};
+pub use refcounts::{Counted, RefCounts, list_top};

@@ -4,4 +4,4 @@ mod ascending;
 mod waits;
 
 pub use ascending::{Ascending, lesser};
-pub use waits::Waits;
+pub use waits::ReadySets;

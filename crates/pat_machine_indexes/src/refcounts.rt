@@ -7,4 +7,4 @@ mod names;
 
 pub use freed::Counted;
 pub use listing::list_top;
-pub use names::Names;
+pub use names::RefCounts;

@@ -13,12 +13,12 @@ ghost use Rattle.pat_machine_indexes.specs.refcounts.Counting.{TellsAlone};
 ghost use Rattle.pat_machine_indexes.specs.refcounts.Telling.{names_alone, says_alone};
 ghost use Rattle.pat_machine_states.specs.Alone.{GuardsAlone, IsReachedAlone};
 
-use crate::State;
+use crate::IndexedConfig;
 use pat_machine_indexes::{Counted, first_message};
 use pat_reduce::{Act, Control, GuardRef, ThreadState, guard_of, plain_act};
 use pat_reduce_values::Executable;
 
-impl State {
+impl IndexedConfig {
     // The act of a thread with this state, where the counts tell whether nothing else reaches the mailbox that it may free.
     pub(crate) fn act_of(
         &self,

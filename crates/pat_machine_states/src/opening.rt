@@ -8,12 +8,12 @@ ghost use Rattle.pat_machine_spec.specs.Opens.{has_space};
 ghost use Rattle.pat_machine_states.specs.Opening.{OpenAct, is_sending};
 ghost use Rattle.pat_machine_states.specs.Alone.{StandsAlone};
 
-use crate::State;
+use crate::IndexedConfig;
 use pat_machine_indexes::Counted;
 use pat_reduce::Act;
 use pat_reduce_values::Executable;
 
-impl State {
+impl IndexedConfig {
     // The act of the thread that is open, if one is, where the counts tell whether nothing else reaches the mailbox that it may free.
     // A guard receives the first message that it takes.
     pub(crate) fn open_act(

@@ -8,8 +8,8 @@ ghost use Rattle.pat_machine_laws.specs.wakeups.Senders.{AreCandidates};
 ghost use Rattle.pat_machine_indexes.specs.refcounts.Counting.{TellOfEach};
 ghost use Rattle.pat_machine_states.specs.Prospects.{HasProspect};
 
-use crate::State;
-use pat_machine_indexes::{Counted, Names};
+use crate::IndexedConfig;
+use pat_machine_indexes::{Counted, RefCounts};
 use pat_reduce_values::Executable;
 
 /// How the threads stand.
@@ -25,13 +25,13 @@ pub enum Prospect {
     Open,
 }
 
-impl State {
+impl IndexedConfig {
     /// How the threads stand, where those that may have an enabled step are known, and among them those that are about to send.
     /// It takes no memory.
     pub fn prospect(
         &self,
         code: &Executable,
-        names: &Names,
+        names: &RefCounts,
         limit: u32,
         others: &[u32],
         senders: &[u32],
@@ -60,7 +60,7 @@ impl State {
     }
 
     // Whether one of the senders has an open step. They aren't looked at where there is no space.
-    fn may_send(&self, code: &Executable, names: &Names, limit: u32, senders: &[u32]) -> bool
+    fn may_send(&self, code: &Executable, names: &RefCounts, limit: u32, senders: &[u32]) -> bool
         requires told { TellOfEach (program_view code.now.program) self.now names.now.times.items }
         ensures { result ≡ (has_space self.now limit && list_any (can_go_on (program_view code.now.program) self.now limit) senders.now) }
     {
@@ -68,7 +68,7 @@ impl State {
     }
 
     // Whether one of these threads has an enabled step.
-    fn has_enabled(&self, code: &Executable, names: &Names, threads: &[u32]) -> bool
+    fn has_enabled(&self, code: &Executable, names: &RefCounts, threads: &[u32]) -> bool
         requires told { TellOfEach (program_view code.now.program) self.now names.now.times.items }
         ensures { result ≡ list_any (can_step_thread (program_view code.now.program) self.now) threads.now }
     {
@@ -81,7 +81,7 @@ impl State {
     }
 
     // Whether a step of the thread is enabled.
-    fn is_enabled(&self, code: &Executable, names: &Names, thread: u32) -> bool
+    fn is_enabled(&self, code: &Executable, names: &RefCounts, thread: u32) -> bool
         requires told { TellOfEach (program_view code.now.program) self.now names.now.times.items }
         ensures { result ≡ can_step_thread (program_view code.now.program) self.now thread }
     {
@@ -90,7 +90,7 @@ impl State {
     }
 
     // Whether one of these threads has an open step.
-    fn has_open(&self, code: &Executable, names: &Names, limit: u32, threads: &[u32]) -> bool
+    fn has_open(&self, code: &Executable, names: &RefCounts, limit: u32, threads: &[u32]) -> bool
         requires told { TellOfEach (program_view code.now.program) self.now names.now.times.items }
         ensures { result ≡ list_any (can_go_on (program_view code.now.program) self.now limit) threads.now }
     {

@@ -6,16 +6,16 @@ ghost use Rattle.pat_machine_spec.specs.Lendings.{is_out};
 ghost use Rattle.pat_machine_spec.specs.Turns.{is_ready};
 ghost use Rattle.pat_machine_indexes.specs.refcounts.Counting.{TellOfEach};
 
-use crate::State;
-use pat_machine_indexes::{Counted, Names};
+use crate::IndexedConfig;
+use pat_machine_indexes::{Counted, RefCounts};
 use pat_reduce_values::Executable;
 
-impl State {
+impl IndexedConfig {
     /// The first of these threads that is ready. It takes no memory.
     pub fn first_ready(
         &self,
         code: &Executable,
-        names: &Names,
+        names: &RefCounts,
         limit: u32,
         out: &[Option<u32>],
         threads: &[u32],
@@ -35,7 +35,7 @@ impl State {
     pub fn is_ready(
         &self,
         code: &Executable,
-        names: &Names,
+        names: &RefCounts,
         limit: u32,
         out: &[Option<u32>],
         thread: u32,
@@ -47,7 +47,7 @@ impl State {
     }
 
     /// Whether a step of the thread is open.
-    pub fn can_go_on(&self, code: &Executable, names: &Names, limit: u32, thread: u32) -> bool
+    pub fn can_go_on(&self, code: &Executable, names: &RefCounts, limit: u32, thread: u32) -> bool
         requires told { TellOfEach (program_view code.now.program) self.now names.now.times.items }
         ensures { result ≡ can_go_on (program_view code.now.program) self.now limit thread }
     {

@@ -14,7 +14,7 @@ ghost use Rattle.pat_machine_states.specs.Alone.{StandsAlone};
 ghost use Rattle.pat_machine_states.specs.Stepping.{ReferToLive};
 ghost use Rattle.pat_machine_states.specs.Taking.{taken_act, taken_message};
 
-use crate::State;
+use crate::IndexedConfig;
 use pat_machine_indexes::Counted;
 use pat_machine_threads::taken_up;
 use pat_reduce::{Act, Message, Step, StepError, ThreadState};
@@ -29,7 +29,7 @@ pub struct Taken {
     pub message: Option<Message>,
 }
 
-impl State {
+impl IndexedConfig {
     /// Puts a state in the place of a thread's control and so many of its frames, those on top, and takes the shared step
     /// that is open then, if one is: `taken` says which. Counts tell whether the thread may free a mailbox then.
     /// An error changes nothing of the configuration.

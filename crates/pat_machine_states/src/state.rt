@@ -8,7 +8,7 @@ ghost use Rattle.pat_machine_threads.specs.store.Remains.{remains_of};
 ghost use Rattle.pat_machine_states.specs.Boxes.{AreMailboxesOf};
 
 use pat_machine_indexes::{Mailboxes, copy_pending, count_live, list_live};
-use pat_machine_threads::{Placed, Remains};
+use pat_machine_threads::{ThreadStore, Remains};
 use pat_reduce::{Config, ThreadState};
 use pat_reduce_values::Executable;
 use pat_sequences::Text;
@@ -16,17 +16,17 @@ use std::alloc::{AllocError, Global};
 use std::marker::Model;
 
 /// A configuration, whose messages are kept by mailbox. Contracts see the configuration of the definitions, however it is kept.
-pub struct State {
+pub struct IndexedConfig {
     /// All but the messages and live mailboxes.
-    pub(crate) placed: Placed,
+    pub(crate) placed: ThreadStore,
     pub(crate) mailboxes: Mailboxes,
     /// The mailbox of the message that was sent last.
     pub(crate) latest: Option<u32>,
 }
 
-impl Drop for State {
+impl Drop for IndexedConfig {
     fn drop(self) {
-        let State {
+        let IndexedConfig {
             placed: _,
             mailboxes: _,
             latest: _,
@@ -34,7 +34,7 @@ impl Drop for State {
     }
 }
 
-impl Model for State {
+impl Model for IndexedConfig {
     ghost use Rattle.pat_semantics_spec.specs.Configs.{Config};
     ghost use Rattle.pat_machine_states.specs.Boxes.{state_view, IsState};
 
@@ -45,14 +45,14 @@ impl Model for State {
     ghost invariant = { λ s. IsState s.placed s.latest s.mailboxes.mailboxes };
 }
 
-impl State {
+impl IndexedConfig {
     /// The start of the program.
-    pub fn start(alloc: Global, code: &Executable) -> Result<State, AllocError>
+    pub fn start(alloc: Global, code: &Executable) -> Result<IndexedConfig, AllocError>
         ensures { IfOk result (λ s. s ≡ start (program_view code.now.program)) }
     {
-        let placed = Placed::start(alloc, code)?;
+        let placed = ThreadStore::start(alloc, code)?;
         let mailboxes = Mailboxes::fixed(alloc, 0)?;
-        Ok(State {
+        Ok(IndexedConfig {
             placed,
             mailboxes,
             latest: None,

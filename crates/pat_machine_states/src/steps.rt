@@ -12,13 +12,13 @@ ghost use Rattle.pat_machine_threads.specs.store.Alone.{is_beside};
 ghost use Rattle.pat_machine_states.specs.Stepping.{ReferToLive};
 ghost use Rattle.pat_machine_states.specs.Taking.{outcome};
 
-use crate::State;
+use crate::IndexedConfig;
 use pat_machine_indexes::delivery;
 use pat_reduce::{Act, Message, Step, StepError};
 use pat_reduce_values::Executable;
 use std::alloc::Global;
 
-impl State {
+impl IndexedConfig {
     /// Takes a step that is enabled, and gives the message that it received. An error changes nothing.
     pub(crate) fn step(
         &mut self,

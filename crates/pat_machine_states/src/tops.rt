@@ -6,13 +6,13 @@ ghost use Rattle.pat_machine_spec.specs.Tops.{below, over, with_below};
 ghost use Rattle.pat_machine_threads.specs.Aside.{aside_view};
 ghost use Rattle.pat_machine_states.specs.Asides.{IsAside};
 
-use crate::State;
+use crate::IndexedConfig;
 use pat_machine_threads::{Aside, with_room};
 use pat_reduce::ThreadState;
 use pat_sequences::let_go;
 use std::alloc::{AllocError, Global};
 
-impl State {
+impl IndexedConfig {
     /// Puts a state in the place of a thread's control and so many of its frames, those on top. An error changes nothing.
     pub fn put(
         &mut self,

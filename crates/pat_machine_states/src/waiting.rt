@@ -8,14 +8,14 @@ ghost use Rattle.pat_reduce.specs.threads.ThreadViews.{message_view};
 ghost use Rattle.pat_machine_laws.specs.wakeups.Wakings.{IsWaiting};
 ghost use Rattle.pat_machine_indexes.specs.refcounts.Counting.{TellOfEach};
 
-use crate::State;
-use pat_machine_indexes::{Counted, Names};
+use crate::IndexedConfig;
+use pat_machine_indexes::{Counted, RefCounts};
 use pat_reduce::{Message, guard_of, takes};
 use pat_reduce_values::Executable;
 
-impl State {
+impl IndexedConfig {
     /// The mailbox that the thread waits at, if it is found to have no enabled step. It takes no memory.
-    pub fn awaited(&self, code: &Executable, names: &Names, thread: u32) -> Option<u32>
+    pub fn awaited(&self, code: &Executable, names: &RefCounts, thread: u32) -> Option<u32>
         requires told { TellOfEach (program_view code.now.program) self.now names.now.times.items }
         ensures { IfSome result (IsWaiting (program_view code.now.program) self.now thread) }
     {
@@ -28,7 +28,7 @@ impl State {
     }
 
     /// Whether the thread may free the mailbox that it stands at a guard on. Only that is looked at. It takes no memory.
-    pub fn may_free_now(&self, code: &Executable, names: &Names, thread: u32) -> bool
+    pub fn may_free_now(&self, code: &Executable, names: &RefCounts, thread: u32) -> bool
         requires told { TellOfEach (program_view code.now.program) self.now names.now.times.items }
         ensures { IsTrue result ↔ IsEnabled (program_view code.now.program) self.now (record { thread = thread; act = ActFree }) }
     {

@@ -16,7 +16,7 @@ use Rattle.pat_machine_laws.specs.thread_frames.Alone.{alone, put_back, AreLeft}
 use Rattle.pat_machine_laws.proofs.Backs.{place_is_taken, same_is_back}
 use Rattle.pat_machine_laws.proofs.ThreadFramesLeft.{threads_are_left}
 use Rattle.pat_machine_threads.specs.table.Entries.{Threads}
-use Rattle.pat_machine_threads.specs.store.Placed.{placed_view, IsPlaced, hollow}
+use Rattle.pat_machine_threads.specs.store.ThreadStore.{placed_view, IsPlaced, hollow}
 use Rattle.pat_machine_threads.specs.store.Steps.{StepsApart}
 
 -- the thread stands in a list by itself, and in the table something else does

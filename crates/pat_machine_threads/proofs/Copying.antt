@@ -5,7 +5,7 @@ use Rattle.std.specs.Map.{keys_of}
 use Rattle.pat_reduce.specs.declared.threads.state.ThreadState.{ThreadState}
 use Rattle.pat_reduce.specs.Views.{threads_view}
 use Rattle.pat_machine_threads.specs.table.Entries.{entries_from}
-use Rattle.pat_machine_threads.specs.store.Placed.{numbered}
+use Rattle.pat_machine_threads.specs.store.ThreadStore.{numbered}
 
 copied_from : (n : ℕ) (slots : List (Option ThreadState)) (i : ℕ) → entries_from n (take (suc i) slots) ≡ entries_from n (take i slots) ++ numbered (n + i) (get_or slots i None)
 copied_from n [] zero = refl

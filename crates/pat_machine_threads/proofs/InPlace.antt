@@ -16,7 +16,7 @@ use Rattle.pat_reduce.proofs.Shared.{said, begun, print_step, spawn_step}
 use Rattle.pat_machine_laws.specs.thread_frames.Alone.{alone}
 use Rattle.pat_machine_laws.proofs.Backs.{own_there, back_only, back_set}
 use Rattle.pat_machine_threads.specs.table.Entries.{Threads}
-use Rattle.pat_machine_threads.specs.store.Placed.{placed_view}
+use Rattle.pat_machine_threads.specs.store.ThreadStore.{placed_view}
 use Rattle.pat_machine_threads.specs.store.InPlace.{redex_frees, IsSent, IsMade, IsFreed}
 use Rattle.pat_machine_threads.specs.store.Steps.{IsTaken}
 

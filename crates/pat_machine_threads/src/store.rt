@@ -7,5 +7,5 @@ mod placed;
 mod remains;
 mod steps;
 
-pub use placed::Placed;
+pub use placed::ThreadStore;
 pub use remains::Remains;

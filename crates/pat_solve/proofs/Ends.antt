@@ -24,14 +24,14 @@ use Rattle.pat_solve_bounds.specs.declared.results.error.SolveError.{SolveError}
 use Rattle.pat_solve_bounds.specs.declared.results.error.SolveError.TheVariants as error
 use Rattle.pat_solve.specs.interface.Found.{IsShut, IsUnshownBy}
 use Rattle.pat_solve.specs.declared.interface.forms.Unshown.{Unshown}
-use Rattle.pat_solve.specs.declared.states.State.{State}
+use Rattle.pat_solve.specs.declared.states.Progress.{Progress}
 use Rattle.pat_solve.specs.Steps.{IsBegun, IsErrorBy, FinishesBy, Finishes}
 use Rattle.pat_solve.specs.States.{FirstIs, AreSolved, Stands}
 use Rattle.pat_solve.proofs.Lines.{lines_are}
 
 -- ---- the beginning
 
-pub begun_stands : (p : CodeProgram) (q : Problem) (s : State) → IsProblemOf p q → AllUsable (program_view p) → IsBegun (length q.vars) s → Stands (program_view p) 0 s
+pub begun_stands : (p : CodeProgram) (q : Problem) (s : Progress) → IsProblemOf p q → AllUsable (program_view p) → IsBegun (length q.vars) s → Stands (program_view p) 0 s
 begun_stands p q s problem usable begun = record {
   usable = usable;
   small = λ j below large. absurd (omega (arith, below));
@@ -54,7 +54,7 @@ begun_stands p q s problem usable begun = record {
 module _ (p : Program) (there : AreThere p) where
   -- ---- all constraints are shown
 
-  solution_is : (s : State) (t : Solution) → AllUsable p → AreSolved p (length p.interfaces) s.bounds s.values → t.bounds ≡ s.bounds → t.values ≡ s.values → IsSolution p t
+  solution_is : (s : Progress) (t : Solution) → AllUsable p → AreSolved p (length p.interfaces) s.bounds s.values → t.bounds ≡ s.bounds → t.values ≡ s.values → IsSolution p t
   solution_is s t usable solved bounds values =
       let kept : AreSolved p (length p.interfaces) t.bounds t.values = subst (λ v. AreSolved p (length p.interfaces) t.bounds v) (sym values) (subst (λ b. AreSolved p (length p.interfaces) b s.values) (sym bounds) solved) in
       record {
@@ -97,13 +97,13 @@ module _ (p : Program) (there : AreThere p) where
 
   -- ---- the end
 
-  ends : (s : State) (o : Option Unshown) (r : Result Solution SolveError) → AllUsable p → NoneTooLarge p (length p.interfaces) → FirstIs p (length p.interfaces) o → (o ≡ None → AreSolved p (length p.interfaces) s.bounds s.values) → FinishesBy s o r → IsAnswer p r
+  ends : (s : Progress) (o : Option Unshown) (r : Result Solution SolveError) → AllUsable p → NoneTooLarge p (length p.interfaces) → FirstIs p (length p.interfaces) o → (o ≡ None → AreSolved p (length p.interfaces) s.bounds s.values) → FinishesBy s o r → IsAnswer p r
   ends s None (Ok t) usable small shown solved by = solution_is s t usable (solved refl) by.0 by.1
   ends s None (Err e) usable small shown solved by = absurd by
   ends s (Some o) (Ok t) usable small shown solved by = absurd by
   ends s (Some o) (Err e) usable small shown solved by = error_refusal o.constraint o.refutation e usable small (none_before o.constraint shown.before) shown.unshown by
 
-  pub finished_answer : (s : State) (r : Result Solution SolveError) → Stands p (length p.interfaces) s → Finishes s r → IsAnswer p r
+  pub finished_answer : (s : Progress) (r : Result Solution SolveError) → Stands p (length p.interfaces) s → Finishes s r → IsAnswer p r
   finished_answer s r stands by = ends s s.first r stands.usable stands.small stands.first stands.solved by
 
 -- ---- what refusals say

@@ -22,7 +22,7 @@ use Rattle.pat_solve.specs.interface.Found.{IsShut, AreFormOf, IsFirstUnshown, F
 use Rattle.pat_solve.specs.declared.interface.forms.Unshown.{Unshown}
 use Rattle.pat_solve.specs.declared.interface.forms.InterfaceForm.{InterfaceForm}
 use Rattle.pat_solve.specs.declared.interface.forms.InterfaceForm.TheVariants.{Solved, TooLarge, Unsolved}
-use Rattle.pat_solve.specs.declared.states.State.{State}
+use Rattle.pat_solve.specs.declared.states.Progress.{Progress}
 use Rattle.pat_solve.specs.Steps.{put_lines, IsSolvedMore, MeetsUnshown, IsEarlier, TookIn}
 use Rattle.pat_solve.specs.States.{IsFirstOf, FirstIs, AreSolved, Stands}
 use Rattle.pat_solve.proofs.Lines.{put_long, put_own, put_other}
@@ -82,7 +82,7 @@ module _ (p : Program) where
     points_here : (f : ℕ → ℕ → List (List ℕ)) (own : ℕ → List (List ℕ)) (j : ℕ) → j ≡ i → own ≡ more_points f own j
     points_here f own j same = subst (λ b. own ≡ (if b then own else f j)) (sym (eq-eqb j i same)) refl
 
-    module _ (s t : State) (variables : List ℕ) (bound : Option ℕ) (own : List CodeValue) (vars : variables ≡ vars_in i 1 (all_vars p)) (form : AreFormOf p i bound own) (more : IsSolvedMore i variables s bound own t) (was : AreSolved p i s.bounds s.values) where
+    module _ (s t : Progress) (variables : List ℕ) (bound : Option ℕ) (own : List CodeValue) (vars : variables ≡ vars_in i 1 (all_vars p)) (form : AreFormOf p i bound own) (more : IsSolvedMore i variables s bound own t) (was : AreSolved p i s.bounds s.values) where
       abbrev points : ℕ → ℕ → List (List ℕ)
       points = more_points was.points form.points
 
@@ -166,7 +166,7 @@ module _ (p : Program) where
     small_more : (s : NoneTooLarge p i) → (IsTooLarge p i → ⊥) → NoneTooLarge p (i + 1)
     small_more s own = λ j below large. ⊎_elim (λ (l : j < i). s j l large) (λ (e : j ≡ i). own (subst (IsTooLarge p) e large)) (split_last j i below)
 
-    pub solved_stands : (s t : State) (variables : List ℕ) (bound : Option ℕ) (own : List CodeValue) → variables ≡ vars_in i 1 (all_vars p) → AreFormOf p i bound own → IsSolvedMore i variables s bound own t → Stands p i s → Stands p (i + 1) t
+    pub solved_stands : (s t : Progress) (variables : List ℕ) (bound : Option ℕ) (own : List CodeValue) → variables ≡ vars_in i 1 (all_vars p) → AreFormOf p i bound own → IsSolvedMore i variables s bound own t → Stands p i s → Stands p (i + 1) t
     solved_stands s t variables bound own vars form more stands = record {
       usable = stands.usable;
       small = small_more stands.small form.small;
@@ -203,7 +203,7 @@ module _ (p : Program) where
         let lower = w.0 in (o, w.1, own_first o first (λ m c less at l. was.before m c (omega (arith, less, lower)) at l)))
         earlier
 
-    pub opened_stands : (s t : State) (o : Unshown) → IsFirstUnshown p i o → MeetsUnshown s o t → Stands p i s → Stands p (i + 1) t
+    pub opened_stands : (s t : Progress) (o : Unshown) → IsFirstUnshown p i o → MeetsUnshown s o t → Stands p i s → Stands p (i + 1) t
     opened_stands s t o first more stands =
         let found = open_first s.first o t.first first stands.first more.first in
         record {
@@ -215,7 +215,7 @@ module _ (p : Program) where
 
     -- ---- one interface more
 
-    pub step_stands : (s : State) (variables : List ℕ) (form : InterfaceForm) (r : Result State SolveError) → variables ≡ vars_in i 1 (all_vars p) → FormGives p i form → TookIn i variables s form r → Stands p i s → IfOk r (Stands p (i + 1))
+    pub step_stands : (s : Progress) (variables : List ℕ) (form : InterfaceForm) (r : Result Progress SolveError) → variables ≡ vars_in i 1 (all_vars p) → FormGives p i form → TookIn i variables s form r → Stands p i s → IfOk r (Stands p (i + 1))
     step_stands s variables form (Err e) vars found took stands = tt
     step_stands s variables (Solved bound own) (Ok t) vars found took stands = solved_stands s t variables bound own vars found took stands
     step_stands s variables TooLarge (Ok t) vars found took stands = absurd took
@@ -225,7 +225,7 @@ module _ (p : Program) where
     large_refusal j same large there usable small =
         subst (λ k. IsRefusal p (error.TooLarge k)) (sym same) (usable, there, large, small)
 
-    pub step_refusal : (s : State) (variables : List ℕ) (form : InterfaceForm) (r : Result State SolveError) → i < length p.interfaces → FormGives p i form → TookIn i variables s form r → Stands p i s → IfErr r (IsRefusal p)
+    pub step_refusal : (s : Progress) (variables : List ℕ) (form : InterfaceForm) (r : Result Progress SolveError) → i < length p.interfaces → FormGives p i form → TookIn i variables s form r → Stands p i s → IfErr r (IsRefusal p)
     step_refusal s variables form (Ok t) there found took stands = tt
     step_refusal s variables (Solved bound own) (Err e) there found took stands = subst (IsRefusal p) (sym took) tt
     step_refusal s variables TooLarge (Err (error.TooLarge j)) there found took stands = large_refusal j took found there stands.usable stands.small

@@ -12,7 +12,7 @@ use Rattle.pat_solve_spec.specs.Answers.{AllUsable, NoneTooLarge, IsConstraint, 
 use Rattle.pat_solve_bounds.specs.results.Views.{forms_of}
 use Rattle.pat_solve.specs.interface.Found.{IsShut, IsUnshown}
 use Rattle.pat_solve.specs.declared.interface.forms.Unshown.{Unshown}
-use Rattle.pat_solve.specs.declared.states.State.{State}
+use Rattle.pat_solve.specs.declared.states.Progress.{Progress}
 
 module _ (p : Program) (i : ℕ) where
   -- each constraint of the first i interfaces is neither refuted nor undecided; or this is the first that is
@@ -36,7 +36,7 @@ module _ (p : Program) (i : ℕ) where
     pub inside : (n : ℕ) (c : Constraint) → IsConstraint p n c → c.interface < i → IsSearched p c → IsInside (lowers_of p) c.left c.right
     pub filled : (k : ℕ) (v : Variable) → slice_get (all_vars p) k ≡ Some v → v.interface < i → slice_get (vars_view values) k ≡ Some (record { interface = v.interface; value = value_by p points (forms_of bounds v.interface) v.interface (suc k) })
 
-  pub record Stands (s : State) : Type 0 where
+  pub record Stands (s : Progress) : Type 0 where
     pub usable : AllUsable p
     pub small : NoneTooLarge p i
     pub first : FirstIs s.first

@@ -9,7 +9,7 @@ ghost use Rattle.pat_solve_bounds.specs.lower_bounds.Indexes.{IsIndexOf};
 ghost use Rattle.pat_solve.specs.States.{Stands};
 
 use crate::interface::interface_form;
-use crate::states::{State, begun, finished, took};
+use crate::states::{Progress, begun, finished, took};
 use pat_core::Program;
 use pat_infer_problems::Problem;
 use pat_solve_bounds::{Index, Solution, SolveError, first_unusable, index_law};
@@ -80,9 +80,9 @@ fn step(
     program: &Program,
     problem: &Problem,
     index: &Index,
-    state: State,
+    state: Progress,
     interface: u32,
-) -> Result<State, SolveError>
+) -> Result<Progress, SolveError>
     requires well { WellFormed (program_view program.now) }
     requires problem { IsProblemOf program.now problem.now }
     requires enough { IsEnough (program_view program.now) }

@@ -14,21 +14,21 @@ use std::alloc::{AllocError, Global};
 /// What is known of the first interfaces: their forms, the values of their variables, 0 for each other one, and the first constraint
 /// that isn't shown. The forms and the values are all known only where there is no such constraint.
 #[derive(Drop)]
-pub struct State {
+pub struct Progress {
     pub bounds: Sequence<Option<u32>>,
     pub values: Sequence<(u32, VarValue)>,
     pub first: Option<Unshown>,
 }
 
 /// What is known of no interface.
-pub fn begun(alloc: Global, problem: &Problem) -> Result<State, AllocError>
+pub fn begun(alloc: Global, problem: &Problem) -> Result<Progress, AllocError>
     ensures { IfOk result (λ s. IsBegun (length problem.now.vars) s) }
 {
     let mut values = Sequence::new(alloc);
     for declared in problem.vars.as_slice() {
         values.push((declared.interface, VarValue::Pattern(Pattern::Zero)))?;
     }
-    Ok(State {
+    Ok(Progress {
         bounds: Sequence::new(alloc),
         values,
         first: None,
@@ -37,11 +37,11 @@ pub fn begun(alloc: Global, problem: &Problem) -> Result<State, AllocError>
 
 /// What is known with one more interface, whose variables these are.
 pub fn took(
-    state: State,
+    state: Progress,
     interface: u32,
     variables: &[u32],
     form: InterfaceForm,
-) -> Result<State, SolveError>
+) -> Result<Progress, SolveError>
     ensures { TookIn interface variables.now state form result }
 {
     match form {
@@ -51,22 +51,22 @@ pub fn took(
     }
 }
 
-fn too_large(_state: State, interface: u32) -> Result<State, SolveError>
+fn too_large(_state: Progress, interface: u32) -> Result<Progress, SolveError>
     ensures { IsTooLargeBy interface result }
 {
     Err(SolveError::TooLarge { interface })
 }
 
 fn solved(
-    state: State,
+    state: Progress,
     interface: u32,
     variables: &[u32],
     bound: Option<u32>,
     own: Sequence<VarValue>,
-) -> Result<State, SolveError>
+) -> Result<Progress, SolveError>
     ensures { SolvesMore interface variables.now state bound own result }
 {
-    let State {
+    let Progress {
         bounds,
         values,
         first,
@@ -75,7 +75,7 @@ fn solved(
     let mut values = values;
     bounds.push(bound)?;
     put_values(&mut values, interface, variables, own);
-    Ok(State {
+    Ok(Progress {
         bounds,
         values,
         first,
@@ -111,15 +111,15 @@ fn put_value(values: &mut Sequence<(u32, VarValue)>, interface: u32, variable: u
 }
 
 /// With a constraint that isn't shown.
-fn met(state: State, unshown: Unshown) -> State
+fn met(state: Progress, unshown: Unshown) -> Progress
     ensures { MeetsUnshown state unshown result }
 {
-    let State {
+    let Progress {
         bounds,
         values,
         first: before,
     } = state;
-    State {
+    Progress {
         bounds,
         values,
         first: earlier(before, unshown),
@@ -149,10 +149,10 @@ fn keep(kept: Unshown, _gone: Unshown) -> Option<Unshown>
 }
 
 /// The answer, where all interfaces are known.
-pub fn finished(state: State) -> Result<Solution, SolveError>
+pub fn finished(state: Progress) -> Result<Solution, SolveError>
     ensures { Finishes state result }
 {
-    let State {
+    let Progress {
         bounds,
         values,
         first,

@@ -38,11 +38,11 @@ use Rattle.pat_core.specs.contracts.program.Program as program
 use Rattle.pat_reduce_values.proofs.programs.variables.Variables.TheSendSync as variables
 use Rattle.pat_reduce_values.specs.contracts.programs.executable.Executable as executable
 use Rattle.pat_reduce.proofs.history.Entry.TheSendSync as entries
-use Rattle.pat_machine_indexes.specs.contracts.refcounts.names.Names as names
-use Rattle.pat_machine_states.proofs.state.State.TheSendSync as states
-use Rattle.pat_machine_states.specs.contracts.state.State as the_state
+use Rattle.pat_machine_indexes.specs.contracts.refcounts.names.RefCounts as names
+use Rattle.pat_machine_states.proofs.state.IndexedConfig.TheSendSync as states
+use Rattle.pat_machine_states.specs.contracts.state.IndexedConfig as the_state
 use Rattle.pat_machine_indexes.specs.contracts.ready_sets.ascending.Ascending as ascending
-use Rattle.pat_machine_indexes.specs.contracts.ready_sets.waits.Waits as waits
+use Rattle.pat_machine_indexes.specs.contracts.ready_sets.waits.ReadySets as waits
 use Rattle.pat_reduce.specs.contracts.history.Entry as entry
 use Rattle.pat_machine.proofs.job.Receipt.TheSendSync as receipts
 use Rattle.pat_machine.specs.contracts.job.Named as named

@@ -9,8 +9,8 @@ use Rattle.pat_semantics_laws.specs.Laws.{IsEnabled}
 use Rattle.pat_machine_spec.specs.Commits.{locally}
 use Rattle.pat_machine_laws.specs.wakeups.Senders.{is_about_to_send}
 use Rattle.pat_machine_laws.specs.wakeups.Wakings.{is_named_by, is_brought_by, IsWaiting, LetsGo}
-use Rattle.pat_machine_indexes.specs.declared.ready_sets.waits.Waits.{Waits}
-use Rattle.pat_machine_indexes.specs.ready_sets.Waits.{sleeper_at, IsAwake, SleepsAt, Ascend, IsInOrder, HasSpace, CanHold, Takes}
+use Rattle.pat_machine_indexes.specs.declared.ready_sets.waits.ReadySets.{ReadySets}
+use Rattle.pat_machine_indexes.specs.ready_sets.ReadySets.{sleeper_at, IsAwake, SleepsAt, Ascend, IsInOrder, HasSpace, CanHold, Takes}
 
 -- thread u waits at a mailbox, and sleeps there
 pub record IsAsleep (p : Program) (c : Config) (sleepers : List (Option ℕ)) (u : ℕ) : Type 0 where
@@ -27,7 +27,7 @@ pub record IsSender (p : Program) (senders : List ℕ) (u : ℕ) (q : Thread) : 
 abbrev pub IsNotedIn : Program → Config → (awake senders : List ℕ) → List (Option ℕ) → ℕ → Type 0
 IsNotedIn p c awake senders sleepers u = (q : Thread) → thread_at c u ≡ Some q → IsTrue (is_among u awake) ⊎ IsSender p senders u q ⊎ IsAsleep p c sleepers u
 
-abbrev pub IsNoted : Program → Config → Waits → ℕ → Type 0
+abbrev pub IsNoted : Program → Config → ReadySets → ℕ → Type 0
 IsNoted p c w u = IsNotedIn p c w.awake.numbers.items w.senders.numbers.items w.sleepers.items u
 
 -- each thread does
@@ -48,7 +48,7 @@ pub record WentOn (p : Program) (t : ℕ) (act : Option Act) (newcomer : ℕ) (d
   pub next : newcomer ≡ before.next_thread
 
 -- each thread was noted before thread t went on; whose names it let go since is in the list, but for what the message that it received had
-pub record WereNoted (p : Program) (w : Waits) (t : ℕ) (act : Option Act) (newcomer : ℕ) (d : Config) (named : List ℕ) (received : Option Message) : Type 0 where
+pub record WereNoted (p : Program) (w : ReadySets) (t : ℕ) (act : Option Act) (newcomer : ℕ) (d : Config) (named : List ℕ) (received : Option Message) : Type 0 where
   pub went : WentOn p t act newcomer d
   pub noted : AreNoted p went.before w.awake.numbers.items w.senders.numbers.items w.sleepers.items
   pub listed : (a : ℕ) → IsTrue (thread_refers a went.kept) → IsFalse (is_named_by a (thread_at d t)) → IsTrue (is_among a named)
@@ -63,7 +63,7 @@ abbrev pub FreesListed : Program → Config → List ℕ → Option Message → 
 FreesListed p d named received a u = (IsTrue (is_among a named) ⊎ IsTrue (is_brought_by a received)) × Frees p d u
 
 -- each thread was noted before thread t went on, and those that may free a mailbox since it let the name go may go on
-pub record WereWoken (p : Program) (w : Waits) (t : ℕ) (act : Option Act) (newcomer : ℕ) (d : Config) : Type 0 where
+pub record WereWoken (p : Program) (w : ReadySets) (t : ℕ) (act : Option Act) (newcomer : ℕ) (d : Config) : Type 0 where
   pub went : WentOn p t act newcomer d
   pub noted : AreNoted p went.before w.awake.numbers.items w.senders.numbers.items w.sleepers.items
   pub woken : (a u : ℕ) → LetsGo p went.before t went.kept act d u a → SleepsAt w a u → IsAwake w u
@@ -78,14 +78,14 @@ pub record IsReady (p : Program) (d : Config) (a u : ℕ) : Type 0 where
   pub receives : IsEnabled p d (record { thread = u; act = ActReceive message.number })
 
 -- thread t is noted as it stands now, and all others that were noted are
-pub record Settles (p : Program) (d : Config) (w : Waits) (t : ℕ) (v : Waits) : Type 0 where
+pub record Settles (p : Program) (d : Config) (w : ReadySets) (t : ℕ) (v : ReadySets) : Type 0 where
   pub order : IsInOrder v
   pub own : IsNoted p d v t
   pub others : (u : ℕ) → (u ≡ t → ⊥) → IsNoted p d w u → IsNoted p d v u
   pub space : Takes 1 w v
 
 -- each thread but t is noted, and there is space for one more that may go on or is about to send
-pub record Follows (p : Program) (d : Config) (w : Waits) (t : ℕ) : Type 0 where
+pub record Follows (p : Program) (d : Config) (w : ReadySets) (t : ℕ) : Type 0 where
   pub order : IsInOrder w
   pub others : (u : ℕ) → (t ≡ u → ⊥) → IsNoted p d w u
   pub space : HasSpace w 1

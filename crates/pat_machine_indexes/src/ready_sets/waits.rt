@@ -1,6 +1,6 @@
 // The threads that may go on, those that are about to send, and those that sleep.
 ghost use Rattle.std.specs.Prelude.{◌≡◌, [], ◌∷◌, slice_get, Some, None, IfOk, OnOk, IsTrue, ◌↔◌};
-ghost use Rattle.pat_machine_indexes.specs.ready_sets.Waits.{sleeper_at, IsInOrder, HasSpace, CanHold, HasRoom, Adds, Holds, Removes, Wakes, PutsToSleep, AddsMailbox};
+ghost use Rattle.pat_machine_indexes.specs.ready_sets.ReadySets.{sleeper_at, IsInOrder, HasSpace, CanHold, HasRoom, Adds, Holds, Removes, Wakes, PutsToSleep, AddsMailbox};
 
 use crate::ready_sets::Ascending;
 use std::alloc::{AllocError, Global};
@@ -8,21 +8,21 @@ use std::alloc::{AllocError, Global};
 /// The threads that may go on, those whose next step is a send, and for each mailbox the thread that sleeps at its guard, if one does.
 /// A thread may stand in several, and one that is in none is known to nobody.
 #[derive(Drop)]
-pub struct Waits {
+pub struct ReadySets {
     pub awake: Ascending,
     /// They can't go on where there is no space for messages.
     pub senders: Ascending,
     pub sleepers: Vec<Option<u32>>,
 }
 
-impl Waits {
+impl ReadySets {
     /// Thread 0 may go on, and there is no mailbox.
-    pub fn start(alloc: Global) -> Result<Waits, AllocError>
+    pub fn start(alloc: Global) -> Result<ReadySets, AllocError>
         ensures { IfOk result (λ w. (w.awake.numbers.items ≡ 0 ∷ []) × (w.senders.numbers.items ≡ []) × (w.sleepers.items ≡ [])) }
     {
         let mut first = Vec::new(alloc);
         first.push(0)?;
-        Ok(Waits {
+        Ok(ReadySets {
             awake: Ascending { numbers: first },
             senders: Ascending {
                 numbers: Vec::new(alloc),

@@ -1,4 +1,4 @@
-// Names that come and go: one walk over what names them serves both ways.
+// RefCounts that come and go: one walk over what names them serves both ways.
 ghost use Rattle.std.specs.Prelude.{ℕ, map, nat_eq};
 ghost use Rattle.pat_semantics_spec.specs.WellFormed.{count_if};
 ghost use Rattle.pat_semantics_spec.specs.Configs.{is_mailbox};
@@ -8,7 +8,7 @@ ghost use Rattle.pat_machine_spec.specs.Tops.{top_of};
 ghost use Rattle.pat_machine_laws.specs.refcounts.Naming.{times_in_control, times_in_env, times_in_frames, times_in_thread, times_in_values};
 ghost use Rattle.pat_machine_indexes.specs.refcounts.Changes.{Changes, Fits};
 
-use crate::refcounts::Names;
+use crate::refcounts::RefCounts;
 use pat_machine_laws::join_laws;
 use pat_machine_threads::top_frames;
 use pat_reduce::{Control, Frame, ThreadState};
@@ -21,7 +21,7 @@ pub(crate) enum Change {
     Go,
 }
 
-impl Names {
+impl RefCounts {
     // What the control of a thread and so many of its frames, those on top, name.
     pub(crate) fn change_top(&mut self, change: Change, state: &ThreadState, frames: u32)
         requires { Fits change self.old (λ a. times_in_thread a (top_of frames (thread_view state.now))) }

@@ -6,7 +6,7 @@ ghost use Rattle.pat_machine_laws.specs.refcounts.Naming.{times_in_control, time
 ghost use Rattle.pat_machine_laws.specs.refcounts.Counting.{count_at};
 ghost use Rattle.pat_machine_indexes.specs.refcounts.Telling.{names_alone};
 
-use crate::refcounts::Names;
+use crate::refcounts::RefCounts;
 use pat_reduce::Control;
 use pat_reduce_values::Value;
 
@@ -14,9 +14,9 @@ use pat_reduce_values::Value;
 #[derive(Clone, Copy)]
 pub enum Counted<'a> {
     /// Each name is counted.
-    All(&'a Names),
+    All(&'a RefCounts),
     /// All but those of the thread's top are.
-    Others(&'a Names),
+    Others(&'a RefCounts),
 }
 
 impl Counted<'_> {
@@ -31,7 +31,7 @@ impl Counted<'_> {
     }
 }
 
-impl Names {
+impl RefCounts {
     // How often the mailbox is named.
     fn at(&self, mailbox: u32) -> u64
         ensures { result ≡ count_at self.now.times.items mailbox }

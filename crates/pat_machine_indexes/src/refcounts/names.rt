@@ -11,16 +11,16 @@ use std::alloc::{AllocError, Global};
 
 /// How often threads and messages name each mailbox, by number.
 #[derive(Drop)]
-pub struct Names {
+pub struct RefCounts {
     pub times: Vec<u32>,
 }
 
-impl Names {
+impl RefCounts {
     /// No mailbox. It takes no memory.
-    pub fn new(alloc: Global) -> Names
+    pub fn new(alloc: Global) -> RefCounts
         ensures { result.times.items ≡ [] }
     {
-        Names {
+        RefCounts {
             times: Vec::new(alloc),
         }
     }

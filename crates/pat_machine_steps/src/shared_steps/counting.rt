@@ -1,4 +1,4 @@
-// Names that come and go at the end of a commit.
+// RefCounts that come and go at the end of a commit.
 ghost use Rattle.std.specs.Prelude.{◌≡◌, ℕ, ◌+◌, ◌<◌, ◌≤◌, [], length, Some, option_map, vec_len, vec_capacity};
 ghost use Rattle.pat_semantics_spec.specs.Configs.{Thread as ThreadOf, thread_at};
 ghost use Rattle.pat_reduce.specs.threads.ThreadViews.{message_view};
@@ -9,14 +9,14 @@ ghost use Rattle.pat_machine_states.specs.Changes.{HasPlaces, Counts, Forgets};
 ghost use Rattle.pat_machine_states.specs.Taking.{taken_act, taken_message};
 ghost use Rattle.pat_machine_steps.specs.shared_steps.Leaving.{CanBeCounted, IsFound, IsLeft, IsSentLast, made_by, times_put, times_received};
 
-use pat_machine_states::{Names, State, Taken};
+use pat_machine_states::{RefCounts, IndexedConfig, Taken};
 use pat_machine_threads::Act;
 use pat_reduce::Message;
 
 /// Counts what the end of a commit made of the names. It takes no memory.
 pub fn count_end(
-    state: &State,
-    names: &mut Names,
+    state: &IndexedConfig,
+    names: &mut RefCounts,
     thread: u32,
     frames: u32,
     newcomer: u32,
@@ -33,7 +33,7 @@ pub fn count_end(
 }
 
 /// Counts what the top of a thread names, if it is there.
-pub fn count_thread(state: &State, names: &mut Names, thread: u32, frames: u32)
+pub fn count_thread(state: &IndexedConfig, names: &mut RefCounts, thread: u32, frames: u32)
     requires { HasPlaces names.old (λ a. times_if_top frames a (thread_at state.now thread)) }
     ensures { Counts names.old (λ a. times_if_top frames a (thread_at state.now thread)) names.new }
 {
@@ -44,7 +44,7 @@ pub fn count_thread(state: &State, names: &mut Names, thread: u32, frames: u32)
 }
 
 /// Counts what the top of a thread names no longer.
-pub fn leave_thread(state: &State, names: &mut Names, thread: u32, frames: u32)
+pub fn leave_thread(state: &IndexedConfig, names: &mut RefCounts, thread: u32, frames: u32)
     requires there { (s : ThreadOf) × (thread_at state.now thread ≡ Some s) }
     requires counted { AreCounted names.old.times.items state.now }
     ensures counted { (s : ThreadOf) → thread_at state.now thread ≡ Some s → AreCountedBut (λ a. times_in_thread a (top_of frames s)) names.new.times.items state.now }
@@ -59,7 +59,7 @@ pub fn leave_thread(state: &State, names: &mut Names, thread: u32, frames: u32)
 }
 
 // A place for the mailbox that was made; and what the message that was received named counts no longer.
-fn leave_taken(names: &mut Names, taken: &Option<Taken>)
+fn leave_taken(names: &mut RefCounts, taken: &Option<Taken>)
     requires room { vec_len names.old.times < vec_capacity names.old.times }
     requires taken { (a : ℕ) → times_received (taken_act taken.now) (taken_message taken.now) a ≤ count_at names.old.times.items a }
     ensures whole { length names.new.times.items ≡ length names.old.times.items + made_by (taken_act taken.now) }
@@ -75,7 +75,7 @@ fn leave_taken(names: &mut Names, taken: &Option<Taken>)
     }
 }
 
-fn forget_received(names: &mut Names, message: &Option<Message>)
+fn forget_received(names: &mut RefCounts, message: &Option<Message>)
     requires { (a : ℕ) → times_if_message a (option_map message_view message.now) ≤ count_at names.old.times.items a }
     ensures { Forgets names.old (λ a. times_if_message a (option_map message_view message.now)) names.new }
 {
@@ -86,7 +86,7 @@ fn forget_received(names: &mut Names, message: &Option<Message>)
 }
 
 // What was sent or spawned.
-fn count_put(state: &State, names: &mut Names, newcomer: u32, taken: &Option<Taken>)
+fn count_put(state: &IndexedConfig, names: &mut RefCounts, newcomer: u32, taken: &Option<Taken>)
     requires found { IsFound newcomer (taken_act taken.now) state.now }
     requires places { HasPlaces names.old (times_put state.now newcomer (taken_act taken.now)) }
     ensures { Counts names.old (times_put state.now newcomer (taken_act taken.now)) names.new }
@@ -101,7 +101,7 @@ fn count_put(state: &State, names: &mut Names, newcomer: u32, taken: &Option<Tak
     }
 }
 
-fn count_sent(state: &State, names: &mut Names)
+fn count_sent(state: &IndexedConfig, names: &mut RefCounts)
     requires last { IsSentLast state.now }
     requires places { HasPlaces names.old (λ a. times_if_message a (last_message state.now.messages)) }
     ensures { Counts names.old (λ a. times_if_message a (last_message state.now.messages)) names.new }
@@ -114,7 +114,7 @@ fn count_sent(state: &State, names: &mut Names)
 }
 
 // A thread begins with no frame.
-fn count_spawned(state: &State, names: &mut Names, newcomer: u32)
+fn count_spawned(state: &IndexedConfig, names: &mut RefCounts, newcomer: u32)
     requires bare { (s : ThreadOf) → thread_at state.now newcomer ≡ Some s → s.frames ≡ [] }
     requires places { HasPlaces names.old (λ a. times_if_thread a (thread_at state.now newcomer)) }
     ensures { Counts names.old (λ a. times_if_thread a (thread_at state.now newcomer)) names.new }

@@ -16,18 +16,18 @@ ghost use Rattle.pat_machine_steps.specs.shared_steps.Leaving.{CanBeCounted};
 ghost use Rattle.pat_limits.specs.Limits.{number_count};
 
 use crate::shared_steps::counting::{count_end, count_thread, leave_thread};
-use pat_machine_states::{Counted, Names, State, Taken};
+use pat_machine_states::{Counted, RefCounts, IndexedConfig, Taken};
 use pat_machine_threads::Settled;
 use pat_reduce_values::Executable;
 use std::alloc::{AllocError, Global};
 
 /// Puts what the local steps made of the top of a thread in its place, and takes the open shared step, if they didn't use
-/// up the allowance. Names stay counted; there is room for one more mailbox. An error changes nothing of the configuration.
+/// up the allowance. RefCounts stay counted; there is room for one more mailbox. An error changes nothing of the configuration.
 pub fn share(
     alloc: Global,
     code: &Executable,
-    state: &mut State,
-    names: &mut Names,
+    state: &mut IndexedConfig,
+    names: &mut RefCounts,
     limit: u32,
     thread: u32,
     allowance: u32,
@@ -67,13 +67,13 @@ pub fn share(
     }
 }
 
-/// Takes the open shared step of a thread that has no local step, where it stands: no more than its control changes. Names
+/// Takes the open shared step of a thread that has no local step, where it stands: no more than its control changes. RefCounts
 /// stay counted; there is room for one more mailbox. An error changes nothing of the configuration.
 pub fn share_in_place(
     alloc: Global,
     code: &Executable,
-    state: &mut State,
-    names: &mut Names,
+    state: &mut IndexedConfig,
+    names: &mut RefCounts,
     limit: u32,
     thread: u32,
     taken: &mut Option<Taken>,
@@ -110,8 +110,8 @@ pub fn share_in_place(
 fn finish(
     alloc: Global,
     code: &Executable,
-    state: &mut State,
-    names: &Names,
+    state: &mut IndexedConfig,
+    names: &RefCounts,
     limit: u32,
     thread: u32,
     allowance: u32,

@@ -5,13 +5,13 @@ ghost use Rattle.pat_core.specs.Views.{program_view};
 ghost use Rattle.pat_reduce.specs.threads.ThreadViews.{message_view, thread_view};
 ghost use Rattle.pat_reduce.specs.Views.{act_view};
 ghost use Rattle.pat_machine_laws.specs.refcounts.Counting.{TellOfEach};
-ghost use Rattle.pat_machine_indexes.specs.ready_sets.Waits.{IsInOrder, HasSpace, CanHold, HasRoom};
+ghost use Rattle.pat_machine_indexes.specs.ready_sets.ReadySets.{IsInOrder, HasSpace, CanHold, HasRoom};
 ghost use Rattle.pat_machine_indexes.specs.ready_sets.Noted.{AreNoted, WereNoted, WereWoken, Follows, Settles};
 
 use crate::wakeups::sending::is_about_to_send;
 use crate::wakeups::waking::{wake_freeing, wake_receiver};
-use pat_machine_indexes::Waits;
-use pat_machine_states::{Names, State};
+use pat_machine_indexes::ReadySets;
+use pat_machine_states::{RefCounts, IndexedConfig};
 use pat_reduce::{Act, Message, ThreadState};
 use pat_reduce_values::Executable;
 
@@ -29,10 +29,10 @@ pub struct Stepped<'a> {
 
 /// Notes who may go on after a thread's steps, who is about to send, and who sleeps. It takes no memory.
 pub fn follow(
-    waits: &mut Waits,
+    waits: &mut ReadySets,
     code: &Executable,
-    state: &State,
-    names: &Names,
+    state: &IndexedConfig,
+    names: &RefCounts,
     stepped: &Stepped<'_>,
 )
     requires space { HasSpace waits.old 2 }
@@ -49,10 +49,10 @@ pub fn follow(
 
 // Notes the others, whether or not there was a shared step.
 fn follow_others(
-    waits: &mut Waits,
+    waits: &mut ReadySets,
     code: &Executable,
-    state: &State,
-    names: &Names,
+    state: &IndexedConfig,
+    names: &RefCounts,
     stepped: &Stepped<'_>,
 )
     requires space { HasSpace waits.old 2 }
@@ -69,10 +69,10 @@ fn follow_others(
 }
 
 fn follow_act(
-    waits: &mut Waits,
+    waits: &mut ReadySets,
     code: &Executable,
-    state: &State,
-    names: &Names,
+    state: &IndexedConfig,
+    names: &RefCounts,
     stepped: &Stepped<'_>,
     act: Act,
 )
@@ -92,7 +92,7 @@ fn follow_act(
 }
 
 // Notes whether a thread may go on, is about to send, or sleeps.
-fn settle(waits: &mut Waits, code: &Executable, state: &State, names: &Names, thread: u32)
+fn settle(waits: &mut ReadySets, code: &Executable, state: &IndexedConfig, names: &RefCounts, thread: u32)
     requires order { IsInOrder waits.old }
     requires space { HasSpace waits.old 1 }
     requires hold { CanHold waits.old 1 }
@@ -107,10 +107,10 @@ fn settle(waits: &mut Waits, code: &Executable, state: &State, names: &Names, th
 }
 
 fn settle_there(
-    waits: &mut Waits,
+    waits: &mut ReadySets,
     code: &Executable,
-    state: &State,
-    names: &Names,
+    state: &IndexedConfig,
+    names: &RefCounts,
     thread: u32,
     own: &ThreadState,
 )

@@ -4,22 +4,22 @@ ghost use Rattle.pat_core.specs.Views.{program_view};
 ghost use Rattle.pat_reduce.specs.threads.ThreadViews.{message_view};
 ghost use Rattle.pat_reduce.specs.Views.{act_view};
 ghost use Rattle.pat_machine_laws.specs.refcounts.Counting.{TellOfEach};
-ghost use Rattle.pat_machine_indexes.specs.ready_sets.Waits.{HasSpace, CanHold, HasRoom};
+ghost use Rattle.pat_machine_indexes.specs.ready_sets.ReadySets.{HasSpace, CanHold, HasRoom};
 ghost use Rattle.pat_machine_indexes.specs.ready_sets.Noted.{AreNoted, WereNoted};
 ghost use Rattle.pat_machine_steps.specs.shared_steps.Taking.{taken_act, taken_message};
 
 use crate::wakeups::following::{Stepped, follow};
-use pat_machine_indexes::Waits;
-use pat_machine_states::{Names, State, Taken};
+use pat_machine_indexes::ReadySets;
+use pat_machine_states::{RefCounts, IndexedConfig, Taken};
 use pat_reduce::{Act, Message};
 use pat_reduce_values::Executable;
 
 /// Notes who may go on after a thread's steps, who is about to send, and who sleeps. It takes no memory.
 pub fn note_threads<'a>(
-    waits: &mut Waits,
+    waits: &mut ReadySets,
     code: &Executable,
-    state: &State,
-    names: &Names,
+    state: &IndexedConfig,
+    names: &RefCounts,
     thread: u32,
     newcomer: u32,
     named: &'a [u32],

@@ -4,17 +4,17 @@ ghost use Rattle.pat_core.specs.Views.{program_view};
 ghost use Rattle.pat_reduce_values.specs.ValueViews.{value_view};
 ghost use Rattle.pat_reduce.specs.threads.ThreadViews.{message_view};
 ghost use Rattle.pat_machine_laws.specs.refcounts.Counting.{TellOfEach};
-ghost use Rattle.pat_machine_indexes.specs.ready_sets.Waits.{IsInOrder, HasSpace, WakesThose};
+ghost use Rattle.pat_machine_indexes.specs.ready_sets.ReadySets.{IsInOrder, HasSpace, WakesThose};
 ghost use Rattle.pat_machine_indexes.specs.ready_sets.Noted.{FreesListed, IsReady};
 ghost use Rattle.pat_machine_steps.specs.wakeups.Sleepers.{FreesNamed, FreesBrought, FreesValue, FreesAt, ReceivesAt};
 
-use pat_machine_indexes::Waits;
-use pat_machine_states::{Names, State};
+use pat_machine_indexes::ReadySets;
+use pat_machine_states::{RefCounts, IndexedConfig};
 use pat_reduce::Message;
 use pat_reduce_values::{Executable, Value};
 
 /// Whoever sleeps at the mailbox that the last message came to may go on, if it may receive that message. No other is looked at.
-pub fn wake_receiver(waits: &mut Waits, code: &Executable, state: &State)
+pub fn wake_receiver(waits: &mut ReadySets, code: &Executable, state: &IndexedConfig)
     requires order { IsInOrder waits.old }
     requires space { HasSpace waits.old 0 }
     ensures { WakesThose (IsReady (program_view code.now.program) state.now) waits.old waits.new }
@@ -26,7 +26,7 @@ pub fn wake_receiver(waits: &mut Waits, code: &Executable, state: &State)
 }
 
 // Whoever sleeps at the mailbox may go on, if it may receive the last message.
-fn wake_to_receive(waits: &mut Waits, code: &Executable, state: &State, mailbox: u32)
+fn wake_to_receive(waits: &mut ReadySets, code: &Executable, state: &IndexedConfig, mailbox: u32)
     requires order { IsInOrder waits.old }
     requires space { HasSpace waits.old 0 }
     ensures { WakesThose (ReceivesAt (program_view code.now.program) state.now mailbox) waits.old waits.new }
@@ -40,10 +40,10 @@ fn wake_to_receive(waits: &mut Waits, code: &Executable, state: &State, mailbox:
 
 /// Whoever sleeps at a mailbox that is named here, or that the message brought, may go on, if it may free that one.
 pub fn wake_freeing(
-    waits: &mut Waits,
+    waits: &mut ReadySets,
     code: &Executable,
-    state: &State,
-    names: &Names,
+    state: &IndexedConfig,
+    names: &RefCounts,
     named: &[u32],
     received: Option<&Message>,
 )
@@ -59,7 +59,7 @@ pub fn wake_freeing(
     }
 }
 
-fn wake_named(waits: &mut Waits, code: &Executable, state: &State, names: &Names, named: &[u32])
+fn wake_named(waits: &mut ReadySets, code: &Executable, state: &IndexedConfig, names: &RefCounts, named: &[u32])
     requires order { IsInOrder waits.old }
     requires space { HasSpace waits.old 0 }
     requires told { TellOfEach (program_view code.now.program) state.now names.now.times.items }
@@ -71,10 +71,10 @@ fn wake_named(waits: &mut Waits, code: &Executable, state: &State, names: &Names
 }
 
 fn wake_brought(
-    waits: &mut Waits,
+    waits: &mut ReadySets,
     code: &Executable,
-    state: &State,
-    names: &Names,
+    state: &IndexedConfig,
+    names: &RefCounts,
     values: &[Value],
 )
     requires order { IsInOrder waits.old }
@@ -87,7 +87,7 @@ fn wake_brought(
     }
 }
 
-fn wake_at_value(waits: &mut Waits, code: &Executable, state: &State, names: &Names, value: &Value)
+fn wake_at_value(waits: &mut ReadySets, code: &Executable, state: &IndexedConfig, names: &RefCounts, value: &Value)
     requires order { IsInOrder waits.old }
     requires space { HasSpace waits.old 0 }
     requires told { TellOfEach (program_view code.now.program) state.now names.now.times.items }
@@ -100,7 +100,7 @@ fn wake_at_value(waits: &mut Waits, code: &Executable, state: &State, names: &Na
 }
 
 // Whoever sleeps at the mailbox may go on, if it may free that one.
-fn wake_to_free(waits: &mut Waits, code: &Executable, state: &State, names: &Names, mailbox: u32)
+fn wake_to_free(waits: &mut ReadySets, code: &Executable, state: &IndexedConfig, names: &RefCounts, mailbox: u32)
     requires order { IsInOrder waits.old }
     requires space { HasSpace waits.old 0 }
     requires told { TellOfEach (program_view code.now.program) state.now names.now.times.items }

@@ -3,16 +3,16 @@ ghost use Rattle.std.specs.Prelude.{◌≡◌, ◌<◌, ◌++◌, None, get_or, 
 ghost use Rattle.pat_reduce.specs.threads.ThreadViews.{message_view};
 ghost use Rattle.pat_reduce.specs.Views.{config_view, threads_view};
 ghost use Rattle.pat_machine_threads.specs.table.Entries.{entries_from};
-ghost use Rattle.pat_machine_threads.specs.store.Placed.{numbered};
+ghost use Rattle.pat_machine_threads.specs.store.ThreadStore.{numbered};
 ghost use Rattle.pat_limits.specs.Limits.{number_count};
 
 use crate::copies::copy_state;
-use crate::store::Placed;
+use crate::store::ThreadStore;
 use pat_reduce::{Config, Message, ThreadState};
 use pat_sequences::{Sequence, Text};
 use std::alloc::{AllocError, Global};
 
-impl Placed {
+impl ThreadStore {
     /// A copy of the configuration, with these messages and live mailboxes.
     pub fn copy(
         &self,

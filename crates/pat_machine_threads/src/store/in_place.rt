@@ -9,7 +9,7 @@ ghost use Rattle.pat_reduce.specs.Views.{freed_view};
 ghost use Rattle.pat_machine_threads.specs.store.InPlace.{redex_frees, FreesOut, MakesOut, SendsOut};
 ghost use Rattle.pat_machine_threads.specs.store.Steps.{StepsApart};
 
-use crate::store::Placed;
+use crate::store::ThreadStore;
 use pat_reduce::{
     Control, Message, StepError, ThreadState, guard_of, makes_mailbox, next_line, next_message,
     next_thread, node_with,
@@ -18,7 +18,7 @@ use pat_reduce_values::{Executable, Value};
 use pat_sequences::Stack;
 use std::alloc::Global;
 
-impl Placed {
+impl ThreadStore {
     /// The thread makes a mailbox, which has the next number and isn't listed as live. An error changes nothing.
     pub fn make_mailbox(&mut self, code: &Executable, thread: u32) -> Result<(), StepError>
         requires { HasRoom self.old }

@@ -6,7 +6,7 @@ ghost use Rattle.pat_reduce.specs.declared.threads.state.ThreadState.{ThreadStat
 ghost use Rattle.pat_reduce.specs.threads.ThreadViews.{thread_view};
 ghost use Rattle.pat_reduce.specs.Views.{threads_view};
 ghost use Rattle.pat_machine_laws.specs.thread_frames.Alone.{put_back, AreLeft};
-ghost use Rattle.pat_machine_threads.specs.store.Placed.{hollow, in_list};
+ghost use Rattle.pat_machine_threads.specs.store.ThreadStore.{hollow, in_list};
 ghost use Rattle.pat_limits.specs.Limits.{most_number};
 
 use crate::table::Table;

@@ -14,24 +14,24 @@ use std::alloc::{AllocError, Global};
 use std::marker::Model;
 
 /// A configuration whose threads stand each at the place of its number. Contracts see the configuration of the definitions.
-pub struct Placed {
+pub struct ThreadStore {
     /// All but the threads.
     pub(crate) config: Config,
     pub(crate) table: Table,
 }
 
-impl Drop for Placed {
+impl Drop for ThreadStore {
     fn drop(self) {
-        let Placed {
+        let ThreadStore {
             config: _,
             table: _,
         } = self;
     }
 }
 
-impl Model for Placed {
+impl Model for ThreadStore {
     ghost use Rattle.pat_semantics_spec.specs.Configs.{Config};
-    ghost use Rattle.pat_machine_threads.specs.store.Placed.{placed_view, IsPlaced};
+    ghost use Rattle.pat_machine_threads.specs.store.ThreadStore.{placed_view, IsPlaced};
 
     ghost Value = { Config };
 
@@ -40,9 +40,9 @@ impl Model for Placed {
     ghost invariant = { λ s. IsPlaced s.config s.table };
 }
 
-impl Placed {
+impl ThreadStore {
     /// The start of the program.
-    pub fn start(alloc: Global, code: &Executable) -> Result<Placed, AllocError>
+    pub fn start(alloc: Global, code: &Executable) -> Result<ThreadStore, AllocError>
         ensures { IfOk result (λ c. c ≡ start (program_view code.now.program)) }
     {
         let mut config = Config::start(alloc, code)?;
@@ -51,9 +51,9 @@ impl Placed {
         match config.threads.pop() {
             Some((_, state)) => {
                 table.add(state);
-                Ok(Placed { config, table })
+                Ok(ThreadStore { config, table })
             }
-            None => Ok(Placed { config, table }),
+            None => Ok(ThreadStore { config, table }),
         }
     }
 

@@ -3,11 +3,11 @@ ghost use Rattle.std.specs.Prelude.{◌≡◌, ◌<◌, ◌++◌, None, get_or, 
 ghost use Rattle.std.specs.Map.{keys_of};
 ghost use Rattle.pat_reduce.specs.Views.{config_view, threads_view};
 ghost use Rattle.pat_machine_threads.specs.table.Entries.{entries_from};
-ghost use Rattle.pat_machine_threads.specs.store.Placed.{numbered};
+ghost use Rattle.pat_machine_threads.specs.store.ThreadStore.{numbered};
 ghost use Rattle.pat_machine_threads.specs.store.Remains.{remains_of};
 ghost use Rattle.pat_limits.specs.Limits.{number_count};
 
-use crate::store::Placed;
+use crate::store::ThreadStore;
 use pat_reduce::{Config, ThreadState};
 use pat_sequences::Sequence;
 use std::alloc::{AllocError, Global};
@@ -32,7 +32,7 @@ impl Remains {
     }
 }
 
-impl Placed {
+impl ThreadStore {
     /// The threads that are there, with so many live mailboxes.
     pub fn remains(&self, alloc: Global, live: usize) -> Result<Remains, AllocError>
         ensures { IfOk result (λ r. r ≡ record { threads = keys_of self.now.threads; live = live }) }

@@ -6,13 +6,13 @@ ghost use Rattle.pat_reduce.specs.Views.{step_view};
 ghost use Rattle.pat_machine_spec.specs.Machines.{HasRoom};
 ghost use Rattle.pat_machine_threads.specs.store.Steps.{StepsApart};
 
-use crate::store::Placed;
+use crate::store::ThreadStore;
 use crate::store::moves::{put_back, set_apart};
 use pat_reduce::{Act, Step, StepError};
 use pat_reduce_values::Executable;
 use std::alloc::Global;
 
-impl Placed {
+impl ThreadStore {
     /// Takes a step of a thread by itself, while no other one is there and no message: what is left of it goes back to its place.
     /// An error changes nothing.
     pub fn step(&mut self, alloc: Global, code: &Executable, step: &Step) -> Result<(), StepError>

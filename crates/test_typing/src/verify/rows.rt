@@ -70,7 +70,7 @@ fn inputs_of_two_parts(rt: &impl Abort, alloc: Global) -> Result<(), Fail> {
         ),
     ];
     for (input, status, text) in rows {
-        check(rt, alloc, input, status, text)?;
+        answers(rt, alloc, input, status, text)?;
     }
     Ok(())
 }
@@ -84,17 +84,17 @@ fn a_program_before_the_mark_has_1048576_bytes_at_most(
         input.push(b' ')?;
     }
     input.extend_from_slice(b"def main(): Unit { () }\n%%derivation\nnode 0 Unit {}\n")?;
-    check(
+    answers(
         rt,
         alloc,
         input.as_slice(),
         Status::Refused(Verdict::TooLong),
         b"too long\n",
     )?;
-    check(rt, alloc, &input[1..], Status::Ok, b"accepted\n")
+    answers(rt, alloc, &input[1..], Status::Ok, b"accepted\n")
 }
 
-fn check(
+fn answers(
     rt: &impl Abort,
     alloc: Global,
     input: &[u8],

@@ -8,7 +8,7 @@ use Rattle.pat_derivations.specs.Views.{certs_view, derivation_view}
 use Rattle.pat_obligations.specs.Views.{demand_view}
 use Rattle.pat_certificate_checks.specs.Shown.{Takes}
 use Rattle.pat_certificate_checks.specs.Views.{side_view}
-use Rattle.pat_certificate_checks.specs.declared.showing.Outcome.TheVariants as outcome
+use Rattle.pat_certificate_checks.specs.declared.showing.Showing.TheVariants as outcome
 use Rattle.pat_certificate_checks.proofs.Taken.{leaves_rest}
 use Rattle.pat_certificate_checks.proofs.showing.after_inclusion.Goals as goal
 

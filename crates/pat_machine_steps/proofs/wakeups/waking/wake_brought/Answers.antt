@@ -3,7 +3,7 @@ use Rattle.std.proofs.lemmas.List.{get_or-map, length-map}
 use Rattle.pat_semantics_spec.specs.Values.{Const, UnitConst}
 use Rattle.pat_core.specs.Views.{program_view}
 use Rattle.pat_reduce_values.specs.ValueViews.{value_view}
-use Rattle.pat_machine_indexes.specs.ready_sets.Waits.{WakesThose}
+use Rattle.pat_machine_indexes.specs.ready_sets.ReadySets.{WakesThose}
 use Rattle.pat_machine_steps.specs.wakeups.Sleepers.{FreesValue}
 use Rattle.pat_machine_steps.proofs.Turns.{brought_more}
 use Rattle.pat_machine_steps.proofs.wakeups.waking.wake_brought.Goals as goal

@@ -1,7 +1,7 @@
 use Rattle.std.proofs.Common.{map, take}
 use Rattle.pat_core.specs.Views.{program_view}
 use Rattle.pat_reduce_values.specs.ValueViews.{value_view}
-use Rattle.pat_machine_indexes.specs.ready_sets.Waits.{WakesThose}
+use Rattle.pat_machine_indexes.specs.ready_sets.ReadySets.{WakesThose}
 use Rattle.pat_machine_steps.specs.wakeups.Sleepers.{FreesBrought}
 use Rattle.pat_machine_steps.proofs.wakeups.waking.wake_brought.Given as goal
 

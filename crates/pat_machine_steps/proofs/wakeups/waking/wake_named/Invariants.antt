@@ -1,6 +1,6 @@
 use Rattle.std.proofs.Common.{take}
 use Rattle.pat_core.specs.Views.{program_view}
-use Rattle.pat_machine_indexes.specs.ready_sets.Waits.{WakesThose}
+use Rattle.pat_machine_indexes.specs.ready_sets.ReadySets.{WakesThose}
 use Rattle.pat_machine_steps.specs.wakeups.Sleepers.{FreesNamed}
 use Rattle.pat_machine_steps.proofs.wakeups.waking.wake_named.Given as goal
 

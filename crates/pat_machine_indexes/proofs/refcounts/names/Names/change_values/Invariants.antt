@@ -1,8 +1,0 @@
-use Rattle.std.proofs.Common.{drop, map}
-use Rattle.pat_reduce_values.specs.ValueViews.{value_view}
-use Rattle.pat_machine_laws.specs.refcounts.Naming.{times_in_values}
-use Rattle.pat_machine_indexes.proofs.Turns.{IsUnderWay}
-use Rattle.pat_machine_indexes.proofs.refcounts.names.Names.change_values.Given as goal
-
-abbrev pub invariant-loop-value : goal.invariant-loop-value
-invariant-loop-value l = IsUnderWay l.change l.fn.self (λ a. times_in_values a (map value_view l.values)) l.self (λ a. times_in_values a (map value_view (drop l.value-index l.values)))

@@ -1,0 +1,8 @@
+use Rattle.pat_core.specs.Views.{program_view}
+use Rattle.pat_reduce.specs.Views.{act_view}
+use Rattle.pat_machine_states.proofs.Opened.{takes}
+use Rattle.pat_machine_states.proofs.state.IndexedConfig.take_open.Goals as goal
+
+pub returns-in-Ok-clause-ok : goal.returns-in-Ok-clause-ok
+returns-in-Ok-clause-ok c =
+    takes (program_view c.args.code.now.program) c.args.self.now c.step.new.self c.args.limit c.args.thread (act_view c.in-Some.act) c.requires.ordered c.in-Some.ensures c.in-Ok.ensures.step
