@@ -13,7 +13,9 @@ ghost use Rattle.pat_machine.specs.Gives.{IsLent, Committed, CommitGives};
 use crate::entry::{note, steps_of, take_back};
 use crate::job::{CommitRefused, Job, Receipt};
 use crate::parts::Parts;
-use pat_machine_steps::{IndexedConfig, Taken, act_of, list_top, note_threads, share, share_in_place};
+use pat_machine_steps::{
+    IndexedConfig, Taken, act_of, list_top, note_threads, share, share_in_place,
+};
 use pat_machine_threads::{LocalRun, Settled, is_top, settle_top};
 use pat_reduce::{Entry, guard_of};
 use pat_sequences::let_go;
@@ -206,7 +208,12 @@ impl Parts {
 }
 
 // Lists the mailboxes that the top of a thread names, and no others.
-fn list_named(state: &IndexedConfig, thread: u32, most: u32, to: &mut Vec<u32>) -> Result<(), AllocError>
+fn list_named(
+    state: &IndexedConfig,
+    thread: u32,
+    most: u32,
+    to: &mut Vec<u32>,
+) -> Result<(), AllocError>
     ensures { OnOk result (ListsTop state.now thread most to.new.items) }
 {
     to.clear();

@@ -10,7 +10,7 @@ ghost use Rattle.pat_limits.specs.Limits.{most_steps};
 
 use pat_core::Program;
 use pat_machine_indexes::ReadySets;
-use pat_machine_steps::{RefCounts, IndexedConfig};
+use pat_machine_steps::{IndexedConfig, RefCounts};
 use pat_reduce::Entry;
 use pat_reduce_values::Executable;
 use std::alloc::{AllocError, Global};

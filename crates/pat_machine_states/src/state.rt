@@ -8,7 +8,7 @@ ghost use Rattle.pat_machine_threads.specs.store.Remains.{remains_of};
 ghost use Rattle.pat_machine_states.specs.Boxes.{AreMailboxesOf};
 
 use pat_machine_indexes::{Mailboxes, copy_pending, count_live, list_live};
-use pat_machine_threads::{ThreadStore, Remains};
+use pat_machine_threads::{Remains, ThreadStore};
 use pat_reduce::{Config, ThreadState};
 use pat_reduce_values::Executable;
 use pat_sequences::Text;

@@ -4,5 +4,7 @@
 mod shared_steps;
 mod wakeups;
 
-pub use shared_steps::{RefCounts, Prospect, Remains, IndexedConfig, Taken, list_top, share, share_in_place};
+pub use shared_steps::{
+    IndexedConfig, Prospect, RefCounts, Remains, Taken, list_top, share, share_in_place,
+};
 pub use wakeups::{act_of, note_threads};

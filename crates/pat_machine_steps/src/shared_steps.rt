@@ -3,5 +3,5 @@
 mod counting;
 mod sharing;
 
-pub use pat_machine_states::{RefCounts, Prospect, Remains, IndexedConfig, Taken, list_top};
+pub use pat_machine_states::{IndexedConfig, Prospect, RefCounts, Remains, Taken, list_top};
 pub use sharing::{share, share_in_place};

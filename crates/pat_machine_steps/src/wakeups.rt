@@ -6,4 +6,4 @@ mod sending;
 mod waking;
 
 pub use noting::{act_of, note_threads};
-pub use pat_machine_states::{RefCounts, Prospect, Remains, IndexedConfig, Taken, list_top};
+pub use pat_machine_states::{IndexedConfig, Prospect, RefCounts, Remains, Taken, list_top};

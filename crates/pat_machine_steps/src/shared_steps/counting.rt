@@ -9,7 +9,7 @@ ghost use Rattle.pat_machine_states.specs.Changes.{HasPlaces, Counts, Forgets};
 ghost use Rattle.pat_machine_states.specs.Taking.{taken_act, taken_message};
 ghost use Rattle.pat_machine_steps.specs.shared_steps.Leaving.{CanBeCounted, IsFound, IsLeft, IsSentLast, made_by, times_put, times_received};
 
-use pat_machine_states::{RefCounts, IndexedConfig, Taken};
+use pat_machine_states::{IndexedConfig, RefCounts, Taken};
 use pat_machine_threads::Act;
 use pat_reduce::Message;
 

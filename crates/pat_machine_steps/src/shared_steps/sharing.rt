@@ -16,7 +16,7 @@ ghost use Rattle.pat_machine_steps.specs.shared_steps.Leaving.{CanBeCounted};
 ghost use Rattle.pat_limits.specs.Limits.{number_count};
 
 use crate::shared_steps::counting::{count_end, count_thread, leave_thread};
-use pat_machine_states::{Counted, RefCounts, IndexedConfig, Taken};
+use pat_machine_states::{Counted, IndexedConfig, RefCounts, Taken};
 use pat_machine_threads::Settled;
 use pat_reduce_values::Executable;
 use std::alloc::{AllocError, Global};

@@ -11,7 +11,7 @@ ghost use Rattle.pat_machine_indexes.specs.ready_sets.Noted.{AreNoted, WereNoted
 use crate::wakeups::sending::is_about_to_send;
 use crate::wakeups::waking::{wake_freeing, wake_receiver};
 use pat_machine_indexes::ReadySets;
-use pat_machine_states::{RefCounts, IndexedConfig};
+use pat_machine_states::{IndexedConfig, RefCounts};
 use pat_reduce::{Act, Message, ThreadState};
 use pat_reduce_values::Executable;
 
@@ -92,7 +92,13 @@ fn follow_act(
 }
 
 // Notes whether a thread may go on, is about to send, or sleeps.
-fn settle(waits: &mut ReadySets, code: &Executable, state: &IndexedConfig, names: &RefCounts, thread: u32)
+fn settle(
+    waits: &mut ReadySets,
+    code: &Executable,
+    state: &IndexedConfig,
+    names: &RefCounts,
+    thread: u32,
+)
     requires order { IsInOrder waits.old }
     requires space { HasSpace waits.old 1 }
     requires hold { CanHold waits.old 1 }

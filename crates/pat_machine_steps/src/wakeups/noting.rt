@@ -10,7 +10,7 @@ ghost use Rattle.pat_machine_steps.specs.shared_steps.Taking.{taken_act, taken_m
 
 use crate::wakeups::following::{Stepped, follow};
 use pat_machine_indexes::ReadySets;
-use pat_machine_states::{RefCounts, IndexedConfig, Taken};
+use pat_machine_states::{IndexedConfig, RefCounts, Taken};
 use pat_reduce::{Act, Message};
 use pat_reduce_values::Executable;
 

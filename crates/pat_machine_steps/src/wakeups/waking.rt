@@ -9,7 +9,7 @@ ghost use Rattle.pat_machine_indexes.specs.ready_sets.Noted.{FreesListed, IsRead
 ghost use Rattle.pat_machine_steps.specs.wakeups.Sleepers.{FreesNamed, FreesBrought, FreesValue, FreesAt, ReceivesAt};
 
 use pat_machine_indexes::ReadySets;
-use pat_machine_states::{RefCounts, IndexedConfig};
+use pat_machine_states::{IndexedConfig, RefCounts};
 use pat_reduce::Message;
 use pat_reduce_values::{Executable, Value};
 
@@ -59,7 +59,13 @@ pub fn wake_freeing(
     }
 }
 
-fn wake_named(waits: &mut ReadySets, code: &Executable, state: &IndexedConfig, names: &RefCounts, named: &[u32])
+fn wake_named(
+    waits: &mut ReadySets,
+    code: &Executable,
+    state: &IndexedConfig,
+    names: &RefCounts,
+    named: &[u32],
+)
     requires order { IsInOrder waits.old }
     requires space { HasSpace waits.old 0 }
     requires told { TellOfEach (program_view code.now.program) state.now names.now.times.items }
@@ -87,7 +93,13 @@ fn wake_brought(
     }
 }
 
-fn wake_at_value(waits: &mut ReadySets, code: &Executable, state: &IndexedConfig, names: &RefCounts, value: &Value)
+fn wake_at_value(
+    waits: &mut ReadySets,
+    code: &Executable,
+    state: &IndexedConfig,
+    names: &RefCounts,
+    value: &Value,
+)
     requires order { IsInOrder waits.old }
     requires space { HasSpace waits.old 0 }
     requires told { TellOfEach (program_view code.now.program) state.now names.now.times.items }
@@ -100,7 +112,13 @@ fn wake_at_value(waits: &mut ReadySets, code: &Executable, state: &IndexedConfig
 }
 
 // Whoever sleeps at the mailbox may go on, if it may free that one.
-fn wake_to_free(waits: &mut ReadySets, code: &Executable, state: &IndexedConfig, names: &RefCounts, mailbox: u32)
+fn wake_to_free(
+    waits: &mut ReadySets,
+    code: &Executable,
+    state: &IndexedConfig,
+    names: &RefCounts,
+    mailbox: u32,
+)
     requires order { IsInOrder waits.old }
     requires space { HasSpace waits.old 0 }
     requires told { TellOfEach (program_view code.now.program) state.now names.now.times.items }
