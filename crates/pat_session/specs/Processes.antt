@@ -26,10 +26,15 @@ AreArguments (Err error) all = (all ≡ []) × (error_kind error ≢ OutOfMemory
 abbrev pub GivesWords : {Z : Type 0} → Result (IntoIter (String Z) Z) Error → List (List ℕ) → Type 0
 GivesWords {Z} given words = (all : List (String Z)) × AreArguments given all × (words ≡ map string_bytes (drop 1 all))
 
+-- only with these arguments may a process end before its call: memory may be wanting for them
+abbrev pub MayLackMemory : {Z : Type 0} → Result (IntoIter (String Z) Z) Error → Type 0
+MayLackMemory (Ok given) = Unit {0}
+MayLackMemory (Err error) = error_kind error ≡ OutOfMemory
+
 -- there was no memory for the words, and nothing was read and written; or it ends with the status of one call on its words
 abbrev pub ExitsOf : {S K Z : Type 0} → (S → Option (List ℕ)) → (S → ℕ) → (S → Option Reach) → (K → Option (List ℕ)) → (K → Option (List ℕ)) → (K → ℕ) → Result (IntoIter (String Z) Z) Error → S → S → K → K → ExitCode → Type 0
 ExitsOf rest read_faults reach taken handed write_faults arguments source_old source_new sink_old sink_new code =
-    ((exit_status code ≡ status_code NoMemory) × (source_new ≡ source_old) × (sink_new ≡ sink_old))
+    (MayLackMemory arguments × (exit_status code ≡ status_code NoMemory) × (source_new ≡ source_old) × (sink_new ≡ sink_old))
     ⊎ ((words : List (List ℕ))
     × (status : Status)
     × GivesWords arguments words

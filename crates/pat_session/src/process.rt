@@ -1,8 +1,8 @@
 // A process, which is one call.
-ghost use Rattle.std.specs.Prelude.{◌≡◌, IfOk, drop};
+ghost use Rattle.std.specs.Prelude.{◌≡◌, IfOk, IfErr, drop};
 ghost use Rattle.std.specs.Process.{exit_status};
 ghost use Rattle.pat_front.specs.exit_answers.Statuses.{status_code};
-ghost use Rattle.pat_session.specs.Processes.{AreArguments, ExitsOf};
+ghost use Rattle.pat_session.specs.Processes.{AreArguments, MayLackMemory, ExitsOf};
 
 use crate::session::pat;
 use pat_front::Status;
@@ -37,7 +37,8 @@ pub fn exit<R: Threads + Wait + Sync, S: Source, K: Sink, G: Gate>(
 
 // All arguments, and none where one of them isn't text.
 fn all_of(alloc: Global, arguments: io::Result<Args>) -> Result<Vec<String>, AllocError>
-    ensures { IfOk result (λ all. AreArguments arguments all.items) }
+    ensures ok { IfOk result (λ all. AreArguments arguments all.items) }
+    ensures err { IfErr result (λ _. MayLackMemory arguments) }
 {
     match arguments {
         Ok(arguments) => arguments.collect(alloc),
