@@ -20,8 +20,6 @@ pub enum Cert {
 pub struct Line {
     pub of: NodeType,
     pub certs: Vec<Cert>,
-    /// Whether variables stood in ascending order where it was read.
-    pub ascends: bool,
 }
 
 /// A value for each pattern variable, with the variable's interface, and what stands at each node.

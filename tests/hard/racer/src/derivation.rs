@@ -169,7 +169,7 @@ struct Reader<'a> {
     interfaces: Map<&'a str, u32>,
     tags: Vec<Map<&'a str, u8>>,
     /// Environments and covers that stand in several lines are read once, and parts of environments are kept once.
-    environments: Map<&'a str, (Environment, bool)>,
+    environments: Map<&'a str, Environment>,
     builder: Builder,
     covers: Map<&'a str, Rc<Cover>>,
 }
@@ -299,15 +299,15 @@ impl<'a> Reader<'a> {
                 TermType::Mailbox { interface, polarity, pattern }
             }
         };
-        let (needs, ascends) = self.needs(rest)?;
+        let needs = self.needs(rest)?;
         let mut certs = Vec::new();
         while rest.takes(" ") {
             certs.push(self.cert(rest)?);
         }
-        Some(Line { of: NodeType { result, needs }, certs, ascends })
+        Some(Line { of: NodeType { result, needs }, certs })
     }
 
-    fn needs(&mut self, rest: &mut Rest<'a>) -> Option<(Environment, bool)> {
+    fn needs(&mut self, rest: &mut Rest<'a>) -> Option<Environment> {
         let end = rest.text.find('}')? + 1;
         let (text, behind) = rest.text.split_at(end);
         if let Some(known) = self.environments.get(text) {
@@ -332,10 +332,12 @@ impl<'a> Reader<'a> {
             };
             entries.push((variable, MailboxType { interface, polarity, usage, pattern }));
         }
-        let ascends = entries.windows(2).all(|pair| pair[0].0 < pair[1].0);
-        let environment = if ascends { self.builder.of(&entries) } else { entries.into_iter().collect() };
-        self.environments.insert(text, (environment.clone(), ascends));
-        Some((environment, ascends))
+        if entries.windows(2).any(|pair| pair[0].0 >= pair[1].0) {
+            return None;
+        }
+        let environment = self.builder.of(&entries);
+        self.environments.insert(text, environment.clone());
+        Some(environment)
     }
 
     fn cert(&mut self, rest: &mut Rest<'a>) -> Option<Cert> {

@@ -25,7 +25,7 @@ pub fn derivation_of<'t>(
 ) -> Result<(Derivation, Vec<Signature>)> {
     let Problem { signatures, variables, nodes, .. } = problem;
     let values: Vec<_> = variables.iter().map(|it| it.interface).zip(solution.values).collect();
-    let mut lines: Vec<Line> = nodes.into_iter().map(|of| Line { of, certs: Vec::new(), ascends: true }).collect();
+    let mut lines: Vec<Line> = nodes.into_iter().map(|of| Line { of, certs: Vec::new() }).collect();
     let mut scope = Scope::new(program, table, forms, &values);
     let mut asking = Asking::new(program, table, &signatures);
     for number in 0..lines.len() {
@@ -215,7 +215,6 @@ impl Judge<'_, '_> {
         let node = self.program.node(number);
         let result = &line.of.result;
         result.kind() == node.kind
-            && line.ascends
             && summary.is_formed
             && (summary.from..summary.to).contains(&number)
             && self.is_formed(result)

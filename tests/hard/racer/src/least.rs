@@ -64,7 +64,8 @@ impl Growing<'_, '_> {
     fn number(&mut self, key: Key) -> usize {
         let table = self.grids.table;
         let key = match table.form(key.0) {
-            Form::Sum(..) | Form::Var(_) | Form::Product(..) if key.1.is_some() => key,
+            Form::Sum(..) | Form::Var(_) => key,
+            Form::Product(..) if key.1 == Some(key.0) => key,
             _ => (key.0, None),
         };
         if let Some(number) = self.numbers.get(&key) {

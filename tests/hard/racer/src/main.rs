@@ -116,8 +116,8 @@ fn told(text: &[u8], steps: u32, messages: u32) -> Result<run::Told> {
     Ok(run::run(&Executable::new(&program), steps, messages))
 }
 
-fn load(count: u32) -> Result<(i32, String)> {
-    let told = told(generated(count).as_bytes(), MOST_STEPS, MOST_MESSAGES)?;
+fn load(count: u32, steps: u32, messages: u32) -> Result<(i32, String)> {
+    let told = told(generated(count).as_bytes(), steps, messages)?;
     Ok((told.status, told.output + &told.end))
 }
 
@@ -168,8 +168,8 @@ fn answer(words: &[String], text: &[u8]) -> (i32, String) {
         ["derive"] => derive(text),
         ["verify"] => verify(text),
         ["replay"] => replay(text),
-        ["load", count] => match count.parse() {
-            Ok(count @ 1..=1000) => load(count),
+        ["load", count, options @ ..] => match (count.parse(), options_of(options)) {
+            (Ok(count @ 1..=1000), Some((steps, messages))) => load(count, steps, messages),
             _ => return usage(),
         },
         ["run", options @ ..] => match options_of(options) {
