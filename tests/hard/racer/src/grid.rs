@@ -1,57 +1,234 @@
-//! Words cut at a bound: sets of points, where a pattern has finitely many words.
+//! Least grids: for each variable of an interface the words that lie in it, cut at a bound.
 
-use crate::linear::{Bag, TAGS};
-use crate::pattern::Pattern;
-use std::collections::BTreeSet;
+use crate::hashing::Map;
+use crate::pattern::{Form, Pattern, Table};
+use crate::points::{Points, Space};
+use std::rc::Rc;
 
-const MOST_POINTS: u64 = 65_536;
-
-pub type Points = BTreeSet<Bag>;
-
-/// Whether a grid of so many tags with this bound is one that is worked with.
-pub fn grid_fits(bound: u32, tags: usize) -> bool {
-    bound >= 1 && (0..tags).try_fold(1u64, |count, _| Some(count * (bound as u64 + 1)).filter(|it| *it <= MOST_POINTS)).is_some()
+/// Patterns whose words are known, each worked out once.
+pub struct Grids<'t> {
+    pub table: &'t Table,
+    pub space: Space,
+    pub variables: Map<u32, Rc<Points>>,
+    done: Map<Pattern, Rc<Points>>,
 }
 
-fn sum(bound: u32, left: &Bag, right: &Bag) -> Bag {
-    let mut point = Bag::EMPTY;
-    for tag in 0..TAGS {
-        point.counts[tag] = left.counts[tag].saturating_add(right.counts[tag]).min(bound);
+impl<'t> Grids<'t> {
+    pub fn new(table: &'t Table, space: Space) -> Grids<'t> {
+        Grids { table, space, variables: Map::default(), done: Map::default() }
     }
-    point
-}
 
-fn sums(bound: u32, left: &Points, right: &Points) -> Points {
-    left.iter().flat_map(|first| right.iter().map(|second| sum(bound, first, second))).collect()
-}
-
-/// No, one, and so on up to the bound times the point.
-fn multiples(bound: u32, point: &Bag) -> Points {
-    let mut made = Bag::EMPTY;
-    let mut all = Points::from([made]);
-    for _ in 0..bound {
-        made = sum(bound, &made, point);
-        all.insert(made);
+    /// The words of the pattern, each cut at the bound, where its variables are known.
+    pub fn of(&mut self, pattern: Pattern) -> Rc<Points> {
+        if let Some(known) = self.done.get(&pattern) {
+            return known.clone();
+        }
+        let made = match self.table.form(pattern) {
+            Form::Zero => Rc::new(Points::none()),
+            Form::One => Rc::new(Points::one(0)),
+            Form::Tag(tag) => Rc::new(Points::one(self.space.of_tag(tag))),
+            Form::Var(number) => self.variables.get(&number).cloned().unwrap_or_else(|| Rc::new(Points::none())),
+            Form::Sum(left, right) => {
+                let (left, right) = (self.of(left), self.of(right));
+                Rc::new(self.space.union(&left, &right))
+            }
+            Form::Product(left, right) => {
+                let (left, right) = (self.of(left), self.of(right));
+                Rc::new(self.space.with_sums(&Points::none(), &left, &right))
+            }
+            Form::Star(part) => {
+                let part = self.of(part);
+                Rc::new(self.space.closed(&Points::one(0), &part))
+            }
+        };
+        self.done.insert(pattern, made.clone());
+        made
     }
-    all
+
+    /// The least sets for variables that have these patterns as lower bounds: group by group of those that depend on one another.
+    pub fn solve(&mut self, variables: &[u32], lowers: &Map<u32, Pattern>) {
+        for group in groups_of(self.table, variables, lowers) {
+            self.solve_group(&group, lowers);
+        }
+    }
+
+    fn solve_group(&mut self, group: &[u32], lowers: &Map<u32, Pattern>) {
+        let mut rounds = Rounds { parts: Map::default(), fresh: Map::default(), all: Map::default(), round: 0 };
+        for variable in group {
+            rounds.all.insert(*variable, Points::none());
+            rounds.fresh.insert(*variable, Points::none());
+        }
+        loop {
+            rounds.round += 1;
+            let mut next = Vec::new();
+            for variable in group {
+                rounds.pass(self, lowers[variable]);
+                next.push((*variable, self.space.less(&rounds.parts[&lowers[variable]].fresh, &rounds.all[variable])));
+            }
+            let mut is_done = true;
+            for (variable, fresh) in next {
+                is_done &= fresh.is_empty();
+                let all = self.space.union(&rounds.all[&variable], &fresh);
+                rounds.all.insert(variable, all);
+                rounds.fresh.insert(variable, fresh);
+            }
+            if is_done {
+                break;
+            }
+        }
+        for variable in group {
+            let all = rounds.all.remove(variable).unwrap_or_else(Points::none);
+            self.variables.insert(*variable, Rc::new(all));
+        }
+    }
 }
 
-/// The words of the pattern, each cut at the bound, where the variables have these.
-pub fn cuts_of<'a>(bound: u32, pattern: &Pattern, variables: &impl Fn(u32) -> Option<&'a Points>) -> Points {
-    match pattern {
-        Pattern::Zero => Points::new(),
-        Pattern::One => Points::from([Bag::EMPTY]),
-        Pattern::Tag(tag) => Points::from([Bag::one(*tag)]),
-        Pattern::Var(number) => variables(*number).cloned().unwrap_or_default(),
-        Pattern::Sum(pair) => {
-            let mut points = cuts_of(bound, &pair.left, variables);
-            points.append(&mut cuts_of(bound, &pair.right, variables));
-            points
+/// What is known of a pattern in which variables of the group stand, after some rounds: all its points, and those of the last one.
+struct Part {
+    all: Points,
+    fresh: Points,
+    round: u32,
+    is_open: bool,
+}
+
+/// Rounds in which only what is new in the one before is put together with what is known.
+struct Rounds {
+    parts: Map<Pattern, Part>,
+    all: Map<u32, Points>,
+    fresh: Map<u32, Points>,
+    round: u32,
+}
+
+impl Rounds {
+    /// Brings the pattern to this round.
+    fn pass(&mut self, grids: &mut Grids, pattern: Pattern) {
+        let before = match self.parts.remove(&pattern) {
+            None if grids.table.variables(pattern).iter().any(|it| self.all.contains_key(it)) => Points::none(),
+            None => {
+                let all = (*grids.of(pattern)).clone();
+                self.parts.insert(pattern, Part { fresh: all.clone(), all, round: self.round, is_open: false });
+                return;
+            }
+            Some(part) if part.round == self.round => {
+                self.parts.insert(pattern, part);
+                return;
+            }
+            Some(part) if !part.is_open => {
+                self.parts.insert(pattern, Part { fresh: Points::none(), round: self.round, ..part });
+                return;
+            }
+            Some(part) => part.all,
+        };
+        let form = grids.table.form(pattern);
+        match form {
+            Form::Sum(left, right) | Form::Product(left, right) => {
+                self.pass(grids, left);
+                self.pass(grids, right);
+            }
+            Form::Star(part) => self.pass(grids, part),
+            _ => {}
         }
-        Pattern::Product(pair) => sums(bound, &cuts_of(bound, &pair.left, variables), &cuts_of(bound, &pair.right, variables)),
-        Pattern::Star(part) => {
-            let once = cuts_of(bound, part, variables);
-            once.iter().fold(Points::from([Bag::EMPTY]), |made, point| sums(bound, &made, &multiples(bound, point)))
+        let all = self.grown(grids, form, &before);
+        let fresh = if let Form::Var(number) = form { self.fresh[&number].clone() } else { grids.space.less(&all, &before) };
+        self.parts.insert(pattern, Part { all, fresh, round: self.round, is_open: true });
+    }
+
+    /// What the pattern has by now, where it had this before.
+    fn grown(&self, grids: &Grids, form: Form, before: &Points) -> Points {
+        let space = &grids.space;
+        match form {
+            Form::Var(number) => self.all[&number].clone(),
+            Form::Sum(left, right) => {
+                let all = space.union(before, &self.parts[&left].fresh);
+                space.union(&all, &self.parts[&right].fresh)
+            }
+            Form::Product(left, right) => {
+                let (left, right) = (&self.parts[&left], &self.parts[&right]);
+                let all = space.with_sums(before, &left.fresh, &right.all);
+                space.with_sums(&all, &left.all, &right.fresh)
+            }
+            Form::Star(part) => space.closed(&space.union(before, &Points::one(0)), &self.parts[&part].fresh),
+            Form::Zero | Form::One | Form::Tag(_) => before.clone(),
         }
+    }
+}
+
+/// The variables in groups of those whose lower bounds need one another, each group behind those that it needs.
+fn groups_of(table: &Table, variables: &[u32], lowers: &Map<u32, Pattern>) -> Vec<Vec<u32>> {
+    let places: Map<u32, usize> = variables.iter().enumerate().map(|(place, variable)| (*variable, place)).collect();
+    let needs: Vec<Vec<usize>> = variables
+        .iter()
+        .map(|it| table.variables(lowers[it]).iter().filter_map(|it| places.get(it).copied()).collect())
+        .collect();
+    let mut walk = Grouping {
+        needs: &needs,
+        order: vec![0; needs.len()],
+        low: vec![0; needs.len()],
+        open: Vec::new(),
+        groups: Vec::new(),
+        count: 0,
+    };
+    for place in 0..needs.len() {
+        if walk.order[place] == 0 {
+            walk.visit(place);
+        }
+    }
+    walk.groups.into_iter().map(|group| group.into_iter().map(|place| variables[place]).collect()).collect()
+}
+
+/// Tarjan's walk, with a stack of its own.
+struct Grouping<'a> {
+    needs: &'a [Vec<usize>],
+    order: Vec<usize>,
+    low: Vec<usize>,
+    open: Vec<usize>,
+    groups: Vec<Vec<usize>>,
+    count: usize,
+}
+
+const CLOSED: usize = usize::MAX;
+
+impl Grouping<'_> {
+    fn enter(&mut self, place: usize) {
+        self.count += 1;
+        self.order[place] = self.count;
+        self.low[place] = self.count;
+        self.open.push(place);
+    }
+
+    fn visit(&mut self, from: usize) {
+        self.enter(from);
+        let mut path = vec![(from, 0)];
+        while let Some((place, next)) = path.pop() {
+            if let Some(&need) = self.needs[place].get(next) {
+                path.push((place, next + 1));
+                if self.order[need] == 0 {
+                    self.enter(need);
+                    path.push((need, 0));
+                } else if self.low[need] != CLOSED {
+                    self.low[place] = self.low[place].min(self.order[need]);
+                }
+                continue;
+            }
+            if let Some((above, _)) = path.last() {
+                self.low[*above] = self.low[*above].min(self.low[place]);
+            }
+            if self.low[place] == self.order[place] {
+                self.close(place);
+            }
+        }
+    }
+
+    fn close(&mut self, place: usize) {
+        let mut group = Vec::new();
+        while let Some(last) = self.open.pop() {
+            self.low[last] = CLOSED;
+            group.push(last);
+            if last == place {
+                break;
+            }
+        }
+        group.sort_unstable();
+        self.groups.push(group);
     }
 }

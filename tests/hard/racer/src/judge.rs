@@ -1,220 +1,70 @@
-//! The judge: whether a derivation is valid, by eight rules at each node; and certificates of the inclusions that nodes need.
+//! The judge: whether a derivation is valid, by eight rules at each node; and the derivation of a solved problem.
 
-use crate::demands::{transfers, Cert, Derivation, Inclusion, Line, Transfer};
-use crate::grid::{cuts_of, grid_fits, Points};
+use crate::demands::{Asking, Derivation, Line};
+use crate::environment::{Environment, Twig};
+use crate::hashing::Map;
 use crate::infer::{has_alias, Problem};
-use crate::linear::{check_cover, closed_form, find_cover, Bag, Sets};
-use crate::pattern::Pattern;
-use crate::program::{bodies, Clause, Core, Kind, Program};
+use crate::linear::Forms;
+use crate::pattern::{Pattern, Table};
+use crate::program::{bodies, ends_of, received_tags, Clause, Core, Kind, Program};
 use crate::refusal::{Refusal, Result};
-use crate::solve::{Solution, Value};
+use crate::scope::Scope;
+use crate::solve::Solution;
 use crate::tree::{Base, Polarity};
 use crate::types::*;
 use std::ops::Range;
+use std::rc::Rc;
 
 /// The derivation of a solved problem.
-pub fn derivation_of(program: &Program, problem: Problem, solution: Solution) -> Result<(Derivation, Vec<Signature>)> {
+pub fn derivation_of<'t>(
+    program: &Program,
+    table: &'t Table,
+    forms: &mut Forms<'t>,
+    problem: Problem,
+    solution: Solution,
+) -> Result<(Derivation, Vec<Signature>)> {
     let Problem { signatures, variables, nodes, .. } = problem;
-    let Solution { values, bounds } = solution;
-    let known = Known::all(variables.iter().map(|it| it.interface).zip(&values));
+    let values: Vec<_> = variables.iter().map(|it| it.interface).zip(solution.values).collect();
     let mut lines: Vec<Line> = nodes.into_iter().map(|of| Line { of, certs: Vec::new() }).collect();
-    let scope = Scope { program, known: &known };
+    let mut scope = Scope::new(program, table, forms, &values);
+    let mut asking = Asking::new(program, table, &signatures);
     for number in 0..lines.len() {
-        let asked = transfers(program, &signatures, &lines, number as u32);
-        match scope.certs_for(&asked, &bounds) {
-            Some(certs) => {
-                drop(asked);
-                lines[number].certs = certs;
+        asking.ask(&lines, number as u32);
+        for inclusion in asking.demands.iter().filter_map(|demand| demand.inclusion(table)) {
+            match scope.cert_for(&inclusion, &solution.bounds) {
+                Some(cert) => lines[number].certs.extend(cert),
+                None => return Err(Refusal::at("undecided", program.nodes[number].at)),
             }
-            None => return Err(Refusal::at("undecided", program.nodes[number].at)),
         }
     }
-    drop(known);
+    drop((scope, asking));
     Ok((Derivation { values, lines }, signatures))
 }
 
 /// Judges the derivation: the number of the first bad node and the first rule that is broken there are the refusal.
-pub fn judge(program: &Program, signatures: &[Signature], variables: &[u32], derivation: &Derivation) -> Result<()> {
-    let known = Known::all(variables.iter().copied().zip(&derivation.values));
-    let scope = Scope { program, known: &known };
-    let judge = Judge { program, signatures, derivation, scope, ranges: ranges_of(program) };
-    if derivation.lines.len() != program.nodes.len() {
-        return Err(Refusal::new("rejected: there isn't a line for each node".to_string()));
-    }
-    for number in 0..program.nodes.len() {
+pub fn judge<'t>(
+    program: &Program,
+    table: &'t Table,
+    forms: &mut Forms<'t>,
+    signatures: &[Signature],
+    derivation: &Derivation,
+) -> Result<()> {
+    let mut judge = Judge {
+        program,
+        table,
+        signatures,
+        derivation,
+        scope: Scope::new(program, table, forms, &derivation.values),
+        asking: Asking::new(program, table, signatures),
+        ranges: ranges_of(program),
+        summaries: Map::default(),
+    };
+    for number in 0..program.nodes.len().max(derivation.lines.len()) {
         if let Err(rule) = judge.node(number as u32) {
             return Err(Refusal::new(format!("rejected at node {number}: {rule}")));
         }
     }
     Ok(())
-}
-
-// ---- values and inclusions
-
-/// A variable, with what is made of its value once.
-struct Known<'a> {
-    interface: u32,
-    value: &'a Value,
-    is_nullable: bool,
-    is_inhabited: bool,
-    /// The closed form of a value that is a pattern, unless it is too large.
-    form: Option<Sets>,
-}
-
-impl<'a> Known<'a> {
-    fn all(values: impl Iterator<Item = (u32, &'a Value)>) -> Vec<Known<'a>> {
-        values.map(|(interface, value)| Known::new(interface, value)).collect()
-    }
-
-    fn new(interface: u32, value: &'a Value) -> Known<'a> {
-        let (is_nullable, is_inhabited, form) = match value {
-            Value::Pattern(pattern) => {
-                (pattern.is_nullable(&|_| false), pattern.is_inhabited(&|_| false), closed_form(pattern, &|_| None))
-            }
-            Value::Grid { points, .. } => (points.contains(&Bag::EMPTY), !points.is_empty(), None),
-        };
-        Known { interface, value, is_nullable, is_inhabited, form }
-    }
-
-    /// Whether the value is one that the variable may have.
-    fn fits(&self, program: &Program) -> bool {
-        let tags = program.tag_count(self.interface);
-        match self.value {
-            Value::Pattern(pattern) => pattern.all(&|tag| (tag as usize) < tags, &|_| false),
-            Value::Grid { bound, points } => {
-                grid_fits(*bound, tags) && points.iter().all(|point| point_fits(*bound, tags, point))
-            }
-        }
-    }
-}
-
-fn point_fits(bound: u32, tags: usize, point: &Bag) -> bool {
-    point.counts.iter().enumerate().all(|(tag, count)| *count <= if tag < tags { bound } else { 0 })
-}
-
-#[derive(Clone, Copy)]
-struct Scope<'a> {
-    program: &'a Program,
-    known: &'a [Known<'a>],
-}
-
-impl Scope<'_> {
-    fn known(&self, variable: u32) -> Option<&Known<'_>> {
-        self.known.get((variable as usize).checked_sub(1)?)
-    }
-
-    /// Whether the pattern is one of the interface.
-    fn is_formed(&self, interface: u32, pattern: &Pattern) -> bool {
-        let tags = self.program.tag_count(interface);
-        pattern.all(&|tag| (tag as usize) < tags, &|variable| self.known(variable).is_some_and(|it| it.interface == interface))
-    }
-
-    fn is_inhabited(&self, pattern: &Pattern) -> bool {
-        pattern.is_inhabited(&|variable| self.known(variable).is_some_and(|it| it.is_inhabited))
-    }
-
-    fn may_drop(&self, own: &MailboxType) -> bool {
-        own.polarity == Polarity::Sending
-            && self.is_formed(own.interface, &own.pattern)
-            && own.pattern.is_nullable(&|variable| self.known(variable).is_some_and(|it| it.is_nullable))
-    }
-
-    /// The pattern with those variables replaced whose values are patterns.
-    fn plain(&self, pattern: &Pattern) -> Pattern {
-        pattern.replaced(&|variable| match self.known(variable).map(|it| it.value) {
-            Some(Value::Pattern(value)) => value.clone(),
-            _ => Pattern::Var(variable),
-        })
-    }
-
-    fn is_trivial(&self, inclusion: &Inclusion) -> bool {
-        inclusion.left == inclusion.right || self.plain(&inclusion.left).is_arm_of(&self.plain(&inclusion.right))
-    }
-
-    fn form(&self, pattern: &Pattern) -> Option<Sets> {
-        closed_form(pattern, &|variable| self.known(variable)?.form.as_ref())
-    }
-
-    // ---- certificates
-
-    /// Certificates for the inclusions that are needed and not trivial, if there are such.
-    fn certs_for(&self, asked: &[Transfer], bounds: &[Option<u32>]) -> Option<Vec<Cert>> {
-        let mut certs = Vec::new();
-        for transfer in asked {
-            let is_shown = transfer.all(|demand| match demand.inclusion() {
-                Some(inclusion) if !self.is_trivial(&inclusion) => {
-                    let cert = self.cert_for(&inclusion, bounds);
-                    let is_some = cert.is_some();
-                    certs.extend(cert);
-                    is_some
-                }
-                _ => true,
-            });
-            if !is_shown {
-                return None;
-            }
-        }
-        Some(certs)
-    }
-
-    fn cert_for(&self, inclusion: &Inclusion, bounds: &[Option<u32>]) -> Option<Cert> {
-        match bounds[inclusion.interface? as usize] {
-            Some(bound) => Some(Cert::Grid(bound)),
-            None => Some(Cert::Cover(find_cover(&self.form(&inclusion.left)?, &self.form(&inclusion.right)?)?)),
-        }
-    }
-
-    /// Whether each inclusion is shown, those that aren't trivial by the certificates in turn, and none is left over.
-    fn are_shown(&self, asked: &[Transfer], certs: &[Cert]) -> bool {
-        let mut certs = certs.iter();
-        asked.iter().all(|transfer| {
-            transfer.all(|demand| demand.inclusion().is_none_or(|inclusion| self.is_shown(&inclusion, &mut certs)))
-        }) && certs.next().is_none()
-    }
-
-    fn is_shown<'c>(&self, inclusion: &Inclusion, certs: &mut impl Iterator<Item = &'c Cert>) -> bool {
-        let Some(interface) = inclusion.interface else {
-            return false;
-        };
-        if !self.is_formed(interface, &inclusion.left) || !self.is_formed(interface, &inclusion.right) {
-            return false;
-        }
-        if self.is_trivial(inclusion) {
-            return true;
-        }
-        match certs.next() {
-            None => false,
-            Some(Cert::Cover(cover)) => match (self.form(&inclusion.left), self.form(&inclusion.right)) {
-                (Some(left), Some(right)) => check_cover(&left, &right, cover),
-                _ => false,
-            },
-            Some(Cert::Grid(bound)) => self.grid_shows(interface, inclusion, *bound),
-        }
-    }
-
-    fn grid_shows(&self, interface: u32, inclusion: &Inclusion, bound: u32) -> bool {
-        let right = &inclusion.right;
-        let is_large_enough = match right {
-            Pattern::Var(variable) => self.points(*variable, bound).is_some(),
-            _ => right.is_flat() && right.degree() < bound,
-        };
-        if !grid_fits(bound, self.program.tag_count(interface)) || !is_large_enough {
-            return false;
-        }
-        // Values that are grids of another bound aren't looked into.
-        if !inclusion.left.all(&|_| true, &|variable| self.points(variable, bound).is_some()) {
-            return false;
-        }
-        let cuts = |side: &Pattern| cuts_of(bound, side, &|variable| self.points(variable, bound));
-        cuts(&inclusion.left).is_subset(&cuts(right))
-    }
-
-    fn points(&self, variable: u32, wanted: u32) -> Option<&Points> {
-        match self.known(variable)?.value {
-            Value::Grid { bound, points } if *bound == wanted => Some(points),
-            _ => None,
-        }
-    }
 }
 
 // ---- scopes
@@ -242,31 +92,35 @@ fn ranges_of(program: &Program) -> Vec<Vec<Range<u32>>> {
     ranges
 }
 
-/// For each node the first one behind its parts.
-fn ends_of(program: &Program) -> Vec<u32> {
-    let mut ends = vec![0; program.nodes.len()];
-    for number in (0..program.nodes.len()).rev() {
-        let last = match &program.nodes[number].core {
-            Core::Let { body, .. } | Core::If { no: body, .. } | Core::Spawn(body) => Some(*body),
-            Core::Guard { free, clauses, .. } => bodies(*free, clauses).last().map(|it| it.0),
-            _ => None,
-        };
-        ends[number] = last.map_or(number as u32 + 1, |last| ends[last as usize]);
-    }
-    ends
-}
-
 // ---- rules
 
-struct Judge<'a> {
-    program: &'a Program,
-    signatures: &'a [Signature],
-    derivation: &'a Derivation,
-    scope: Scope<'a>,
+struct Judge<'s, 't> {
+    program: &'s Program,
+    table: &'t Table,
+    signatures: &'s [Signature],
+    derivation: &'s Derivation,
+    scope: Scope<'s, 't>,
+    asking: Asking<'s>,
     ranges: Vec<Vec<Range<u32>>>,
+    /// What was found of parts of environments that several lines have.
+    summaries: Map<(u32, *const Twig), Summary>,
 }
 
-fn unless(passes: bool, rule: &'static str) -> std::result::Result<(), &'static str> {
+/// What is alike for all that an environment's part names.
+#[derive(Clone, Copy)]
+struct Summary {
+    /// The nodes at which all are in scope.
+    from: u32,
+    to: u32,
+    /// Whether all are mailboxes of their interfaces, with patterns that are formed.
+    is_formed: bool,
+    /// Whether each sending pattern has a word.
+    has_words: bool,
+}
+
+type Judged = std::result::Result<(), &'static str>;
+
+fn unless(passes: bool, rule: &'static str) -> Judged {
     if passes {
         Ok(())
     } else {
@@ -274,28 +128,33 @@ fn unless(passes: bool, rule: &'static str) -> std::result::Result<(), &'static 
     }
 }
 
-impl Judge<'_> {
+impl Judge<'_, '_> {
     /// Looks at all rules at one number.
-    fn node(&self, number: u32) -> std::result::Result<(), &'static str> {
-        let node = self.program.node(number);
-        let line = self.line(number);
-        unless(self.has_shape(number, line), "Shape")?;
-        unless(self.has_words(number, line), "Empty")?;
+    fn node(&mut self, number: u32) -> Judged {
+        let (program, derivation, table) = (self.program, self.derivation, self.table);
+        let (Some(node), Some(line)) = (program.nodes.get(number as usize), derivation.lines.get(number as usize)) else {
+            return Err("Shape");
+        };
+        let summary = self.summary_of(node.function, &line.of.needs);
+        unless(self.has_shape(number, line, summary), "Shape")?;
+        unless(self.has_words(number, line, summary), "Empty")?;
         unless(!self.has_alias(number), "Alias")?;
-        let asked = transfers(self.program, self.signatures, &self.derivation.lines, number);
-        unless(asked.iter().all(|it| it.all(|demand| demand.is_used_well())), "Use")?;
-        unless(asked.iter().all(|it| it.all(|demand| demand.is_dropped_well(|own| self.scope.may_drop(own)))), "Drop")?;
+        self.asking.ask(&derivation.lines, number);
+        let demands = std::mem::take(&mut self.asking.demands);
+        unless(demands.iter().all(|it| it.is_used_well()), "Use")?;
+        let is_dropped = |scope: &mut Scope| demands.iter().all(|demand| demand.is_dropped_well(|own| scope.may_drop(own)));
+        unless(is_dropped(&mut self.scope), "Drop")?;
         if let Core::Guard { variable, pattern, free, clauses } = &node.core {
-            let interface = self.program.interface_of(node.function, *variable);
+            let interface = program.interface_of(node.function, *variable);
             unless(clauses.iter().all(|clause| self.keeps_apart(interface, clause)), "Payload")?;
-            let received = |tag| clauses.iter().any(|clause| clause.tag == tag);
-            unless(pattern.is_covered(&received, free.is_some()), "Covers")?;
+            unless(table.is_covered(*pattern, received_tags(clauses), free.is_some()), "Covers")?;
         }
-        unless(self.scope.are_shown(&asked, &line.certs), "Cert")
-    }
-
-    fn line(&self, number: u32) -> &Line {
-        &self.derivation.lines[number as usize]
+        let mut certs = line.certs.iter();
+        let mut inclusions = demands.iter().filter_map(|demand| demand.inclusion(table));
+        unless(inclusions.all(|inclusion| self.scope.is_shown(&inclusion, &mut certs)) && certs.next().is_none(), "Cert")?;
+        drop(inclusions);
+        self.asking.demands = demands;
+        Ok(())
     }
 
     fn is_first(&self, number: u32) -> bool {
@@ -306,37 +165,75 @@ impl Judge<'_> {
         &self.signatures[self.program.node(number).function as usize]
     }
 
-    fn has_shape(&self, number: u32, line: &Line) -> bool {
+    // ---- environments
+
+    fn summary_of(&mut self, function: u32, environment: &Environment) -> Summary {
+        match &environment.0 {
+            Some(twig) => self.summary(function, twig),
+            None => Summary { from: 0, to: u32::MAX, is_formed: true, has_words: true },
+        }
+    }
+
+    /// Parts that stand in several lines are looked at once.
+    fn summary(&mut self, function: u32, twig: &Rc<Twig>) -> Summary {
+        let is_kept = Rc::strong_count(twig) > 1;
+        if let Some(known) = self.summaries.get(&(function, Rc::as_ptr(twig))).filter(|_| is_kept) {
+            return *known;
+        }
+        let summary = match &**twig {
+            Twig::Leaf(variable, own) => self.leaf(function, *variable, own),
+            Twig::Fork { low, high, .. } => {
+                let (one, other) = (self.summary(function, low), self.summary(function, high));
+                Summary {
+                    from: one.from.max(other.from),
+                    to: one.to.min(other.to),
+                    is_formed: one.is_formed && other.is_formed,
+                    has_words: one.has_words && other.has_words,
+                }
+            }
+        };
+        if is_kept {
+            self.summaries.insert((function, Rc::as_ptr(twig)), summary);
+        }
+        summary
+    }
+
+    fn leaf(&mut self, function: u32, variable: u32, own: &MailboxType) -> Summary {
+        let range = self.ranges[function as usize].get(variable as usize).cloned().unwrap_or(0..0);
+        Summary {
+            from: range.start,
+            to: range.end,
+            is_formed: self.program.kind_of(function, variable) == Some(Kind::Mailbox(own.interface))
+                && self.scope.is_formed(own.interface, own.pattern),
+            has_words: has_word(&mut self.scope, own.polarity, own.pattern),
+        }
+    }
+
+    // ---- Shape
+
+    fn has_shape(&mut self, number: u32, line: &Line, summary: Summary) -> bool {
         let node = self.program.node(number);
         let result = &line.of.result;
-        let needs = &line.of.needs;
         result.kind() == node.kind
-            && needs.windows(2).all(|pair| pair[0].0 < pair[1].0)
-            && needs.iter().all(|(variable, own)| self.is_named_well(number, *variable, own))
+            && summary.is_formed
+            && (summary.from..summary.to).contains(&number)
             && self.is_formed(result)
             && self.tails_agree(&node.core, result)
             && (!self.is_first(number) || *result == self.signature(number).result)
             && (number != 0 || self.starts_well())
     }
 
-    fn is_named_well(&self, number: u32, variable: u32, own: &MailboxType) -> bool {
-        let node = self.program.node(number);
-        let range = self.ranges[node.function as usize].get(variable as usize);
-        range.is_some_and(|range| range.contains(&number))
-            && self.program.kind_of(node.function, variable) == Some(Kind::Mailbox(own.interface))
-            && self.scope.is_formed(own.interface, &own.pattern)
-    }
-
-    fn is_formed(&self, result: &TermType) -> bool {
+    fn is_formed(&mut self, result: &TermType) -> bool {
         match result {
             TermType::Base(_) => true,
-            TermType::Mailbox { interface, pattern, .. } => self.scope.is_formed(*interface, pattern),
+            TermType::Mailbox { interface, pattern, .. } => self.scope.is_formed(*interface, *pattern),
         }
     }
 
-    /// The parts whose result is the term's have its type.
+    /// The parts whose result is the term's have its type. Those without a line break the rule at their own numbers.
     fn tails_agree(&self, core: &Core, result: &TermType) -> bool {
-        let gives = |part: u32, own: &TermType| self.line(part).of.result == *own;
+        let gives =
+            |part: u32, own: &TermType| self.derivation.lines.get(part as usize).is_none_or(|line| line.of.result == *own);
         match core {
             Core::Let { body, .. } => gives(*body, result),
             Core::If { yes, no, .. } => gives(*yes, result) && gives(*no, result),
@@ -347,29 +244,33 @@ impl Judge<'_> {
     }
 
     fn starts_well(&self) -> bool {
-        let patterns = self.signatures.iter().flat_map(|it| it.parameters.iter().flatten().map(|own| &own.pattern));
-        let results = self.signatures.iter().filter_map(|it| match &it.result {
+        let patterns = self.signatures.iter().flat_map(|it| it.parameters.iter().flatten().map(|own| own.pattern));
+        let results = self.signatures.iter().filter_map(|it| match it.result {
             TermType::Mailbox { pattern, .. } => Some(pattern),
             TermType::Base(_) => None,
         });
-        patterns.chain(results).all(|it| it.all(&|_| true, &|variable| self.scope.known(variable).is_some()))
-            && self.scope.known.iter().all(|it| it.fits(self.program))
+        patterns.chain(results).all(|it| self.table.variables(it).iter().all(|it| self.scope.has_value(*it)))
+            && self.derivation.values.iter().all(|it| self.scope.value_fits(it))
     }
 
+    // ---- Empty, Alias, Payload
+
     /// Each sending pattern has a word.
-    fn has_words(&self, number: u32, line: &Line) -> bool {
-        let has_word =
-            |polarity: Polarity, pattern: &Pattern| polarity == Polarity::Receiving || self.scope.is_inhabited(pattern);
-        let result_has = |result: &TermType| match result {
+    fn has_words(&mut self, number: u32, line: &Line, summary: Summary) -> bool {
+        if !summary.has_words || !self.result_has_word(&line.of.result) {
+            return false;
+        }
+        let signature = &self.signatures[self.program.node(number).function as usize];
+        !self.is_first(number)
+            || (signature.parameters.iter().flatten().all(|own| has_word(&mut self.scope, own.polarity, own.pattern))
+                && self.result_has_word(&signature.result))
+    }
+
+    fn result_has_word(&mut self, result: &TermType) -> bool {
+        match result {
             TermType::Base(_) => true,
-            TermType::Mailbox { polarity, pattern, .. } => has_word(*polarity, pattern),
-        };
-        let signature = self.signature(number);
-        result_has(&line.of.result)
-            && line.of.needs.iter().all(|(_, own)| has_word(own.polarity, &own.pattern))
-            && (!self.is_first(number)
-                || (signature.parameters.iter().flatten().all(|own| has_word(own.polarity, &own.pattern))
-                    && result_has(&signature.result)))
+            TermType::Mailbox { polarity, pattern, .. } => has_word(&mut self.scope, *polarity, *pattern),
+        }
     }
 
     fn has_alias(&self, number: u32) -> bool {
@@ -387,11 +288,16 @@ impl Judge<'_> {
     /// Beside a mailbox payload the body of a clause names the clause's own names alone.
     fn keeps_apart(&self, interface: u32, clause: &Clause) -> bool {
         let payloads = payload_types(self.program.tag(interface, clause.tag));
-        payloads.iter().all(|it| it.is_none())
-            || self
-                .derivation
-                .lines
-                .get(clause.body as usize)
-                .is_none_or(|line| line.of.needs.iter().all(|it| clause.binds(it.0)))
+        let Some(line) = self.derivation.lines.get(clause.body as usize).filter(|_| payloads.iter().any(|it| it.is_some()))
+        else {
+            return true;
+        };
+        let mut are_own = true;
+        line.of.needs.each(&mut |variable, _| are_own &= clause.binds(variable));
+        are_own
     }
+}
+
+fn has_word(scope: &mut Scope, polarity: Polarity, pattern: Pattern) -> bool {
+    polarity == Polarity::Receiving || scope.is_inhabited(pattern)
 }

@@ -72,6 +72,24 @@ pub fn tokens(text: &str) -> Result<Vec<Token<'_>>> {
     }
 }
 
+/// Why a text is refused that goes on with a byte that is none of a character.
+pub fn refused_before(text: &[u8]) -> Refusal {
+    let text = std::str::from_utf8(text).unwrap_or_default();
+    let mut lexer = Lexer { text, bytes: text.as_bytes(), place: 0 };
+    loop {
+        let before = lexer.place;
+        match lexer.next() {
+            Err(refusal) => return refusal,
+            Ok(token) if token.kind == Kind::End => {
+                // A comment that the byte stands in begins behind the last token.
+                let line = text[before..].rfind('\n').map_or(before, |at| before + at + 1);
+                return Refusal::syntax(text[line..].find("//").map_or(text.len(), |at| line + at));
+            }
+            Ok(_) => {}
+        }
+    }
+}
+
 struct Lexer<'a> {
     text: &'a str,
     bytes: &'a [u8],

@@ -1,391 +1,394 @@
-//! The machine: threads, mailboxes, and jobs of a thread after another up to how the run ends.
+//! Configurations: threads by number, each with a stack of values, and mailboxes, each with a queue for each tag and with a count of
+//! the names of it that somebody has.
 
-use crate::program::{Clause, Core, Program};
-use crate::values::{evaluate, evaluate_all, frees_of, keep, value_of, Environment, Mailbox, Message, Value};
-use std::collections::{BTreeSet, VecDeque};
-use std::fmt::Write;
-use std::rc::Rc;
+use crate::code::{Code, Executable, Op, Places, Receive};
+use crate::values::{evaluate, Value};
+use std::collections::VecDeque;
 
-/// The most steps of a job.
-const ALLOWANCE: u32 = 256;
-
-/// What a thread does next: a node with values of its free variables, or a value.
-enum Control {
-    At(u32, Environment),
+/// What a thread does next: a node, or it has a value.
+pub enum Control {
+    At(u32),
     Returned(Value),
 }
 
-/// A node that waits for a value, with the variable that it binds.
+/// A `let` that waits for the value of its bound part, with the place at which its function's values begin.
 struct Frame {
-    variable: Option<u32>,
-    body: u32,
-    environment: Environment,
+    node: u32,
+    base: u32,
 }
 
-struct Thread {
-    control: Control,
+pub struct Thread {
+    pub control: Control,
     frames: Vec<Frame>,
+    values: Vec<Value>,
+    base: u32,
 }
 
-/// How a run ends.
-pub enum Outcome {
-    Done,
-    Waiting,
-    Full,
-    Budget,
+pub struct Message {
+    pub number: u32,
+    values: Vec<Value>,
 }
 
-pub struct Machine<'p> {
-    program: &'p Program,
-    /// The free variables of each node.
-    frees: Vec<Vec<u32>>,
-    /// By number; those that have ended are gone.
-    threads: Vec<Option<Thread>>,
-    /// The threads that may go on. Others sleep until a message comes.
-    awake: BTreeSet<u32>,
-    last: Option<u32>,
-    live: usize,
-    mailboxes_made: u32,
+#[derive(Default)]
+pub struct Mailbox {
+    is_live: bool,
+    /// How many names of it threads and messages have.
+    names: u32,
     pending: u32,
-    messages_made: u32,
-    steps: u32,
-    budget: u32,
-    limit: u32,
-    history: String,
-    output: String,
+    queues: Vec<(u8, VecDeque<Message>)>,
+    /// The thread that sleeps until something changes.
+    pub sleeper: Option<u32>,
 }
 
-impl<'p> Machine<'p> {
-    pub fn new(program: &'p Program, budget: u32, limit: u32) -> Machine<'p> {
-        let first = Thread { control: Control::At(program.function(program.main).body, Environment::new()), frames: Vec::new() };
-        Machine {
-            program,
-            frees: frees_of(program),
-            threads: vec![Some(first)],
-            awake: BTreeSet::from([0]),
-            last: None,
+/// What a shared step was.
+#[derive(Clone, Copy, Debug, PartialEq, Eq)]
+pub enum Act {
+    New,
+    Send,
+    Spawn,
+    Print,
+    End,
+    Free,
+    Receive(u32),
+}
+
+pub struct Config<'c> {
+    pub code: &'c Executable,
+    /// By number; those that have ended are gone.
+    pub threads: Vec<Option<Thread>>,
+    mailboxes: Vec<Mailbox>,
+    pub live: usize,
+    pub pending: u32,
+    messages_made: u32,
+    pub output: String,
+    /// Threads that have something to look at again.
+    pub woken: Vec<u32>,
+    arguments: Vec<Value>,
+}
+
+impl<'c> Config<'c> {
+    pub fn new(code: &'c Executable) -> Config<'c> {
+        let body = code.functions[code.main as usize].body;
+        Config {
+            code,
+            threads: vec![Some(Thread::at(body, Vec::new()))],
+            mailboxes: Vec::new(),
             live: 0,
-            mailboxes_made: 0,
             pending: 0,
             messages_made: 0,
-            steps: 0,
-            budget,
-            limit,
-            history: String::new(),
             output: String::new(),
+            woken: Vec::new(),
+            arguments: Vec::new(),
         }
     }
 
-    /// Runs one job after another.
-    pub fn run(&mut self) -> Outcome {
-        loop {
-            let Some(thread) = self.next_ready() else {
-                return self.standstill();
-            };
-            if self.steps == self.budget {
-                return Outcome::Budget;
-            }
-            self.last = Some(thread);
-            self.job(thread, ALLOWANCE.min(self.budget - self.steps));
-        }
-    }
-
-    /// The text that tells the run, and its status.
-    pub fn told(&self, outcome: &Outcome) -> (i32, String) {
-        let (status, mut end) = match outcome {
-            Outcome::Done => (0, format!("done {}", self.steps)),
-            Outcome::Budget => (6, format!("budget {}", self.steps)),
-            Outcome::Waiting => (7, format!("waiting {}", self.steps)),
-            Outcome::Full => (8, format!("full {}", self.steps)),
-        };
-        match outcome {
-            Outcome::Done if self.live > 0 => end += &format!(" left {}", self.live),
-            Outcome::Waiting => {
-                for (number, _) in self.threads.iter().enumerate().filter(|(_, thread)| thread.is_some()) {
-                    end += &format!(" {number}");
-                }
-            }
-            _ => {}
-        }
-        (status, format!("%%history\n{}%%output\n{}{end}\n", self.history, self.output))
-    }
-
-    /// How a run ends in which nobody can go on.
-    fn standstill(&self) -> Outcome {
-        let mut threads = self.threads.iter().flatten().peekable();
-        if threads.peek().is_none() {
-            return Outcome::Done;
-        }
-        if threads.any(|thread| matches!(self.core_of(thread), Some(Core::Send { .. }))) {
-            return Outcome::Full;
-        }
-        Outcome::Waiting
-    }
-
-    fn core_of(&self, thread: &Thread) -> Option<&'p Core> {
-        match &thread.control {
-            Control::At(node, _) => Some(&self.program.node(*node).core),
+    pub fn op(&self, thread: &Thread) -> Option<&'c Op> {
+        match thread.control {
+            Control::At(node) => Some(&self.code.ops[node as usize]),
             Control::Returned(_) => None,
         }
     }
 
-    // ---- whose turn it is
-
-    /// The first ready thread above the one last taken, or else the first of all.
-    fn next_ready(&mut self) -> Option<u32> {
-        let above = self.last.map_or(0, |last| last + 1);
-        self.ready_from(above).or_else(|| self.ready_from(0))
+    pub fn mailbox(&mut self, number: u32) -> &mut Mailbox {
+        &mut self.mailboxes[number as usize]
     }
 
-    /// The first ready thread from this number on. Those that wait for nothing but a message go to sleep on the way.
-    fn ready_from(&mut self, number: u32) -> Option<u32> {
-        let mut from = number;
-        while let Some(&candidate) = self.awake.range(from..).next() {
-            let thread = self.threads[candidate as usize].as_ref()?;
-            if self.is_ready(thread) {
-                return Some(candidate);
-            }
-            if let Some(mailbox) = self.awaited(thread) {
-                if mailbox.sleeper.get().is_none() {
-                    mailbox.sleeper.set(Some(candidate));
-                    self.awake.remove(&candidate);
+    // ---- what is enabled
+
+    /// The shared step that is open for the thread, where its next step is one. Of messages it is the first.
+    pub fn open_act(&self, thread: &Thread) -> Option<Act> {
+        let Some(op) = self.op(thread) else {
+            return thread.frames.is_empty().then_some(Act::End);
+        };
+        match op {
+            Op::Value(..) => thread.frames.is_empty().then_some(Act::End),
+            Op::Let { .. } | Op::Call { .. } | Op::If { .. } => None,
+            Op::New => Some(Act::New),
+            Op::Print(_) => Some(Act::Print),
+            Op::Spawn { .. } => Some(Act::Spawn),
+            Op::Send { .. } => Some(Act::Send),
+            Op::Guard { place, tags, free, .. } => {
+                let number = thread.at_place(*place).mailbox();
+                match self.mailboxes[number as usize].first(*tags) {
+                    Some(message) => Some(Act::Receive(message)),
+                    None => (free.is_some() && self.may_free(number, thread)).then_some(Act::Free),
                 }
             }
-            from = candidate + 1;
         }
-        None
     }
 
-    fn is_ready(&self, thread: &Thread) -> bool {
-        let Control::At(node, environment) = &thread.control else {
-            return true;
+    /// Whether the mailbox is live, no message is there, and nobody but the thread has a name of it.
+    fn may_free(&self, number: u32, thread: &Thread) -> bool {
+        let mailbox = &self.mailboxes[number as usize];
+        if !mailbox.is_live || mailbox.pending > 0 {
+            return false;
+        }
+        mailbox.names == 1 || {
+            let own = thread.values.iter().filter(|value| matches!(value, Value::Mailbox(own) if *own == number)).count();
+            own == mailbox.names as usize
+        }
+    }
+
+    pub fn is_local(&self, thread: &Thread) -> bool {
+        match self.op(thread) {
+            None | Some(Op::Value(..)) => !thread.frames.is_empty(),
+            Some(Op::Let { .. } | Op::Call { .. } | Op::If { .. }) => true,
+            Some(_) => false,
+        }
+    }
+
+    // ---- names of mailboxes
+
+    fn name(&mut self, value: &Value) {
+        if let Value::Mailbox(number) = value {
+            self.mailboxes[*number as usize].names += 1;
+        }
+    }
+
+    fn forget(&mut self, value: &Value) {
+        if let Value::Mailbox(number) = value {
+            let mailbox = &mut self.mailboxes[*number as usize];
+            mailbox.names -= 1;
+            self.woken.extend(mailbox.sleeper.take());
+        }
+    }
+
+    /// Nobody uses what stands at these places any more.
+    fn forget_places(&mut self, thread: &mut Thread, places: &Places) {
+        for place in places {
+            let value = std::mem::replace(thread.place(*place), Value::Unit);
+            self.forget(&value);
+        }
+    }
+
+    // ---- local steps
+
+    /// Takes local steps, up to so many; answers how many.
+    pub fn local_steps(&mut self, thread: &mut Thread, most: u32) -> u32 {
+        let mut taken = 0;
+        while taken < most && self.local_step(thread) {
+            taken += 1;
+        }
+        taken
+    }
+
+    fn local_step(&mut self, thread: &mut Thread) -> bool {
+        let Control::At(node) = thread.control else {
+            return self.resume(thread);
         };
-        match &self.program.node(*node).core {
-            Core::Send { .. } => self.pending < self.limit,
-            Core::Guard { variable, free, clauses, .. } => {
-                let mailbox = value_of(environment, *variable).mailbox();
-                mailbox.first_for(clauses).is_some() || (free.is_some() && can_free(mailbox, thread))
+        match &self.code.ops[node as usize] {
+            Op::Let { bound, .. } => {
+                thread.frames.push(Frame { node, base: thread.base });
+                thread.control = Control::At(*bound);
+                true
             }
-            _ => true,
-        }
-    }
-
-    /// The mailbox at which the thread waits for nothing but a message.
-    fn awaited<'t>(&self, thread: &'t Thread) -> Option<&'t Rc<Mailbox>> {
-        let Control::At(node, environment) = &thread.control else {
-            return None;
-        };
-        match &self.program.node(*node).core {
-            Core::Guard { variable, free: None, .. } => Some(value_of(environment, *variable).mailbox()),
-            _ => None,
-        }
-    }
-
-    // ---- jobs
-
-    /// The thread's local steps, up to the allowance, and then the shared one that is open, if the allowance isn't used up.
-    fn job(&mut self, number: u32, allowance: u32) {
-        let Some(mut thread) = self.threads[number as usize].take() else {
-            return;
-        };
-        let mut local = 0;
-        while local < allowance && self.local_step(&mut thread) {
-            local += 1;
-        }
-        self.steps += local;
-        let is_open = local < allowance && self.is_ready(&thread);
-        let _ = write!(self.history, "0 {number} {local} ");
-        if is_open {
-            self.steps += 1;
-            self.shared_step(number, thread);
-        } else {
-            self.history.push_str("-\n");
-            self.threads[number as usize] = Some(thread);
-        }
-    }
-
-    /// Takes a local step, if the next one is such.
-    fn local_step(&self, thread: &mut Thread) -> bool {
-        let node = match &thread.control {
-            Control::At(node, _) => &self.program.node(*node).core,
-            Control::Returned(_) => {
-                return match thread.frames.pop() {
-                    Some(frame) => {
-                        self.resume(thread, frame);
-                        true
-                    }
-                    None => false,
-                }
+            Op::Call { function, arguments, last } => {
+                self.call(thread, *function, arguments, last);
+                true
             }
-        };
-        let is_local = match node {
-            Core::Let { .. } | Core::Call { .. } | Core::If { .. } => true,
-            Core::Value(_) => !thread.frames.is_empty(),
+            Op::If { test, yes, no } => {
+                let (body, last) = if evaluate(thread.own(), test).truth() { yes } else { no };
+                self.forget_places(thread, last);
+                thread.control = Control::At(*body);
+                true
+            }
+            Op::Value(code, last) if !thread.frames.is_empty() => {
+                let value = evaluate(thread.own(), code);
+                self.name(&value);
+                self.forget_places(thread, last);
+                thread.control = Control::Returned(value);
+                self.resume(thread)
+            }
             _ => false,
+        }
+    }
+
+    /// The `let` on top goes on with the value that was returned, if there is one.
+    fn resume(&mut self, thread: &mut Thread) -> bool {
+        let Some(frame) = thread.frames.pop() else {
+            return false;
         };
-        if is_local {
-            if let Control::At(_, environment) = std::mem::replace(&mut thread.control, Control::Returned(Value::Unit)) {
-                self.go_on(thread, node, environment);
+        let Op::Let { body, depth, is_named, is_used, .. } = self.code.ops[frame.node as usize] else {
+            unreachable!("a frame is that of a let");
+        };
+        thread.base = frame.base;
+        thread.values.truncate((frame.base + depth) as usize);
+        let control = std::mem::replace(&mut thread.control, Control::At(body));
+        if let (true, Control::Returned(value)) = (is_named, control) {
+            if is_used || !matches!(value, Value::Mailbox(_)) {
+                thread.values.push(value);
+            } else {
+                self.forget(&value);
+                thread.values.push(Value::Unit);
             }
         }
-        is_local
+        true
     }
 
-    fn go_on(&self, thread: &mut Thread, core: &Core, environment: Environment) {
-        match core {
-            Core::Let { variable, bound, body } => {
-                let frees = &self.frees[*body as usize];
-                let is_kept = |name: u32| Some(name) != *variable && frees.binary_search(&name).is_ok();
-                let kept = environment.iter().filter(|it| is_kept(it.0)).cloned().collect();
-                thread.frames.push(Frame { variable: *variable, body: *body, environment: kept });
-                thread.control = self.at(*bound, environment);
-            }
-            Core::Call { function, arguments } => {
-                let values = evaluate_all(&environment, arguments);
-                let parameters = values.into_iter().enumerate().map(|(place, value)| (place as u32, value)).collect();
-                thread.control = self.at(self.program.function(*function).body, parameters);
-            }
-            Core::If { test, yes, no } => {
-                let chosen = if evaluate(&environment, test).truth() { *yes } else { *no };
-                thread.control = self.at(chosen, environment);
-            }
-            Core::Value(expression) => {
-                thread.control = Control::Returned(evaluate(&environment, expression));
-                if let Some(frame) = thread.frames.pop() {
-                    self.resume(thread, frame);
-                }
-            }
-            _ => unreachable!("the step isn't local"),
+    /// The values of what a call or a send hands on, of which each mailbox has a name more.
+    fn handed_on(&mut self, thread: &mut Thread, arguments: &[Code], are_used: Option<&[bool]>, last: &Places) -> Vec<Value> {
+        let mut values = std::mem::take(&mut self.arguments);
+        for (at, argument) in arguments.iter().enumerate() {
+            let value = evaluate(thread.own(), argument);
+            let is_used = are_used.is_none_or(|it| it[at]) || !matches!(value, Value::Mailbox(_));
+            let value = if is_used { value } else { Value::Unit };
+            self.name(&value);
+            values.push(value);
         }
+        self.forget_places(thread, last);
+        values
     }
 
-    /// The frame goes on with the value that was returned.
-    fn resume(&self, thread: &mut Thread, frame: Frame) {
-        let mut environment = frame.environment;
-        if let (Some(variable), Control::Returned(value)) = (frame.variable, &thread.control) {
-            put(&mut environment, variable, value.clone());
+    fn call(&mut self, thread: &mut Thread, function: u32, arguments: &[Code], last: &Places) {
+        let code = self.code;
+        let called = &code.functions[function as usize];
+        let mut values = self.handed_on(thread, arguments, Some(&called.are_used), last);
+        if thread.frames.last().is_some_and(|frame| frame.base == thread.base) {
+            thread.base = thread.values.len() as u32;
+        } else {
+            thread.values.truncate(thread.base as usize);
         }
-        thread.control = self.at(frame.body, environment);
+        thread.values.append(&mut values);
+        self.arguments = values;
+        thread.control = Control::At(called.body);
     }
 
-    /// The node, with the values of just its free variables.
-    fn at(&self, node: u32, mut environment: Environment) -> Control {
-        keep(&mut environment, &self.frees[node as usize]);
-        Control::At(node, environment)
-    }
+    // ---- shared steps
 
-    /// Takes the shared step that is open, and notes it.
-    fn shared_step(&mut self, number: u32, mut thread: Thread) {
-        let control = std::mem::replace(&mut thread.control, Control::Returned(Value::Unit));
-        let Control::At(node, environment) = control else {
-            self.end(number);
+    /// Takes the shared step of the thread, which was taken out, if it is this one.
+    pub fn shared_step(&mut self, number: u32, mut thread: Thread, act: Act) {
+        let Some(op) = self.op(&thread).filter(|_| act != Act::End) else {
             return;
         };
-        match &self.program.node(node).core {
-            Core::Value(_) => {
-                self.end(number);
-                return;
-            }
-            Core::New(_) => {
-                self.history.push_str("new\n");
-                thread.control = Control::Returned(Value::Mailbox(Rc::new(Mailbox::new(self.mailboxes_made))));
-                self.mailboxes_made += 1;
+        match op {
+            Op::New => {
+                thread.control = Control::Returned(Value::Mailbox(self.mailboxes.len() as u32));
+                self.mailboxes.push(Mailbox { is_live: true, names: 1, ..Mailbox::default() });
                 self.live += 1;
             }
-            Core::Send { target, tag, arguments } => {
-                self.history.push_str("send\n");
-                let values = evaluate_all(&environment, arguments);
-                self.send(value_of(&environment, *target).mailbox(), *tag, values);
+            Op::Print(code) => {
+                self.output.push_str("out ");
+                evaluate(thread.own(), code).write(&mut self.output);
+                self.output.push('\n');
+                thread.control = Control::Returned(Value::Unit);
             }
-            Core::Spawn(body) => {
-                self.history.push_str("spawn\n");
-                self.awake.insert(self.threads.len() as u32);
-                self.threads.push(Some(Thread { control: self.at(*body, environment), frames: Vec::new() }));
+            Op::Send { target, tag, arguments, last } => {
+                let mailbox = thread.at_place(*target).mailbox();
+                let mut handed = self.handed_on(&mut thread, arguments, None, last);
+                let values = handed.drain(..).collect();
+                self.arguments = handed;
+                self.send(mailbox, *tag, values);
+                thread.control = Control::Returned(Value::Unit);
             }
-            Core::Print(expression) => {
-                self.history.push_str("print\n");
-                let _ = writeln!(self.output, "out {}", evaluate(&environment, expression));
+            Op::Spawn { body, captured, last } => {
+                let values: Vec<Value> = captured.iter().map(|place| thread.at_place(*place).clone()).collect();
+                values.iter().for_each(|value| self.name(value));
+                self.forget_places(&mut thread, last);
+                self.threads.push(Some(Thread::at(*body, values)));
+                thread.control = Control::Returned(Value::Unit);
             }
-            Core::Guard { variable, free, clauses, .. } => {
-                thread.control = self.guard(environment, *variable, *free, clauses);
-            }
-            _ => unreachable!("the step is local"),
+            Op::Guard { place, free, clauses, depth, .. } => match (act, free) {
+                (Act::Receive(message), _) => self.receive(&mut thread, *place, *depth, message, clauses),
+                (_, Some((body, last))) => {
+                    let mailbox = thread.at_place(*place).mailbox();
+                    self.mailbox(mailbox).is_live = false;
+                    self.live -= 1;
+                    self.forget_places(&mut thread, last);
+                    thread.control = Control::At(*body);
+                }
+                _ => unreachable!("the guard has a clause for freeing"),
+            },
+            Op::Value(..) | Op::Let { .. } | Op::Call { .. } | Op::If { .. } => unreachable!("the step is shared"),
         }
         self.threads[number as usize] = Some(thread);
     }
 
-    /// The thread, which was taken out, is gone.
-    fn end(&mut self, number: u32) {
-        self.history.push_str("end\n");
-        self.awake.remove(&number);
-    }
-
-    fn send(&mut self, mailbox: &Mailbox, tag: u8, values: Vec<Value>) {
-        mailbox.pending.borrow_mut().push_back(Message { number: self.messages_made, tag, values });
+    fn send(&mut self, number: u32, tag: u8, values: Vec<Value>) {
+        let message = Message { number: self.messages_made, values };
+        let mailbox = &mut self.mailboxes[number as usize];
+        match mailbox.queues.iter_mut().find(|it| it.0 == tag) {
+            Some(queue) => queue.1.push_back(message),
+            None => mailbox.queues.push((tag, VecDeque::from([message]))),
+        }
+        mailbox.pending += 1;
+        self.woken.extend(mailbox.sleeper.take());
         self.messages_made += 1;
         self.pending += 1;
-        if let Some(sleeper) = mailbox.sleeper.take() {
-            self.awake.insert(sleeper);
-        }
     }
 
-    /// Receives the first message that a clause takes, or else frees the mailbox.
-    fn guard(&mut self, mut environment: Environment, variable: u32, free: Option<u32>, clauses: &[Clause]) -> Control {
-        let mailbox = value_of(&environment, variable).mailbox().clone();
-        let Some((message, clause)) = mailbox.take_for(clauses) else {
-            self.history.push_str("free\n");
-            self.live -= 1;
-            return self.at(free.expect("the step is open"), environment);
+    fn receive(&mut self, thread: &mut Thread, place: u32, depth: u32, message: u32, clauses: &[Receive]) {
+        let number = thread.at_place(place).mailbox();
+        let Some((tag, message)) = self.mailboxes[number as usize].take(message) else {
+            unreachable!("the message is pending");
         };
-        let _ = writeln!(self.history, "receive {}", message.number);
         self.pending -= 1;
-        for (name, value) in clause.names.iter().zip(message.values) {
-            put(&mut environment, *name, value);
+        let Some(clause) = clauses.iter().find(|it| it.tag == tag) else {
+            unreachable!("a clause takes the message");
+        };
+        thread.values.truncate((thread.base + depth) as usize);
+        self.name(&Value::Mailbox(number));
+        let values = message.values.into_iter().chain([Value::Mailbox(number)]);
+        for (value, is_used) in values.zip(&clause.are_used) {
+            if *is_used || !matches!(value, Value::Mailbox(_)) {
+                thread.values.push(value);
+            } else {
+                self.forget(&value);
+                thread.values.push(Value::Unit);
+            }
         }
-        put(&mut environment, clause.from, Value::Mailbox(mailbox));
-        self.at(clause.body, environment)
+        self.forget_places(thread, &clause.last);
+        thread.control = Control::At(clause.body);
+    }
+
+    /// Whether the message is pending where the thread's guard takes it.
+    pub fn takes(&self, thread: &Thread, message: u32) -> bool {
+        match self.op(thread) {
+            Some(Op::Guard { place, tags, .. }) => {
+                let mailbox = &self.mailboxes[thread.at_place(*place).mailbox() as usize];
+                mailbox.queues.iter().any(|(tag, queue)| tags & (1 << tag) != 0 && place_of(queue, message).is_some())
+            }
+            _ => false,
+        }
     }
 }
 
-fn put(environment: &mut Environment, variable: u32, value: Value) {
-    match environment.binary_search_by_key(&variable, |it| it.0) {
-        Ok(place) => environment[place].1 = value,
-        Err(place) => environment.insert(place, (variable, value)),
-    }
+fn place_of(queue: &VecDeque<Message>, message: u32) -> Option<usize> {
+    queue.binary_search_by_key(&message, |it| it.number).ok()
 }
 
-/// Whether no message is there, and nobody but the thread refers to the mailbox.
-fn can_free(mailbox: &Rc<Mailbox>, thread: &Thread) -> bool {
-    if !mailbox.pending.borrow().is_empty() {
-        return false;
-    }
-    let own = match &thread.control {
-        Control::At(_, environment) => references(environment, mailbox),
-        Control::Returned(_) => 0,
-    };
-    let framed: usize = thread.frames.iter().map(|frame| references(&frame.environment, mailbox)).sum();
-    Rc::strong_count(mailbox) == own + framed
-}
-
-fn references(environment: &Environment, mailbox: &Rc<Mailbox>) -> usize {
-    environment.iter().filter(|it| matches!(&it.1, Value::Mailbox(own) if Rc::ptr_eq(own, mailbox))).count()
-}
-
-/// What is pending in a mailbox, in order of number.
 impl Mailbox {
-    fn new(number: u32) -> Mailbox {
-        Mailbox { number, pending: VecDeque::new().into(), sleeper: None.into() }
+    /// The number of the first message that has one of the tags.
+    fn first(&self, tags: u32) -> Option<u32> {
+        if self.pending == 0 {
+            return None;
+        }
+        let firsts = self.queues.iter().filter(|(tag, _)| tags & (1 << tag) != 0).filter_map(|(_, queue)| queue.front());
+        firsts.map(|it| it.number).min()
     }
 
-    /// The place of the first message that a clause takes, with the clause.
-    fn first_for<'c>(&self, clauses: &'c [Clause]) -> Option<(usize, &'c Clause)> {
-        let pending = self.pending.borrow();
-        let clause_for = |message: &Message| clauses.iter().find(|clause| clause.tag == message.tag);
-        pending.iter().enumerate().find_map(|(place, message)| Some((place, clause_for(message)?)))
+    fn take(&mut self, message: u32) -> Option<(u8, Message)> {
+        let (tag, queue) = self.queues.iter_mut().find(|(_, queue)| place_of(queue, message).is_some())?;
+        let found = queue.remove(place_of(queue, message)?)?;
+        self.pending -= 1;
+        Some((*tag, found))
+    }
+}
+
+impl Thread {
+    fn at(node: u32, values: Vec<Value>) -> Thread {
+        Thread { control: Control::At(node), frames: Vec::new(), values, base: 0 }
     }
 
-    fn take_for<'c>(&self, clauses: &'c [Clause]) -> Option<(Message, &'c Clause)> {
-        let (place, clause) = self.first_for(clauses)?;
-        Some((self.pending.borrow_mut().remove(place)?, clause))
+    /// The values of the function that is run.
+    fn own(&self) -> &[Value] {
+        &self.values[self.base as usize..]
+    }
+
+    pub fn at_place(&self, place: u32) -> &Value {
+        &self.values[(self.base + place) as usize]
+    }
+
+    fn place(&mut self, place: u32) -> &mut Value {
+        &mut self.values[(self.base + place) as usize]
     }
 }

@@ -1,60 +1,177 @@
-//! `racer check` and `racer run`: programs of actors with mailbox types, checked and run by one worker, as a plain program does it.
+//! `racer`: programs of actors with mailbox types, checked, derived, run and replayed by one worker, as a plain program does it.
 //!
-//! It accepts the programs that `pat` accepts, limits of size aside, and a run writes the same text. Refusals are rougher: a word
-//! that refutes a constraint isn't looked for. Want of memory ends the program, and the walks recurse on a large stack.
+//! It answers as `pat` does, by the best algorithms that are known for each part. Want of memory ends the program, and the walks
+//! recurse on a large stack.
 //!
-//! `cargo build --release` here, and then `tests/hard/speed tests/hard/racer/target/release/racer` at the top runs its shapes.
-//! With `--features boxes` patterns are copied, as `pat` copies them, and not shared.
+//! `cargo build --release` here, and then `tests/hard/speed --against tests/hard/racer/target/release/racer` at the top runs both.
 
+mod code;
 mod demands;
+mod derivation;
+mod environment;
 mod grid;
+mod hashing;
 mod infer;
 mod judge;
+mod least;
 mod lexer;
 mod linear;
 mod machine;
+mod numbers;
 mod parser;
 mod pattern;
+mod points;
 mod program;
 mod refusal;
+mod replay;
 mod resolver;
+mod run;
+mod scope;
 mod solve;
 mod tree;
 mod types;
 mod values;
 
+use code::Executable;
+use demands::Derivation;
+use linear::Forms;
+use pattern::Table;
 use program::Program;
 use refusal::{Refusal, Result};
 use std::io::{Read, Write};
+use types::Signature;
 
 const MOST_BYTES: usize = 1_048_576;
+const MOST_BYTES_WITH_LINES: usize = 67_108_864;
+/// How many steps a run may take, and how many messages may be pending in it, where the words don't say so.
+const MOST_STEPS: u32 = 100_000;
+const MOST_MESSAGES: u32 = 1_000_000;
 /// Statements stand in one another as deep as a program is long, and the walks along them recurse.
 const STACK: usize = 512 << 20;
 
-/// The program of a text, whose types have been found and judged.
-fn checked(text: &[u8]) -> Result<Program> {
+/// The program of a text.
+fn resolved(text: &[u8], table: &Table) -> Result<Program> {
     if text.len() > MOST_BYTES {
         return Err(Refusal::new("too long".to_string()));
     }
-    let text = std::str::from_utf8(text).map_err(|error| Refusal::syntax(error.valid_up_to()))?;
+    let text = match std::str::from_utf8(text) {
+        Ok(text) => text,
+        Err(error) => return Err(lexer::refused_before(&text[..error.valid_up_to()])),
+    };
     let tokens = lexer::tokens(text)?;
     let tree = parser::parse(&tokens)?;
-    drop(tokens);
-    let program = resolver::resolve(&tree, text.len() as u32)?;
-    drop(tree);
-    let problem = infer::infer(&program)?;
-    let solution = solve::solve(&program, &problem)?;
-    let variables: Vec<u32> = problem.variables.iter().map(|it| it.interface).collect();
-    let (derivation, signatures) = judge::derivation_of(&program, problem, solution)?;
-    judge::judge(&program, &signatures, &variables, &derivation)?;
-    Ok(program)
+    resolver::resolve(&tree, text.len() as u32, table)
+}
+
+/// The derivation of a program, which has been judged.
+fn derived(program: &Program, table: &Table) -> Result<(Derivation, Vec<Signature>)> {
+    let mut forms = Forms::new(table);
+    let problem = infer::infer(program, table)?;
+    let solution = solve::solve(program, table, &problem, &mut forms)?;
+    let (derivation, signatures) = judge::derivation_of(program, table, &mut forms, problem, solution)?;
+    judge::judge(program, table, &mut forms, &signatures, &derivation)?;
+    Ok((derivation, signatures))
+}
+
+fn check(text: &[u8]) -> Result<(i32, String)> {
+    let table = Table::new();
+    derived(&resolved(text, &table)?, &table)?;
+    Ok((0, "accepted\n".to_string()))
+}
+
+fn derive(text: &[u8]) -> Result<(i32, String)> {
+    let table = Table::new();
+    let program = resolved(text, &table)?;
+    let (derivation, _) = derived(&program, &table)?;
+    Ok((0, derivation::write(&program, &table, &derivation)))
+}
+
+fn verify(text: &[u8]) -> Result<(i32, String)> {
+    let table = Table::new();
+    let (program, offset, lines) = split(text, "%%derivation")?;
+    let program = resolved(program, &table)?;
+    let derivation = derivation::read(&program, &table, lines, offset)?;
+    let (signatures, _) = types::signatures(&program, &table);
+    judge::judge(&program, &table, &mut Forms::new(&table), &signatures, &derivation)?;
+    Ok((0, "accepted\n".to_string()))
+}
+
+fn replay(text: &[u8]) -> Result<(i32, String)> {
+    let table = Table::new();
+    let (program, offset, lines) = split(text, "%%history")?;
+    let program = resolved(program, &table)?;
+    let lines = place_of_line(lines, "%%output").map_or(lines, |at| &lines[..at]);
+    Ok((0, replay::replay(&Executable::new(&program), lines, offset)?))
+}
+
+fn run(text: &[u8], steps: u32, messages: u32) -> Result<(i32, String)> {
+    let told = told(text, steps, messages)?;
+    Ok((told.status, format!("%%history\n{}%%output\n{}{}", told.history, told.output, told.end)))
+}
+
+fn told(text: &[u8], steps: u32, messages: u32) -> Result<run::Told> {
+    let table = Table::new();
+    let program = resolved(text, &table)?;
+    derived(&program, &table)?;
+    Ok(run::run(&Executable::new(&program), steps, messages))
+}
+
+fn load(count: u32, steps: u32, messages: u32) -> Result<(i32, String)> {
+    let told = told(generated(count).as_bytes(), steps, messages)?;
+    Ok((told.status, told.output + &told.end))
+}
+
+/// The program that `load` runs.
+fn generated(count: u32) -> String {
+    let mut text = "interface Sum { Part(Int) }\ninterface Work { Job(Int, Sum!Part) }\n".to_string();
+    for i in 1..=count {
+        text += &format!(
+            "def w{i}(self: Work?): Unit {{ guard self : Job {{ receive Job(x, to) from self -> free(self); to ! Part(x * 3 + 1) }} }}\n"
+        );
+    }
+    text += "def gather(self: Sum?, sum: Int): Unit { guard self : *Part { free -> print(sum) \
+             receive Part(x) from self -> gather(self, sum + x) } }\n";
+    text += "def main(): Unit { let all = new[Sum] in ";
+    for i in 1..=count {
+        text += &format!("let b{i} = new[Work] in spawn {{ w{i}(b{i}) }}; b{i} ! Job({i}, all); ");
+    }
+    text + "gather(all, 0) }\n"
+}
+
+/// The program before the first line that is just the mark, and what stands behind that line, with its offset.
+fn split<'t>(text: &'t [u8], mark: &str) -> Result<(&'t [u8], usize, &'t [u8])> {
+    let at = place_of_line(text, mark);
+    if text.len() > MOST_BYTES_WITH_LINES || at.unwrap_or(text.len()) > MOST_BYTES {
+        return Err(Refusal::new("too long".to_string()));
+    }
+    let at = at.ok_or_else(|| Refusal::new(format!("bad text at {}", text.len())))?;
+    let from = (at + mark.len() + 1).min(text.len());
+    Ok((&text[..at], from, &text[from..]))
+}
+
+fn place_of_line(text: &[u8], mark: &str) -> Option<usize> {
+    let mut from = 0;
+    for line in text.split(|it| *it == b'\n') {
+        if line == mark.as_bytes() {
+            return Some(from);
+        }
+        from += line.len() + 1;
+    }
+    None
 }
 
 /// The status and the text of a call.
 fn answer(words: &[String], text: &[u8]) -> (i32, String) {
     let words: Vec<&str> = words.iter().map(String::as_str).collect();
     let result = match words.as_slice() {
-        ["check"] => checked(text).map(|_| (0, "accepted\n".to_string())),
+        ["check"] => check(text),
+        ["derive"] => derive(text),
+        ["verify"] => verify(text),
+        ["replay"] => replay(text),
+        ["load", count, options @ ..] => match (count.parse(), options_of(options)) {
+            (Ok(count @ 1..=1000), Some((steps, messages))) => load(count, steps, messages),
+            _ => return usage(),
+        },
         ["run", options @ ..] => match options_of(options) {
             Some((steps, messages)) => run(text, steps, messages),
             None => return usage(),
@@ -62,10 +179,6 @@ fn answer(words: &[String], text: &[u8]) -> (i32, String) {
         _ => return usage(),
     };
     result.unwrap_or_else(|refusal| (1, refusal.line + "\n"))
-}
-
-fn usage() -> (i32, String) {
-    (2, "usage: racer check | run [--steps N] [--messages N] < PROGRAM\n".to_string())
 }
 
 /// How many steps a run may take, and how many messages may be pending in it.
@@ -83,20 +196,17 @@ fn options_of(words: &[&str]) -> Option<(u32, u32)> {
             return None;
         }
     }
-    Some((steps.unwrap_or(100_000), messages.unwrap_or(1_000_000)))
+    Some((steps.unwrap_or(MOST_STEPS), messages.unwrap_or(MOST_MESSAGES)))
 }
 
-fn run(text: &[u8], steps: u32, messages: u32) -> Result<(i32, String)> {
-    let program = checked(text)?;
-    let mut machine = machine::Machine::new(&program, steps, messages);
-    let outcome = machine.run();
-    Ok(machine.told(&outcome))
+fn usage() -> (i32, String) {
+    (2, "usage: racer check | derive | verify | run [--steps N] [--messages N] | replay | load N\n".to_string())
 }
 
 fn call() -> i32 {
     let words: Vec<String> = std::env::args().skip(1).collect();
     let mut text = Vec::new();
-    if std::io::stdin().read_to_end(&mut text).is_err() {
+    if words.first().is_none_or(|it| it != "load") && std::io::stdin().read_to_end(&mut text).is_err() {
         return 3;
     }
     let (status, line) = answer(&words, &text);

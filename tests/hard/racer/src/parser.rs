@@ -319,7 +319,7 @@ impl<'t, 'a> Parser<'t, 'a> {
             }
             _ => {
                 let expression = self.expression()?;
-                return Ok(Term { at: expression.at, form: Form::Value(expression) });
+                return Ok(Term { at: start.to(self.before()), form: Form::Value(expression) });
             }
         };
         Ok(Term { form, at: start.to(self.before()) })
@@ -384,7 +384,7 @@ impl<'t, 'a> Parser<'t, 'a> {
     // ---- expressions
 
     fn expression(&mut self) -> Result<Expression<'a>> {
-        let open = self.open;
+        let (open, start) = (self.open, self.at());
         let left = self.sum()?;
         let operator = match self.kind() {
             Kind::Equal => Operator::Equal,
@@ -398,10 +398,11 @@ impl<'t, 'a> Parser<'t, 'a> {
         self.opens()?;
         let right = self.sum()?;
         self.open = open;
-        Ok(operation(operator, left, right))
+        Ok(operation(operator, left, right, start.to(self.before())))
     }
 
     fn sum(&mut self) -> Result<Expression<'a>> {
+        let start = self.at();
         let mut left = self.times()?;
         loop {
             let operator = match self.kind() {
@@ -411,15 +412,18 @@ impl<'t, 'a> Parser<'t, 'a> {
             };
             self.place += 1;
             self.opens()?;
-            left = operation(operator, left, self.times()?);
+            let right = self.times()?;
+            left = operation(operator, left, right, start.to(self.before()));
         }
     }
 
     fn times(&mut self) -> Result<Expression<'a>> {
+        let start = self.at();
         let mut left = self.atom()?;
         while self.takes_mark(b'*') {
             self.opens()?;
-            left = operation(Operator::Multiply, left, self.atom()?);
+            let right = self.atom()?;
+            left = operation(Operator::Multiply, left, right, start.to(self.before()));
         }
         Ok(left)
     }
@@ -451,8 +455,7 @@ impl<'t, 'a> Parser<'t, 'a> {
     }
 }
 
-fn operation<'a>(operator: Operator, left: Expression<'a>, right: Expression<'a>) -> Expression<'a> {
-    let at = left.at.to(right.at);
+fn operation<'a>(operator: Operator, left: Expression<'a>, right: Expression<'a>, at: Span) -> Expression<'a> {
     Expression { form: ExpressionForm::Operator(operator, Box::new(left), Box::new(right)), at }
 }
 

@@ -19,6 +19,7 @@ pub enum Sort {
 }
 
 pub struct Tag {
+    pub name: String,
     pub payloads: Vec<Sort>,
 }
 
@@ -114,6 +115,10 @@ impl Program {
         self.interfaces[interface as usize].tags.len()
     }
 
+    pub fn tag_names(&self, interface: u32) -> Vec<String> {
+        self.interfaces[interface as usize].tags.iter().map(|tag| tag.name.clone()).collect()
+    }
+
     /// The kind of a variable of the function.
     pub fn kind_of(&self, function: u32, variable: u32) -> Option<Kind> {
         self.function(function).variables.get(variable as usize).map(|it| it.0)
@@ -134,10 +139,29 @@ impl Clause {
     }
 }
 
+/// The tags that clauses receive, each a bit.
+pub fn received_tags(clauses: &[Clause]) -> u32 {
+    clauses.iter().fold(0, |tags, clause| tags | 1 << clause.tag)
+}
+
 /// The bodies of a guard in the order of the program, each with its clause if it is that of a receive clause.
 pub fn bodies<'a>(free: Option<u32>, clauses: &'a [Clause]) -> Vec<(u32, Option<&'a Clause>)> {
     let mut bodies: Vec<_> = clauses.iter().map(|clause| (clause.body, Some(clause))).collect();
     bodies.extend(free.map(|body| (body, None)));
     bodies.sort_by_key(|it| it.0);
     bodies
+}
+
+/// For each node the first one behind its parts.
+pub fn ends_of(program: &Program) -> Vec<u32> {
+    let mut ends = vec![0; program.nodes.len()];
+    for number in (0..program.nodes.len()).rev() {
+        let last = match &program.nodes[number].core {
+            Core::Let { body, .. } | Core::If { no: body, .. } | Core::Spawn(body) => Some(*body),
+            Core::Guard { free, clauses, .. } => bodies(*free, clauses).last().map(|it| it.0),
+            _ => None,
+        };
+        ends[number] = last.map_or(number as u32 + 1, |last| ends[last as usize]);
+    }
+    ends
 }

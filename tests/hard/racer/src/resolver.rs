@@ -1,19 +1,20 @@
 //! A tree to a program in numbered form: what names stand for, and the kinds of terms.
 
+use crate::hashing::{Map, Set};
 use crate::lexer::Span;
-use crate::pattern::Pattern;
+use crate::pattern::{Pattern, Table, ONE, ZERO};
 use crate::program::{Clause, Constant, Core, Expression, Function, Interface, Kind, Node, Program, Sort, Tag};
 use crate::refusal::{Refusal, Result};
 use crate::tree;
 use crate::tree::{Base, Declaration, Definition, ExpressionForm, Form, Name, Operator, TypeForm, WrittenPattern, WrittenType};
-use std::collections::{HashMap, HashSet};
 
 const MOST_TAGS: usize = 32;
 const UNIT: Kind = Kind::Base(Base::Unit);
 
 /// The program of these declarations of a text of so many bytes.
-pub fn resolve(declarations: &[Declaration], length: u32) -> Result<Program> {
-    let mut heads = Heads { interfaces: HashMap::new(), tags: Vec::new(), functions: HashMap::new(), signatures: Vec::new() };
+pub fn resolve(declarations: &[Declaration], length: u32, table: &Table) -> Result<Program> {
+    let mut heads =
+        Heads { table, interfaces: Map::default(), tags: Vec::new(), functions: Map::default(), signatures: Vec::new() };
     heads.name_interfaces(declarations);
     let interfaces = heads.examine(declarations)?;
     let main = heads.main(declarations, length)?;
@@ -27,7 +28,7 @@ pub fn resolve(declarations: &[Declaration], length: u32) -> Result<Program> {
             nodes: &mut program.nodes,
             function,
             variables: Vec::new(),
-            scope: HashMap::new(),
+            scope: Map::default(),
         };
         let first = body.nodes.len() as u32;
         for ((name, _), sort) in definition.parameters.iter().zip(&parameters) {
@@ -57,10 +58,11 @@ fn wrong<T>(what: &str, at: Span) -> Result<T> {
 
 /// What the names of declarations stand for.
 struct Heads<'a> {
-    interfaces: HashMap<&'a str, u32>,
+    table: &'a Table,
+    interfaces: Map<&'a str, u32>,
     /// The names of each interface's tags.
     tags: Vec<Vec<&'a str>>,
-    functions: HashMap<&'a str, u32>,
+    functions: Map<&'a str, u32>,
     signatures: Vec<(Vec<Sort>, Sort)>,
 }
 
@@ -93,7 +95,7 @@ impl<'a> Heads<'a> {
     }
 
     fn interface(&self, name: &Name<'a>, messages: &[tree::Message<'a>]) -> Result<Interface> {
-        let mut seen = HashSet::new();
+        let mut seen = Set::default();
         let mut tags = Vec::new();
         for message in messages {
             if !seen.insert(message.name.text) {
@@ -103,7 +105,7 @@ impl<'a> Heads<'a> {
                 return wrong("too many tags", message.name.at);
             }
             let payloads = message.payloads.iter().map(|it| self.sort(it)).collect::<Result<_>>()?;
-            tags.push(Tag { payloads });
+            tags.push(Tag { name: message.name.text.to_string(), payloads });
         }
         Ok(Interface { name: name.text.to_string(), tags })
     }
@@ -113,7 +115,7 @@ impl<'a> Heads<'a> {
         if self.functions.insert(name.text, self.signatures.len() as u32).is_some() {
             return wrong("twice", name.at);
         }
-        let mut seen = HashSet::new();
+        let mut seen = Set::default();
         let mut parameters = Vec::new();
         for (parameter, written) in &definition.parameters {
             if !seen.insert(parameter.text) {
@@ -151,7 +153,7 @@ impl<'a> Heads<'a> {
                     None => None,
                 };
                 let is_sending = *polarity == tree::Polarity::Sending;
-                if is_sending && pattern.as_ref().is_some_and(|it| !it.is_inhabited(&|_| false)) {
+                if is_sending && pattern.is_some_and(|it| !self.table.is_inhabited(it, &|_| false)) {
                     return wrong("empty sending type", written.at);
                 }
                 Ok(Sort::Mailbox { interface: number, polarity: *polarity, pattern })
@@ -175,16 +177,16 @@ impl<'a> Heads<'a> {
 
     fn pattern(&self, interface: u32, written: &WrittenPattern) -> Result<Pattern> {
         Ok(match written {
-            WrittenPattern::Zero => Pattern::Zero,
-            WrittenPattern::One => Pattern::One,
-            WrittenPattern::Tag(name) => Pattern::Tag(self.tag(interface, name)?),
+            WrittenPattern::Zero => ZERO,
+            WrittenPattern::One => ONE,
+            WrittenPattern::Tag(name) => self.table.tag(self.tag(interface, name)?),
             WrittenPattern::Sum(left, right) => {
-                Pattern::plain_sum(self.pattern(interface, left)?, self.pattern(interface, right)?)
+                self.table.plain_sum(self.pattern(interface, left)?, self.pattern(interface, right)?)
             }
             WrittenPattern::Product(left, right) => {
-                Pattern::plain_product(self.pattern(interface, left)?, self.pattern(interface, right)?)
+                self.table.plain_product(self.pattern(interface, left)?, self.pattern(interface, right)?)
             }
-            WrittenPattern::Star(part) => Pattern::plain_star(self.pattern(interface, part)?),
+            WrittenPattern::Star(part) => self.table.plain_star(self.pattern(interface, part)?),
         })
     }
 }
@@ -198,7 +200,7 @@ struct Body<'h, 'a> {
     nodes: &'h mut Vec<Node>,
     function: u32,
     variables: Vec<(Kind, Span)>,
-    scope: HashMap<&'a str, u32>,
+    scope: Map<&'a str, u32>,
 }
 
 impl<'h, 'a> Body<'h, 'a> {
@@ -293,7 +295,7 @@ impl<'h, 'a> Body<'h, 'a> {
             Form::Free(name) => {
                 let (variable, _) = self.mailbox(name, term.at)?;
                 let body = Some(self.next() + 1);
-                self.push(Core::Guard { variable, pattern: Pattern::One, free: body, clauses: Vec::new() }, UNIT, term.at);
+                self.push(Core::Guard { variable, pattern: ONE, free: body, clauses: Vec::new() }, UNIT, term.at);
                 self.push(Core::Value(Expression::Constant(Constant::Unit)), UNIT, term.at);
                 UNIT
             }
