@@ -165,6 +165,15 @@ trying('what the usage line names is offered', async () => {
   assert.equal(await page.value(() => /Order/.test(pat.history.actions.textContent)), words.includes('order'));
 });
 
+trying('the deepest programs, and one step beyond, are answered as natively', async () => {
+  const statements = count => `def main(): Unit { ${'(); '.repeat(count)}() }\n`;
+  const braces = count => `def main(): Unit { ${'{ '.repeat(count)}()${' }'.repeat(count)} }\n`;
+  const texts = [...[4094, 4095, 4096].map(statements), ...[253, 254].map(braces)];
+  const lines = texts.map(text => native(['check'], text).line);
+  assert.deepEqual(await page.value(lookAt, texts), lines);
+  assert.deepEqual([lines[1], lines[3]], ['accepted', 'accepted']);
+});
+
 trying('typing 200 keys at speed keeps the page alive, and the last text is answered', async () => {
   await verdictOf('');
   await page.value(period => {
