@@ -48,7 +48,7 @@ abbrev pub Partial : Values → (ℕ → Pat) → Type 0
 Partial vs s = (k : ℕ) → (s k ≡ Var k) ⊎ (s k ≡ listed_in vs k)
 
 -- so a pattern that has none of them stays
-stays : (vs : Values) (s : ℕ → Pat) (e : Pat) → Partial vs s → Lacks vs e → IsRebuilt e → subst_of s e ≡ e
+pub stays : (vs : Values) (s : ℕ → Pat) (e : Pat) → Partial vs s → Lacks vs e → IsRebuilt e → subst_of s e ≡ e
 stays vs s e some h r =
     alike s Var e (λ k o. ⊎_elim (λ (a : s k ≡ Var k). a) (λ (b : s k ≡ listed_in vs k). b ∙ ap (λ w. unwrap_or w (Var k)) (no_value vs e k h o)) (some k)) ∙ r
 
@@ -106,7 +106,7 @@ module _ (v : ℕ × Pat) (vs : Values) (f : Pat) (apart : Apart (v ∷ vs) f) (
   all_of_rest j =
       ⊎_elim (λ (t : nat_eq j v.0 ≡ true). rw t refl) (λ (n : nat_eq j v.0 ≡ false). rw n refl) (cases_Bool (nat_eq j v.0))
 
-every : (vs : Values) → Partial vs (listed_in vs)
+pub every : (vs : Values) → Partial vs (listed_in vs)
 every vs k = inr refl
 
 -- ---- all of them at once

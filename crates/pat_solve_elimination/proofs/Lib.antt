@@ -11,3 +11,7 @@ mod Steps
 mod Ties
 pub mod Forms
 mod Fitting
+mod Weights
+mod Resolutions
+mod Weighed
+mod Marked

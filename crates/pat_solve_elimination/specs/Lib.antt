@@ -1,6 +1,9 @@
 pub use Rattle.pat_solve_bounded.specs.Variables
 pub mod Rounds
 pub mod Growing
+pub mod Needing
+pub mod Weighing
+pub mod Resolving
 pub mod Results
 pub mod assignment
 pub mod covers

@@ -27,7 +27,7 @@ pub struct Growth {
 
 impl Growth {
     /// With a part more; `None` where these are too many nodes.
-    fn with(self, nodes: u32, levels: u32) -> Option<Growth>
+    pub(crate) fn with(self, nodes: u32, levels: u32) -> Option<Growth>
         ensures { IfSome result (λ next. (next.nodes ≡ self.nodes + nodes) × (next.nodes ≤ most_nodes) × (next.levels ≡ max self.levels levels)) }
     {
         let nodes = self.nodes.saturating_add(nodes);

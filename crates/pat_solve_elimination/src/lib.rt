@@ -5,9 +5,12 @@ mod assignment;
 mod covers;
 mod error;
 mod growing;
+mod needing;
 mod occurring;
 mod replacing;
+mod resolving;
 mod turns;
+mod weighing;
 
 pub use assignment::assigned;
 pub use covers::{fits_law, is_covered, side_form};

@@ -1,11 +1,12 @@
 // Variables replaced one after another.
-ghost use Rattle.std.specs.Prelude.{◌≡◌, ◌<◌, ◌≤◌, ℕ, false, length, get_or};
+ghost use Rattle.std.specs.Prelude.{◌≡◌, ◌<◌, ◌≤◌, ℕ, [], true, false, length, get_or};
 ghost use Rattle.std.specs.List.{AllByRecursion};
-ghost use Rattle.pat_words_spec.specs.Patterns.{Zero};
+ghost use Rattle.pat_words_spec.specs.Patterns.{Zero, subst_of};
 ghost use Rattle.pat_inclusion_spec.specs.ClosedForms.{is_small};
-ghost use Rattle.pat_solve_spec.specs.Assignments.{put_one as put_one_of, put_in_turn};
+ghost use Rattle.pat_solve_spec.specs.Assignments.{Values, put_one as put_one_of, put_in_turn};
 ghost use Rattle.pat_solve_bounded.specs.Views.{measured_view, measured_list};
 ghost use Rattle.pat_solve_bounded.specs.replacing.Ascending.{IsAscending, paired};
+ghost use Rattle.pat_solve_bounded.specs.replacing.Replacing.{listed_in};
 ghost use Rattle.pat_solve_bounded.specs.Variables.{has_var};
 ghost use Rattle.pat_solve_elimination.specs.Rounds.{IsRebuilt, turn_fits};
 ghost use Rattle.pat_solve_elimination.specs.Growing.{MayGrow};
@@ -15,11 +16,12 @@ use crate::error::RoundError;
 use crate::growing::{has_none, may_grow};
 use crate::occurring::next_place;
 use crate::replacing::{kept, put_one};
+use crate::resolving::resolved;
 use pat_solve_bounded::{Measured, Replacement, replaced};
 use std::alloc::Global;
 
 /// The pattern in which ascending variables are replaced by their values, one after another: a value may have variables that are
-/// replaced after it. Where that is the same, they are replaced all at once.
+/// replaced after it. Where that is the same, they are replaced all at once, by their values or by values resolved from behind.
 pub fn in_turn(
     alloc: Global,
     variables: &[u32],
@@ -34,8 +36,28 @@ pub fn in_turn(
     if may_grow(alloc, variables, values, f)? {
         return at_once(alloc, variables, values, f);
     }
-    let copy = f.copy()?;
-    turns(alloc, variables, values, copy)
+    match resolved(alloc, variables, values, f)? {
+        Some(settled) => by_settled(alloc, variables, settled.as_slice(), f),
+        None => {
+            let copy = f.copy()?;
+            turns(alloc, variables, values, copy)
+        }
+    }
+}
+
+/// The pattern in which the variables are replaced all at once by values that were resolved.
+fn by_settled(
+    alloc: Global,
+    variables: &[u32],
+    settled: &[Measured],
+    f: &Measured,
+) -> Result<Measured, RoundError>
+    requires ascending { IsAscending variables.now }
+    requires as_many { length variables.now ≡ length settled.now }
+    ensures { (vs : Values) → (vs ≡ [] → ⊥) → turn_fits vs (measured_view f.now) ≡ true → subst_of (listed_in (paired variables.now (measured_list settled.now))) (measured_view f.now) ≡ put_in_turn vs (measured_view f.now) → Gives result (turn_fits vs (measured_view f.now)) (put_in_turn vs (measured_view f.now)) }
+{
+    let part = replaced(alloc, &f.pattern, &Replacement::Listed(variables, settled))?;
+    kept(part)
 }
 
 /// So in a pattern that is as the simplifying forms make it: where none of the variables occurs, it stays.
