@@ -1,22 +1,18 @@
 -- Checkpoints that are put together line by line.
 use Rattle.std.proofs.Common.{◌≡◌, ℕ, ◌==◌, Bool, true, false, List, [], ◌∷◌, ◌++◌, length, map, refl, sym, ap, ◌∙◌, subst, arith}
-use Rattle.std.specs.Prelude.{Option, Some, None, Result, Ok, Err, option_map, option_and_then, ◌&&◌, if◌then◌else◌}
+use Rattle.std.specs.Prelude.{Option, Some, None, Result, Err, option_and_then, ◌&&◌, if◌then◌else◌}
 use Rattle.std.proofs.lemmas.Bool.{ne_eqb}
 use Rattle.std.proofs.lemmas.List.{length-map, map_push}
 use Rattle.pat_semantics_spec.specs.Programs.{Program}
 use Rattle.pat_semantics_spec.specs.Configs as configs
-use Rattle.pat_inclusion_spec.specs.Certificates as certificates
-use Rattle.pat_derivations.specs.declared.data.Cert.{Cert}
-use Rattle.pat_reduce.specs.declared.threads.state.Frame.{Frame}
 use Rattle.pat_reduce.specs.declared.threads.state.ThreadState.{ThreadState}
 use Rattle.pat_reduce.specs.declared.threads.state.Message.{Message}
-use Rattle.pat_reduce.specs.threads.ThreadViews.{frame_view, thread_view, message_view}
+use Rattle.pat_reduce.specs.threads.ThreadViews.{thread_view, message_view}
 use Rattle.pat_reduce.specs.Views.{threads_view}
 use Rattle.pat_checkpoint_data.specs.declared.data.PartCerts.{PartCerts}
 use Rattle.pat_checkpoint_data.specs.declared.data.Checkpoint.{Checkpoint}
 use Rattle.pat_checkpoint_data.specs.Views.{end_view, part_certs_view, checkpoint_view}
 use Rattle.pat_texts_spec.proofs.Choices.{passed, skipped}
-use Rattle.pat_checkpoint_spec.specs.Checkpoints as checkpoints
 use Rattle.pat_checkpoint_spec.specs.text.Lines as lines
 use Rattle.pat_checkpoint_spec.specs.text.Lines.{Lines, thread_of, certs_of, checkpoint_of}
 use Rattle.pat_checkpoint_spec.specs.text.LineReading as reading
@@ -26,7 +22,6 @@ use Rattle.pat_derivation_lines.specs.declared.patterns.unread.Unread.TheVariant
 use Rattle.pat_derivation_lines.specs.patterns.Answers.{Gives}
 use Rattle.pat_checkpoint_text.specs.declared.mailboxes.MailboxLine.{MailboxLine}
 use Rattle.pat_checkpoint_text.specs.declared.threads.ThreadLine.{ThreadLine}
-use Rattle.pat_checkpoint_text.specs.declared.threads.FrameLine.{FrameLine}
 use Rattle.pat_checkpoint_text.specs.Views as views
 use Rattle.pat_checkpoint_text.specs.Gathered.{Gathers, Grows, with_mailbox, with_thread}
 use Rattle.pat_checkpoint_text.proofs.Orders.{still_ascends}

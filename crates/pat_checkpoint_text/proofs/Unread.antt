@@ -1,11 +1,11 @@
 -- Where the first line that isn't read begins.
 use Rattle.std.proofs.Common.{◌≡◌, ℕ, ◌+◌, ◌-◌, ◌<◌, List, [], ◌∷◌, length, sym, subst, arith}
-use Rattle.std.specs.Prelude.{Option, Some, None}
+use Rattle.std.specs.Prelude.{Some, None}
 use Rattle.pat_semantics_spec.specs.Programs.{Program}
 use Rattle.pat_texts_spec.specs.Joined.{cut}
 use Rattle.pat_checkpoint_spec.specs.text.Lines.{Lines}
 use Rattle.pat_checkpoint_spec.specs.text.CheckpointText.{marker}
-use Rattle.pat_checkpoint_spec.specs.text.LineReading.{read_next, with_line}
+use Rattle.pat_checkpoint_spec.specs.text.LineReading.{with_line}
 use Rattle.pat_checkpoint_spec.specs.text.Reading.{ReadsTo, NoNext, NoLine, Unread, no_next, no_line}
 
 -- no next numbers

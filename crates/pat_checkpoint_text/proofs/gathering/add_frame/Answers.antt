@@ -2,7 +2,7 @@ use Rattle.std.proofs.Common.{sym, ap, subst}
 use Rattle.std.specs.Prelude.{option_and_then}
 use Rattle.std.proofs.lemmas.Result.{err_from_is_err_and}
 use Rattle.pat_core.specs.Views.{program_view}
-use Rattle.pat_checkpoint_spec.specs.text.LineReading.{read_frame, add_frame, with_frame}
+use Rattle.pat_checkpoint_spec.specs.text.LineReading.{read_frame, add_frame}
 use Rattle.pat_checkpoint_data.specs.declared.data.Checkpoint.{Checkpoint}
 use Rattle.pat_checkpoint_text.specs.Views.{frame_view}
 use Rattle.pat_checkpoint_text.specs.Gathered.{Grows}

@@ -1,4 +1,4 @@
-use Rattle.std.proofs.Common.{refl, sym, ap, map, subst, arith, ℕ, ◌<◌, [], length}
+use Rattle.std.proofs.Common.{refl, sym, ap, map, subst, arith, []}
 use Rattle.pat_reduce.specs.threads.ThreadViews.{message_view}
 use Rattle.pat_reduce.specs.Views.{threads_view}
 use Rattle.pat_checkpoint_data.specs.Views.{end_view, part_certs_view}

@@ -1,5 +1,5 @@
-use Rattle.std.proofs.Common.{◌≡◌, ℕ, length, ap, sym, ◌∙◌, refl, subst, rules, arith}
-use Rattle.std.specs.Prelude.{Result, Ok, Err, Some, slice_get}
+use Rattle.std.proofs.Common.{length, ap, sym, ◌∙◌, refl, subst, rules}
+use Rattle.std.specs.Prelude.{Ok, Err, slice_get}
 use Rattle.std.specs.List.Sorted.{IsBinarySearchResult}
 use Rattle.std.specs.Ordering.{nat_cmp}
 use Rattle.std.proofs.lemmas.Option.{slice_get_read}

@@ -1,5 +1,5 @@
-use Rattle.std.proofs.Common.{◌≡◌, rules, arith, subst}
-use Rattle.std.specs.Prelude.{Some, None}
+use Rattle.std.proofs.Common.{◌≡◌, arith, subst}
+use Rattle.std.specs.Prelude.{Some}
 use Rattle.pat_texts_spec.specs.Joined.{cut}
 use Rattle.pat_texts_spec.proofs.Cutting.{CutInPieces, cut_pieces}
 use Rattle.pat_checkpoint_spec.specs.text.CheckpointText.{marker}

@@ -1,13 +1,13 @@
-use Rattle.std.proofs.Common.{◌≡◌, ◌-◌, length, rules, arith, refl, subst, sym, ap, ◌∙◌, []}
-use Rattle.std.specs.Prelude.{Some, None, Ok, Err}
+use Rattle.std.proofs.Common.{◌≡◌, ◌-◌, length, rules, arith, refl, subst}
+use Rattle.std.specs.Prelude.{Some, None}
 use Rattle.std.proofs.lemmas.Bool.Decides.{nat_tests}
 use Rattle.pat_core.specs.Views.{program_view}
 use Rattle.pat_texts_spec.specs.Joined.{cut}
 use Rattle.pat_texts_spec.proofs.Cutting.{CutInPieces, cut_pieces}
 use Rattle.pat_checkpoint_spec.specs.text.LineReading.{with_line}
-use Rattle.pat_checkpoint_spec.specs.text.Reading.{ReadsTo, another}
+use Rattle.pat_checkpoint_spec.specs.text.Reading.{another}
 use Rattle.pat_checkpoint_text.specs.Gathered.{Grows}
-use Rattle.pat_checkpoint_text.proofs.Grown.{made, unspelled}
+use Rattle.pat_checkpoint_text.proofs.Grown.{unspelled}
 use Rattle.pat_checkpoint_text.proofs.Unread.{unread_line, unread_end}
 use Rattle.pat_checkpoint_text.proofs.reading.read_lines.Goals as goal
 

@@ -1,4 +1,4 @@
-use Rattle.std.proofs.Common.{◌≡◌, ◌<◌, ◌+◌, length}
+use Rattle.std.proofs.Common.{◌<◌, ◌+◌, length}
 use Rattle.pat_core.specs.Views.{program_view}
 use Rattle.pat_checkpoint_text.specs.Gathered.{IsReadTo}
 use Rattle.pat_checkpoint_text.proofs.reading.read_lines.Given as goal
