@@ -1,10 +1,10 @@
 -- The shared step of a turn, and the mailbox that it makes.
-use Rattle.std.proofs.Common.{◌≡◌, ℕ, List, [], ◌∷◌, ◌++◌, length, get_or, Option, Some, None, refl, sym, ap, ◌∙◌, subst, append-nil, IsTrue, IsFalse}
+use Rattle.std.proofs.Common.{◌≡◌, ℕ, List, [], ◌∷◌, ◌++◌, length, get_or, Some, None, refl, sym, ap, ◌∙◌, subst, append-nil, IsFalse}
 use Rattle.std.specs.Prelude.{option_map, unwrap_or}
 use Rattle.pat_semantics_spec.specs.Programs.{Program, option_list}
 use Rattle.pat_semantics_spec.specs.Configs.{Config, thread_at}
-use Rattle.pat_semantics_spec.specs.Steps.{Act, ActReceive, Step, step}
-use Rattle.pat_semantics_spec.specs.Runs.{can_step_thread, shared_step}
+use Rattle.pat_semantics_spec.specs.Steps.{Act, Step, step}
+use Rattle.pat_semantics_spec.specs.Runs.{can_step_thread}
 use Rattle.pat_type_system_spec.specs.Interfaces.{made_by}
 use Rattle.std.proofs.lemmas.Option.{slice_get_read}
 use Rattle.pat_reduce.specs.declared.threads.state.ThreadState.{ThreadState}
@@ -14,7 +14,6 @@ use Rattle.pat_reduce.specs.Views.{config_view}
 use Rattle.pat_reduce.specs.Places.{IsPlace}
 use Rattle.pat_reduce.specs.Acts.{IsFirst}
 use Rattle.pat_checkpoint_spec.specs.Resumed.{made_along}
-use Rattle.pat_checkpoint_spec.specs.Turns.{first_act, after_act}
 use Rattle.pat_checkpoint_laws.specs.resuming.Laws.{ActIsFirst}
 use Rattle.pat_checkpoint_run.specs.Courses.{Shares}
 

@@ -1,11 +1,11 @@
 -- Local steps in the place of a thread.
-use Rattle.std.proofs.Common.{◌≡◌, ℕ, ◌<◌, nat_eq, List, length, Some, refl, sym, ap, ◌∙◌, subst, get_or, Result, Ok, Err, IfOk}
+use Rattle.std.proofs.Common.{◌≡◌, ℕ, ◌<◌, Some, sym, ap, ◌∙◌, subst, get_or, Result, Ok, Err, IfOk}
 use Rattle.std.specs.Prelude.{slice_get, slice_set}
-use Rattle.std.specs.Map.{keys_of, lookup}
+use Rattle.std.specs.Map.{keys_of}
 use Rattle.std.proofs.lemmas.List.{length-set, get_or-set_same}
 use Rattle.std.proofs.lemmas.Option.{slice_get-get_or}
 use Rattle.pat_semantics_spec.specs.Programs.{Program}
-use Rattle.pat_semantics_spec.specs.Configs.{Thread, Config, with_thread}
+use Rattle.pat_semantics_spec.specs.Configs.{with_thread}
 use Rattle.pat_semantics_spec.specs.Orders.{AscendsFrom, IsOrdered}
 use Rattle.pat_semantics_laws.proofs.Ascending.{keys_of-set}
 use Rattle.pat_machine_spec.specs.Commits.{IsLocalRun}

@@ -1,10 +1,10 @@
 -- What the turns from a checkpoint give is a run that goes on from it.
-use Rattle.std.proofs.Common.{◌≡◌, ℕ, List, [], ◌∷◌, map, Option, Some, None, refl, sym, ap, ap₂, ◌∙◌, subst}
+use Rattle.std.proofs.Common.{◌≡◌, ℕ, List, [], ◌∷◌, map, Some, None, refl, sym, ap, ap₂, ◌∙◌, subst}
 use Rattle.pat_semantics_spec.specs.Programs.{Program}
 use Rattle.pat_semantics_spec.specs.WellFormed.{WellFormed}
 use Rattle.pat_semantics_spec.specs.Configs.{Config}
-use Rattle.pat_semantics_spec.specs.Orders.{AscendsFrom, IsOrdered}
-use Rattle.pat_semantics_spec.specs.Runs.{Entry, replay_from, run_from, Outcome, outcome}
+use Rattle.pat_semantics_spec.specs.Orders.{IsOrdered}
+use Rattle.pat_semantics_spec.specs.Runs.{Entry, replay_from, Outcome, outcome}
 use Rattle.pat_semantics_laws.specs.Laws.{history_steps}
 use Rattle.pat_semantics_laws.proofs.Replays.{replay_runs}
 use Rattle.pat_type_system_spec.specs.Interfaces.{interfaces_along}

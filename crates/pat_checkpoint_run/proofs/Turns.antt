@@ -1,18 +1,18 @@
 -- One turn.
-use Rattle.std.proofs.Common.{◌≡◌, ℕ, zero, suc, ◌+◌, ◌-◌, ◌<◌, ◌≤◌, true, false, nat_lt, if◌then◌else◌, List, [], ◌∷◌, ◌++◌, length, map, Option, Some, None, refl, sym, ap, ◌∙◌, subst, arith, length-append, append-nil, ⊎_elim, Result, Ok, Err, OnOk}
+use Rattle.std.proofs.Common.{◌≡◌, ℕ, zero, suc, ◌+◌, ◌-◌, ◌<◌, ◌≤◌, nat_lt, if◌then◌else◌, List, [], ◌∷◌, ◌++◌, length, map, Option, Some, None, refl, sym, ap, ◌∙◌, subst, arith, length-append, append-nil, ⊎_elim, Result, Ok, Err, OnOk}
 use Rattle.std.specs.Prelude.{min, replicate, option_map, unwrap_or}
 use Rattle.std.proofs.lemmas.Bool.{cond-true, cond-false, cases_lt, lt-ltb, ltb-true, false_from_ne_true}
 use Rattle.std.proofs.lemmas.List.{length-replicate}
 use Rattle.pat_semantics_spec.specs.Programs.{Program}
 use Rattle.pat_semantics_spec.specs.Configs.{Thread, Config, thread_at, with_thread}
 use Rattle.pat_semantics_spec.specs.Steps.{Act, Step, step}
-use Rattle.pat_semantics_spec.specs.Runs.{Entry, shared_step, entry_steps, run_from}
+use Rattle.pat_semantics_spec.specs.Runs.{shared_step, entry_steps}
 use Rattle.pat_machine_spec.specs.Commits.{local_of, IsLocalRun}
 use Rattle.pat_machine_laws.proofs.Locals.{locals_run}
 use Rattle.pat_reduce.specs.declared.config.Config.{Config as CodeConfig}
 use Rattle.pat_reduce.specs.Views.{config_view, entry_view}
 use Rattle.pat_checkpoint_spec.specs.Resumed.{made_along}
-use Rattle.pat_checkpoint_spec.specs.Turns.{Locals, take_locals, first_act, after_act, Turn, turn_with, turn_by, turn_of, turn_at}
+use Rattle.pat_checkpoint_spec.specs.Turns.{first_act, after_act, Turn, turn_with, turn_by, turn_of, turn_at}
 use Rattle.pat_checkpoint_laws.specs.resuming.Laws.{LocalsAre, MadeJoins}
 use Rattle.pat_checkpoint_run.specs.declared.course.Course.{Course}
 use Rattle.pat_checkpoint_run.specs.declared.next.Turn.{Turn as CodeTurn}

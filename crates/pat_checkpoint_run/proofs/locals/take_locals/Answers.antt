@@ -1,5 +1,3 @@
-use Rattle.std.proofs.Common.{subst}
-use Rattle.std.specs.Prelude.{IfOk}
 use Rattle.pat_core.specs.Views.{program_view}
 use Rattle.pat_checkpoint_run.proofs.LocalsTaken.{taken_if_ok}
 use Rattle.pat_checkpoint_run.proofs.locals.take_locals.Goals as goal

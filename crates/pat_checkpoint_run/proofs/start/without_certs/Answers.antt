@@ -1,6 +1,4 @@
-use Rattle.std.proofs.Common.{None, ap}
-use Rattle.pat_checkpoint_data.specs.declared.data.PartCerts.{PartCerts}
-use Rattle.pat_checkpoint_data.specs.Views.{part_certs_view}
+use Rattle.std.proofs.Common.{None}
 use Rattle.pat_checkpoint_run.proofs.Starts.{one_more}
 use Rattle.pat_checkpoint_run.proofs.start.without_certs.Goals as goal
 
