@@ -1,4 +1,4 @@
-// A valid derivation gives a typing; and what the first bad number says. No code of the product.
+//! A valid derivation gives a typing; and what the first bad number says. No code of the product.
 #![tactic(auto)]
 
 ghost use Rattle.pat_derivation_laws.specs.Laws.{ValidGivesTyping, ValidHolds, TrueGivesTyping, ValidGivesTypable, ValidIsNoneBad, FirstBadIs, ScopeOfBody, ScopeOfPart, EmptyReads, AliasReads, PayloadReads, CoversReads, CertReads, TestedLaw};

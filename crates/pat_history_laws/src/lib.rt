@@ -1,5 +1,5 @@
-// That the text of a history is read as this history, that what a text is read as has this text, and that each text has one history,
-// or one first line that isn't read. No code of the product.
+//! That the text of a history is read as this history, that what a text is read as has this text, and that each text has one history,
+//! or one first line that isn't read. No code of the product.
 #![tactic(auto)]
 
 ghost use Rattle.pat_history_laws.specs.Laws.{ReadIsText, ReadIsReadable, TextIsRead, ReadOrUnread, ReadingIsOne, UnreadIsOne, UnreadIsNotRead, UnreadIsFirst};

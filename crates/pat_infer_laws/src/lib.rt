@@ -1,4 +1,4 @@
-// Inference against typings: laws. No code of the product.
+//! Inference against typings: laws. No code of the product.
 #![tactic(auto)]
 
 ghost use Rattle.pat_infer_spec.specs.Laws.{BrokenIsUntypable, TypingSolves, TypableIsSolved, SolutionTypes, TypableExactly, LeastSolves};

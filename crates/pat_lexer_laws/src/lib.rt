@@ -1,4 +1,4 @@
-// Laws of how a text divides into tokens. No code of the product.
+//! Laws of how a text divides into tokens. No code of the product.
 #![tactic(auto)]
 
 ghost use Rattle.std.specs.Prelude.{ℕ, List};

@@ -1,4 +1,4 @@
-// Laws of the grammar: the machine reads exactly what the grammar spells, and refuses exactly where it must. No code of the product.
+//! Laws of the grammar: the machine reads exactly what the grammar spells, and refuses exactly where it must. No code of the product.
 #![tactic(auto)]
 
 ghost use Rattle.std.specs.Prelude.{◌≡◌, ◌≤◌, ◌*◌, ℕ, List, length};

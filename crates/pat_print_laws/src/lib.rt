@@ -1,4 +1,4 @@
-// Laws of the canonical text: its tokens spell the tree again, and its bytes divide into these tokens. No code of the product.
+//! Laws of the canonical text: its tokens spell the tree again, and its bytes divide into these tokens. No code of the product.
 #![tactic(auto)]
 
 ghost use Rattle.std.specs.Prelude.{◌≡◌, List, ℕ};

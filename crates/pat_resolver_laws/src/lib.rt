@@ -1,4 +1,4 @@
-// Laws of names and kinds, and examples of each refusal. No code of the product.
+//! Laws of names and kinds, and examples of each refusal. No code of the product.
 #![tactic(auto)]
 
 ghost use Rattle.std.specs.Prelude.{◌≡◌, [], ◌++◌};

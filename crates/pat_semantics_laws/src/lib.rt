@@ -1,4 +1,4 @@
-// Laws of programs, steps, runs and outcomes. No code of the product.
+//! Laws of programs, steps, runs and outcomes. No code of the product.
 #![tactic(auto)]
 
 ghost use Rattle.pat_semantics_laws.specs.Laws.{ThreadTestIsExact, StepTestIsExact, OtherTestIsExact, OutcomeIsExact, RunsJoin, ReplaysJoin, ReplayIsRun, FreeUnfolds};

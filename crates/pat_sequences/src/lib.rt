@@ -1,4 +1,4 @@
-// Vectors, stacks and texts that contracts see as lists.
+//! Vectors, stacks and texts that contracts see as lists.
 #![tactic(auto)]
 
 mod base;

@@ -1,4 +1,4 @@
-// What is solved is valid, and what is refuted can't be typed. No code of the product.
+//! What is solved is valid, and what is refuted can't be typed. No code of the product.
 #![tactic(auto)]
 
 ghost use Rattle.pat_solve_spec.specs.Laws.{NeededListed, NeededShown, DerivedIsValid, ShownIsTypable, RefutedIsUntypable, LargeIsUntypable, InterfacesApart, InterfacesThere, UndecidedSays, SolvedShows, SolvedIsValid, SolvedExactly, OneAnswer};

@@ -1,4 +1,4 @@
-// Spans, reserved words, marks and tokens.
+//! Spans, reserved words, marks and tokens.
 #![tactic(auto)]
 
 mod mark;

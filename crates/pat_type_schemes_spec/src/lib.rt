@@ -1,2 +1,2 @@
-// Types with variables in their patterns, and the variables of signatures: definitions. No code of the product.
+//! Types with variables in their patterns, and the variables of signatures: definitions. No code of the product.
 #![tactic(auto)]

@@ -1,4 +1,4 @@
-// Laws of typings alone: what fits, and what the environments of a typing name. No code of the product.
+//! Laws of typings alone: what fits, and what the environments of a typing name. No code of the product.
 #![tactic(auto)]
 
 ghost use Rattle.pat_type_system_laws.specs.Laws.{FitsTwice, PassesTwice, TypeFitsTwice, FittingHasKind, FreeIsNamed, UnusedMayBeDropped, BoundIsUnnamed};

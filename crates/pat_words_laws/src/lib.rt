@@ -1,4 +1,4 @@
-// Laws of words and patterns. No code of the product.
+//! Laws of words and patterns. No code of the product.
 #![tactic(auto)]
 
 ghost use Rattle.pat_words_spec.specs.Patterns.{ResidualLaw, NullableLaw, InhabitedLaw, CoversLaw};
