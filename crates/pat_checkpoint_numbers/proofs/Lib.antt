@@ -1,0 +1,4 @@
+mod Halved
+mod Changed
+mod News
+mod Reversed
