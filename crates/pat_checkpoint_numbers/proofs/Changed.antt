@@ -24,6 +24,10 @@ zero_beside (x ∷ xs) (k ∷ ks) b h =
       | false ↦ zero_beside xs ks b both.1
     ])
 
+-- and none of them is the number of the first turn
+pub zero_unmarked : (live is : List ℕ) (b : ℕ) → are_zero is ≡ true → nat_eq (interface_at live is b) 1 ≡ false
+zero_unmarked live is b h = ap (λ k. nat_eq k 1) (zero_beside live is b h)
+
 over : (xs : List ℕ) (m j a : ℕ) → ascends m xs ≡ true → slice_get xs j ≡ Some a → m ≤ a
 over [] m j a up h = cc
 over (x ∷ xs) m zero a up h = let same : x ≡ a = cc in let low : m ≤ x = leb-true m x (and_parts (nat_le m x) (ascends (suc x) xs) up).0 in omega arith

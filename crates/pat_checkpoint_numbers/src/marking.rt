@@ -15,6 +15,7 @@ impl<'a> Marks<'a> {
     pub fn new(alloc: Global, live: &'a [u32]) -> Result<Self, AllocError>
         requires { IsTrue (ascends 0 live.now) }
         ensures live { IfOk result (λ marks. marks.live.now ≡ live.now) }
+        ensures none { IfOk result (λ marks. (b : ℕ) → is_marked_by marks b ≡ false) }
     {
         let mut turns = Sequence::new(alloc);
         for _ in live {
@@ -23,11 +24,11 @@ impl<'a> Marks<'a> {
         Ok(Marks {
             live,
             turns,
-            turn: 0,
+            turn: 1,
         })
     }
 
-    /// Takes away all marks.
+    /// Takes away all marks. Want of memory stands for the end of the numbers of turns as well.
     pub fn clear(&mut self) -> Result<(), AllocError>
         ensures live { self.new.live.now ≡ self.old.live.now }
         ensures none { OnOk result ((b : ℕ) → is_marked_by self.new b ≡ false) }

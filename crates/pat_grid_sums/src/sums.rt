@@ -13,8 +13,8 @@ use crate::shape::{Shape, shape_of};
 use pat_sequences::Sequence;
 use std::alloc::{AllocError, Global};
 
-/// The numbers of the sums of a point of the one list with one of the other, each once and ascending. It takes time in proportion to
-/// the points of the first list and the number of points, by words.
+/// The numbers of the sums of a point of the one list with one of the other. It takes time in proportion to the points of the first list
+/// and all points, by words; where `k` is 64 or more a word has one point alone.
 pub fn list_sums(
     alloc: Global,
     firsts: &[usize],
