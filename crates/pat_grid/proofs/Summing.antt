@@ -1,0 +1,69 @@
+-- What is reached by sums of sets.
+use Rattle.std.proofs.Common.{◌≡◌, ℕ, suc, ◌+◌, ◌*◌, ◌<◌, ◌≤◌, min, ◌⊎◌, inl, inr, ⊎_elim, Bool, true, false, List, length, get_or, refl, sym, ap, ap₂, ◌∙◌, subst, arith}
+use Rattle.std.proofs.lemmas.Bool.{cases_lt}
+use Rattle.pat_inclusion_spec.specs.bounds.Tables.{Setting, IsKnown, Step, capped}
+use Rattle.pat_inclusion_spec.specs.bounds.Numbers.{points_in, point_of, table_of}
+use Rattle.pat_grid_points.specs.Views.{summed}
+use Rattle.pat_grid_points.proofs.Digits.{summed_below}
+use Rattle.pat_grid.specs.declared.tables.sizes.Sizes.{Sizes}
+use Rattle.pat_grid.specs.tables.Moves.{entry_at, Among, Moved, Lowers, TakesParts, AreOthers, PairAt, RowsBefore, KeepsKnown, AreKnown, WithinAt, RowWithin, RowsWithin, HasSums}
+use Rattle.pat_grid.proofs.Relaxing.{pair_step, pair_kept}
+
+pub keeps_none : (g : Setting) (x : List ℕ) → KeepsKnown g x x
+keeps_none g x a c l k = refl
+
+pub keeps_both : (g : Setting) (x y z : List ℕ) → KeepsKnown g x y → KeepsKnown g y z → KeepsKnown g x z
+keeps_both g x y z first second a c l k =
+    let e = first a c l k in
+    second a c l (subst (IsKnown g.limit) (sym e) k) ∙ e
+
+-- two parts that give only larger trees than the limit
+pub large_step : (g : Setting) (s a b v w : ℕ) (entries : List ℕ) → TakesParts g s a b v → v < points_in g.bound g.tags → w < points_in g.bound g.tags → IsKnown g.limit (entry_at g entries a v) → IsKnown g.limit (entry_at g entries b w) → g.limit ≤ entry_at g entries a v + entry_at g entries b w → Step g (table_of g entries) s (point_of g.bound g.tags (summed g.bound g.tags v w)) (g.limit + 1)
+large_step g s a b v w entries takes lv lw kv kw large =
+    takes (table_of g entries) (point_of g.bound g.tags w) (point_of g.bound g.tags (summed g.bound g.tags v w)) (g.limit + 1)
+    (pair_step g entries a b v w (entry_at g entries a v) (entry_at g entries b w) (summed g.bound g.tags v w) (g.limit + 1) lv lw refl refl (omega arith) (omega arith) refl (omega arith))
+
+-- where a sum has no tree yet, its parts give only larger ones
+pub sum_step : (g : Setting) (s a b v w c : ℕ) (x y : List ℕ) → TakesParts g s a b v → v < points_in g.bound g.tags → w < points_in g.bound g.tags → IsKnown g.limit (entry_at g x a v) → IsKnown g.limit (entry_at g x b w) → WithinAt g s a b v w x → KeepsKnown g x y → c ≡ summed g.bound g.tags v w → g.limit + 1 < entry_at g y s c → Step g (table_of g y) s (point_of g.bound g.tags c) (g.limit + 1)
+sum_step g s a b v w c x y takes lv lw kv kw within keeps is none =
+    let ev = keeps a v lv kv in
+    let ew = keeps b w lw kw in
+    let sum = summed g.bound g.tags v w in
+    ⊎_elim
+    (λ (small : entry_at g x a v + entry_at g x b w < g.limit).
+    let less = within small kv kw in
+    let known : IsKnown g.limit (entry_at g x s sum) = omega arith in
+    let same = keeps s sum (summed_below g.bound g.tags v w) known in
+    let at = ap (entry_at g y s) is in
+    absurd (omega arith))
+    (λ (large : g.limit ≤ entry_at g x a v + entry_at g x b w).
+    subst (λ i. Step g (table_of g y) s (point_of g.bound g.tags i) (g.limit + 1)) (sym is)
+    (large_step g s a b v w y takes lv lw (omega arith) (omega arith) (omega arith)))
+    (cases_lt (entry_at g x a v + entry_at g x b w) g.limit)
+
+-- pairs within the limit, and all sums
+pub pair_from : (g : Setting) (s a b v w : ℕ) (entries : List ℕ) → WithinAt g s a b v w entries → IsKnown g.limit (entry_at g entries s (summed g.bound g.tags v w)) → PairAt g s a b v w entries
+pair_from g s a b v w entries within known ka kb =
+    ⊎_elim
+    (λ (small : entry_at g entries a v + entry_at g entries b w < g.limit). within small ka kb)
+    (λ (large : g.limit ≤ entry_at g entries a v + entry_at g entries b w). omega arith)
+    (cases_lt (entry_at g entries a v + entry_at g entries b w) g.limit)
+
+pub rows_from : (g : Setting) (s a b : ℕ) (firsts seconds entries : List ℕ) → RowsWithin g s a b firsts seconds (length firsts) entries → HasSums g s firsts seconds entries → RowsBefore g s a b firsts seconds (length firsts) entries
+rows_from g s a b firsts seconds entries within sums i l j m =
+    pair_from g s a b (get_or firsts i 0) (get_or seconds j 0) entries (within i l j m) (sums i j l m)
+
+-- what is claimed is kept where the row of s falls and the parts are apart
+pub within_kept : (g : Setting) (s a b v w : ℕ) (y z : List ℕ) → v < points_in g.bound g.tags → w < points_in g.bound g.tags → AreOthers a b s → Lowers g s y z → WithinAt g s a b v w y → WithinAt g s a b v w z
+within_kept g s a b v w y z lv lw d m h small =
+    let one = m.elsewhere a v d.0 lv in
+    let other = m.elsewhere b w d.1 lw in
+    pair_kept g s a b v w y z lv lw d m (h (omega arith))
+
+pub row_within_kept : (g : Setting) (s a b v m : ℕ) (seconds y z : List ℕ) → v < points_in g.bound g.tags → ((j : ℕ) → j < m → get_or seconds j 0 < points_in g.bound g.tags) → AreOthers a b s → Lowers g s y z → RowWithin g s a b v seconds m y → RowWithin g s a b v seconds m z
+row_within_kept g s a b v m seconds y z lv ls d lowers h j k =
+    within_kept g s a b v (get_or seconds j 0) y z lv (ls j k) d lowers (h j k)
+
+pub rows_within_kept : (g : Setting) (s a b m : ℕ) (firsts seconds y z : List ℕ) → ((i : ℕ) → i < m → get_or firsts i 0 < points_in g.bound g.tags) → ((j : ℕ) → j < length seconds → get_or seconds j 0 < points_in g.bound g.tags) → AreOthers a b s → Lowers g s y z → RowsWithin g s a b firsts seconds m y → RowsWithin g s a b firsts seconds m z
+rows_within_kept g s a b m firsts seconds y z lf ls d lowers h i k =
+    row_within_kept g s a b (get_or firsts i 0) (length seconds) seconds y z (lf i k) ls d lowers (h i k)

@@ -1,0 +1,6 @@
+use Rattle.pat_grid_sums.specs.Sets.{Puts, AnyBefore, IsAdded}
+use Rattle.pat_grid_sums.proofs.sums.add_word.Given as goal
+
+abbrev pub invariant-loop-bit : goal.invariant-loop-bit
+invariant-loop-bit l =
+    Puts (AnyBefore (IsAdded l.ones l.word l.moved l.row) l.bit) l.initial.sums l.sums

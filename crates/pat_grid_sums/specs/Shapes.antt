@@ -1,0 +1,45 @@
+-- How the points of a grid are divided, and their sums.
+use Rattle.std.specs.Prelude.{◌≡◌, ℕ, ◌+◌, ◌<◌, ◌≤◌, List, [], length, get_or}
+use Rattle.pat_inclusion_spec.specs.bounds.Numbers.{points_in}
+use Rattle.pat_grid_points.specs.Views.{summed}
+use Rattle.pat_limits.specs.Limits.{most_points}
+use Rattle.pat_grid_sums.specs.declared.shape.Shape.{Shape}
+use Rattle.pat_grid_sums.specs.Sets.{In, Puts, AnyBefore}
+
+-- the first tags' points number the words, and those of the last tags the places in a word
+pub record IsShape (k n : ℕ) (s : Shape) : Type 0 where
+  pub bound : s.k ≡ k
+  pub tags : s.high + s.low ≡ n
+  pub words : s.words ≡ points_in k s.high
+  pub width : s.width ≡ points_in k s.low
+  pub room : s.width ≤ 64
+  pub few : points_in k n ≤ most_points
+
+-- the sums of the point with the first c points
+abbrev pub RowTo : ℕ → ℕ → ℕ → ℕ → List ℕ → Type 0
+RowTo k n v c row = (length row ≡ c) × ((w : ℕ) → w < c → get_or row w 0 ≡ summed k n v w)
+
+-- the sums of the point with each point
+abbrev pub IsRow : ℕ → ℕ → ℕ → List ℕ → Type 0
+IsRow k n v row = RowTo k n v (points_in k n) row
+
+-- in each word the bits are moved by the place
+abbrev pub IsSum : List ℕ → Shape → ℕ → ℕ → ℕ → Type 0
+IsSum others s l h q = (p : ℕ) × (p < s.width) × (h < length others) × In others h p × (q ≡ summed s.k s.low l p)
+
+-- the words have just these bits
+pub record Has (P : ℕ → ℕ → Type 0) (count : ℕ) (words : List ℕ) : Type 0 where
+  pub as_many : length words ≡ count
+  pub put : (h q : ℕ) → P h q → In words h q
+  pub only : (h q : ℕ) → In words h q → P h q
+
+-- for each place of a word the bits moved by it, if one of the words has the place
+pub record AreMoved (ones others : List ℕ) (s : Shape) (m : ℕ) (all : List (List ℕ)) : Type 0 where
+  pub as_many : length all ≡ m
+  pub as_long : (l : ℕ) → l < m → length (get_or all l []) ≡ length others
+  pub moved : (l h : ℕ) → l < m → h < length ones → In ones h l → Has (IsSum others s l) (length others) (get_or all l [])
+
+-- sums of a point of the word with those that were moved by its place
+abbrev pub IsRowSum : List ℕ → List (List ℕ) → Shape → ℕ → ℕ → ℕ → Type 0
+IsRowSum ones moved s i h q =
+    (l w : ℕ) × (l < length moved) × In ones i l × (w < s.words) × (h ≡ summed s.k s.high i w) × In (get_or moved l []) w q

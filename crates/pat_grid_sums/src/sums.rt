@@ -1,0 +1,128 @@
+// Sums of sets of points.
+
+ghost use Rattle.std.specs.Prelude.{◌≡◌, ◌<◌, ◌≤◌, ℕ, [], length, get_or, IfOk, OnOk, IsTrue};
+ghost use Rattle.pat_inclusion_spec.specs.Points.{grid_fits};
+ghost use Rattle.pat_inclusion_spec.specs.bounds.Numbers.{points_in};
+ghost use Rattle.pat_grid_points.specs.Views.{summed};
+ghost use Rattle.pat_grid_sums.specs.Sets.{In, Puts, AnyBefore, IsListed, AtNumber, IsJoined, IsAdded};
+ghost use Rattle.pat_grid_sums.specs.Shapes.{IsShape, Has, IsRowSum};
+
+use crate::bits::{has, join, list_all, no_bits, put_all};
+use crate::moving::moved_by_each;
+use crate::rows::row_of;
+use crate::shape::{Shape, shape_of};
+use pat_sequences::Sequence;
+use std::alloc::{AllocError, Global};
+
+/// The numbers of the sums of a point of the one list with one of the other, each once and ascending. It takes time in proportion to
+/// the points of the first list and the number of points, by words.
+pub fn list_sums(
+    alloc: Global,
+    firsts: &[usize],
+    seconds: &[usize],
+    k: u32,
+    tags: u8,
+) -> Result<Sequence<usize>, AllocError>
+    requires fits { IsTrue (grid_fits k tags) }
+    requires firsts { (i : ℕ) → i < length firsts.now → get_or firsts.now i 0 < points_in k tags }
+    requires seconds { (j : ℕ) → j < length seconds.now → get_or seconds.now j 0 < points_in k tags }
+    ensures within { IfOk result (λ numbers. (t : ℕ) → t < length numbers → get_or numbers t 0 < points_in k tags) }
+    ensures only { IfOk result (λ numbers. (t : ℕ) → t < length numbers → (i j : ℕ) × (i < length firsts.now) × (j < length seconds.now) × (get_or numbers t 0 ≡ summed k tags (get_or firsts.now i 0) (get_or seconds.now j 0))) }
+    ensures all { IfOk result (λ numbers. (i j : ℕ) → i < length firsts.now → j < length seconds.now → IsListed (summed k tags (get_or firsts.now i 0) (get_or seconds.now j 0)) numbers) }
+{
+    let shape = shape_of(k, tags);
+    let ones = set_of(alloc, firsts, shape)?;
+    let others = set_of(alloc, seconds, shape)?;
+    let moved = moved_by_each(alloc, ones.as_slice(), others.as_slice(), shape)?;
+    let sums = sums_of(alloc, ones.as_slice(), moved.as_slice(), shape)?;
+    list_all(alloc, sums.as_slice(), shape.words * shape.width, shape.width)
+}
+
+/// The set of the points with these numbers.
+fn set_of(alloc: Global, numbers: &[usize], shape: Shape) -> Result<Sequence<u64>, AllocError>
+    requires shape { (n : ℕ) × IsShape shape.k n shape }
+    requires numbers { (i : ℕ) → i < length numbers.now → get_or numbers.now i 0 / shape.width < shape.words }
+    ensures { IfOk result (Has (AnyBefore (AtNumber numbers.now shape.width) (length numbers.now)) shape.words) }
+{
+    let mut words = no_bits(alloc, shape.words)?;
+    put_all(&mut words, numbers, shape.width);
+    Ok(words)
+}
+
+/// The sums of the points of the set with those that were moved by each place.
+fn sums_of(
+    alloc: Global,
+    ones: &[u64],
+    moved: &[Sequence<u64>],
+    shape: Shape,
+) -> Result<Sequence<u64>, AllocError>
+    requires shape { (n : ℕ) × IsShape shape.k n shape }
+    requires few { length moved.now ≤ 64 }
+    requires moved { (l : ℕ) → l < length moved.now → length (get_or moved.now l []) ≡ shape.words }
+    ensures { IfOk result (Has (AnyBefore (IsRowSum ones.now moved.now shape) (length ones.now)) shape.words) }
+{
+    let mut sums = no_bits(alloc, shape.words)?;
+    for word in 0..ones.len() {
+        add_row(alloc, ones, word, moved, shape, &mut sums)?;
+    }
+    Ok(sums)
+}
+
+/// Adds those of the points of one word.
+fn add_row(
+    alloc: Global,
+    ones: &[u64],
+    word: usize,
+    moved: &[Sequence<u64>],
+    shape: Shape,
+    sums: &mut Sequence<u64>,
+) -> Result<(), AllocError>
+    requires shape { (n : ℕ) × IsShape shape.k n shape }
+    requires word { word < length ones.now }
+    requires few { length moved.now ≤ 64 }
+    requires moved { (l : ℕ) → l < length moved.now → length (get_or moved.now l []) ≡ shape.words }
+    requires long { length sums.old ≡ shape.words }
+    ensures { OnOk result (Puts (IsRowSum ones.now moved.now shape word) sums.old sums.new) }
+{
+    if ones[word] == 0 {
+        return Ok(());
+    }
+    let row = row_of(alloc, word, shape.k, shape.high)?;
+    add_word(ones, word, moved, row.as_slice(), sums);
+    Ok(())
+}
+
+/// The sums of the points of one word.
+fn add_word(ones: &[u64], word: usize, moved: &[Sequence<u64>], row: &[usize], sums: &mut Sequence<u64>)
+    requires word { word < length ones.now }
+    requires few { length moved.now ≤ 64 }
+    requires moved { (l : ℕ) → l < length moved.now → length (get_or moved.now l []) ≡ length row.now }
+    requires row { (w : ℕ) → w < length row.now → get_or row.now w 0 < length sums.old }
+    ensures { Puts (AnyBefore (IsAdded ones.now word moved.now row.now) (length moved.now)) sums.old sums.new }
+{
+    for bit in 0..moved.len() {
+        add_if(has(ones, word, bit), moved[bit].as_slice(), row, sums);
+    }
+}
+
+/// Puts each word in where the row says, if it is asked for.
+fn add_if(wanted: bool, moved: &[u64], row: &[usize], sums: &mut Sequence<u64>)
+    requires long { length moved.now ≡ length row.now }
+    requires row { (w : ℕ) → w < length row.now → get_or row.now w 0 < length sums.old }
+    ensures { Puts (λ h q. IsTrue wanted × AnyBefore (IsJoined moved.now row.now) (length row.now) h q) sums.old sums.new }
+{
+    if wanted {
+        add_moved(moved, row, sums);
+    }
+}
+
+/// Puts each word in where the row says.
+fn add_moved(moved: &[u64], row: &[usize], sums: &mut Sequence<u64>)
+    requires long { length moved.now ≡ length row.now }
+    requires row { (w : ℕ) → w < length row.now → get_or row.now w 0 < length sums.old }
+    ensures { Puts (AnyBefore (IsJoined moved.now row.now) (length row.now)) sums.old sums.new }
+{
+    for word in 0..row.len() {
+        join(sums, row[word], moved[word]);
+    }
+}
