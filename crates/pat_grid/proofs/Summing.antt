@@ -1,13 +1,16 @@
 -- What is reached by sums of sets.
-use Rattle.std.proofs.Common.{◌≡◌, ℕ, suc, ◌+◌, ◌*◌, ◌<◌, ◌≤◌, min, ◌⊎◌, inl, inr, ⊎_elim, Bool, true, false, List, length, get_or, refl, sym, ap, ap₂, ◌∙◌, subst, arith}
-use Rattle.std.proofs.lemmas.Bool.{cases_lt}
+use Rattle.std.proofs.Common.{◌≡◌, ℕ, suc, ◌+◌, ◌*◌, ◌<◌, ◌≤◌, min, ◌⊎◌, inl, inr, ⊎_elim, Bool, true, false, List, length, get_or, set, refl, sym, ap, ap₂, ◌∙◌, subst, arith}
+use Rattle.std.proofs.lemmas.Bool.{cases_lt, cases_eq}
+use Rattle.std.proofs.lemmas.List.{get_or_default}
 use Rattle.pat_inclusion_spec.specs.bounds.Tables.{Setting, IsKnown, Step, capped}
-use Rattle.pat_inclusion_spec.specs.bounds.Numbers.{points_in, point_of, table_of}
+use Rattle.pat_inclusion_spec.specs.bounds.Numbers.{points_in, point_of, table_of, unknown, HasAllEntries}
 use Rattle.pat_grid_points.specs.Views.{summed}
 use Rattle.pat_grid_points.proofs.Digits.{summed_below}
 use Rattle.pat_grid.specs.declared.tables.sizes.Sizes.{Sizes}
-use Rattle.pat_grid.specs.tables.Moves.{entry_at, Among, Moved, Lowers, TakesParts, AreOthers, PairAt, RowsBefore, KeepsKnown, AreKnown, WithinAt, RowWithin, RowsWithin, HasSums}
-use Rattle.pat_grid.proofs.Relaxing.{pair_step, pair_kept}
+use Rattle.pat_grid.specs.tables.Moves.{entry_at, IsPlace, Among, Moved, Lowers, TakesParts, AreOthers, PairAt, RowsBefore, KeepsKnown, AreKnown, WithinAt, RowWithin, RowsWithin, HasSums}
+use Rattle.pat_grid.specs.declared.tables.board.Board.{Board}
+use Rattle.pat_grid.specs.tables.Views.{setting_of, IsBoard}
+use Rattle.pat_grid.proofs.Relaxing.{entry_other, entry_within, symbol_within, pair_step, pair_kept}
 
 pub keeps_none : (g : Setting) (x : List ℕ) → KeepsKnown g x x
 keeps_none g x a c l k = refl
@@ -67,3 +70,28 @@ row_within_kept g s a b v m seconds y z lv ls d lowers h j k =
 pub rows_within_kept : (g : Setting) (s a b m : ℕ) (firsts seconds y z : List ℕ) → ((i : ℕ) → i < m → get_or firsts i 0 < points_in g.bound g.tags) → ((j : ℕ) → j < length seconds → get_or seconds j 0 < points_in g.bound g.tags) → AreOthers a b s → Lowers g s y z → RowsWithin g s a b firsts seconds m y → RowsWithin g s a b firsts seconds m z
 rows_within_kept g s a b m firsts seconds y z lf ls d lowers h i k =
     row_within_kept g s a b (get_or firsts i 0) (length seconds) seconds y z (lf i k) ls d lowers (h i k)
+
+-- ---- one number is reached
+
+pub reach_less : (b : Board) (entries : List ℕ) (s c : ℕ) → IsBoard b → HasAllEntries (setting_of b) entries → IsPlace b s c → b.limit + 1 < entry_at (setting_of b) entries s c → b.limit + 1 < get_or entries (s * b.points + c) 0
+reach_less b entries s c board all place none =
+    let g = setting_of b in
+    let m : c < points_in b.k b.tags = subst (λ p. c < p) board.points place.1 in
+    let within : s * b.points + c < length entries = subst (λ p. s * p + c < length entries) (sym board.points) (entry_within g entries s c all (symbol_within b s place.0) m) in
+    let same = get_or_default entries (s * b.points + c) 0 (unknown g.limit) within in
+    let at = ap (λ p. get_or entries (s * p + c) (unknown g.limit)) board.points in
+    omega arith
+
+pub reach_keeps : (b : Board) (x y : List ℕ) (s c size : ℕ) → IsBoard b → IsPlace b s c → b.limit + 1 < entry_at (setting_of b) x s c → y ≡ set x (s * b.points + c) size → KeepsKnown (setting_of b) x y
+reach_keeps b x y s c size board place none written a d l known =
+    let g = setting_of b in
+    let m : c < points_in b.k b.tags = subst (λ p. c < p) board.points place.1 in
+    let rows : y ≡ set x (s * points_in b.k b.tags + c) size = written ∙ ap (λ p. set x (s * p + c) size) board.points in
+    let other : (a ≡ s → ⊥) ⊎ (d ≡ c → ⊥) → entry_at g y a d ≡ entry_at g x a d = λ o. ap (λ es. entry_at g es a d) rows ∙ entry_other g x s c size a d m l o in
+    ⊎_elim
+    (λ same. ⊎_elim
+    (λ here. let at = ap (λ i. entry_at g x i d) same in let too = ap (entry_at g x s) here in absurd (omega arith))
+    (λ n. other (inr n))
+    (cases_eq d c))
+    (λ n. other (inl n))
+    (cases_eq a s)

@@ -1,10 +1,10 @@
 -- Numbers of points divided into words, and their sums.
-use Rattle.std.proofs.Common.{◌≡◌, ℕ, zero, suc, ◌+◌, ◌-◌, ◌*◌, ◌/◌, ◌%◌, ◌^◌, ◌<◌, ◌≤◌, min, Bool, true, List, [], ◌∷◌, ◌++◌, length, get_or, ⊎_elim, refl, sym, ap, ap₂, ◌∙◌, subst, arith, suc-mul, mul-le-mul_right}
+use Rattle.std.proofs.Common.{◌≡◌, ℕ, zero, suc, ◌+◌, ◌-◌, ◌*◌, ◌/◌, ◌%◌, ◌^◌, ◌<◌, ◌≤◌, min, Bool, true, List, [], ◌∷◌, ◌++◌, length, get_or, ⊎_elim, refl, sym, ap, ap₂, ◌∙◌, subst, arith, suc-mul, mul-le-mul_right, pow-add}
 use Rattle.std.specs.Prelude.{nat_le}
 use Rattle.std.proofs.lemmas.Bool.{cases_lt, and_from, le-leb}
 use Rattle.std.proofs.lemmas.List.{get_or_append_left, get_or_push, length_push}
 use Rattle.std.proofs.lemmas.Nat.{div-mul-add, mod-mul-add, div-add-mod'}
-use Rattle.std.proofs.Math.Nat.{pow-suc, pow-add, mul_assoc, mul_comm, add-mul, mod-lt, div-one, one-le-pow, div-lt_iff_lt-mul}
+use Rattle.std.proofs.Math.Nat.{pow-zero, pow-suc, mul_assoc, mul_comm, add-mul, mod-lt, div-one, one-le-pow, div-lt_iff_lt-mul}
 use Rattle.pat_inclusion_spec.specs.Points.{grid_fits}
 use Rattle.pat_inclusion_spec.specs.bounds.Numbers.{points_in}
 use Rattle.pat_grid_points.specs.Views.{summed}
@@ -46,7 +46,8 @@ summed_split k h zero v w =
     let n : h + 0 ≡ h = omega arith in
     let same = ap (λ i. summed k i v w) n in
     let is : a * 1 + 0 ≡ a = omega arith in
-    is ∙ e ∙ sym same
+    subst (λ i. summed k h (v / i) (w / i) * i + summed k 0 (v % i) (w % i) ≡ summed k (h + 0) v w) (sym (pow-zero (k + 1)))
+    (is ∙ e ∙ sym same)
 summed_split k h (suc m) v w =
     let b = k + 1 in
     let p = points_in k m in
@@ -142,7 +143,9 @@ module _ (k n : ℕ) (s : Shape) (shape : IsShape k n s) where
 
 -- the row of no tag
 pub no_tags : (k n v : ℕ) → n ≡ 0 → IsRow k n v (0 ∷ [])
-no_tags k n v e = subst (λ i. IsRow k i v (0 ∷ [])) (sym e) (refl, λ w l. first w (let m : w < 1 = l in omega arith))
+no_tags k n v e =
+    let one = pow-zero (k + 1) in
+    subst (λ i. IsRow k i v (0 ∷ [])) (sym e) (sym one, λ w l. first w (let m : w < 1 = subst (λ i. w < i) one l in omega arith))
   where
     first : (w : ℕ) → w ≡ 0 → get_or (0 ∷ []) w 0 ≡ summed k 0 v w
     first w z = subst (λ i. get_or (0 ∷ []) i 0 ≡ summed k 0 v i) (sym z) refl
@@ -152,9 +155,9 @@ pub row_more : (k n v c x : ℕ) (row : List ℕ) → RowTo k n v c row → x �
 row_more k n v c x row h is = (
   length_push row x ∙ (let l = h.0 in omega arith),
   λ w l. ⊎_elim
-  (λ (m : w < c). get_or_append_left row (x ∷ []) 0 w (let e = h.0 in omega arith) ∙ h.1 w m)
-  (λ (m : c ≤ w). let e : c ≡ w = omega arith in subst (λ i. get_or (row ++ x ∷ []) i 0 ≡ summed k n v i) e (get_or_push row x 0 c h.0 ∙ is))
-  (cases_lt w c),
+      (λ (m : w < c). get_or_append_left row (x ∷ []) 0 w (let e = h.0 in omega arith) ∙ h.1 w m)
+      (λ (m : c ≤ w). let e : c ≡ w = omega arith in subst (λ i. get_or (row ++ x ∷ []) i 0 ≡ summed k n v i) e (get_or_push row x 0 c h.0 ∙ is))
+      (cases_lt w c),
 )
 
 -- the sum with the point whose last digit is this one
@@ -167,3 +170,58 @@ digit_sum k n v above digit made other x high low l is =
     (high ∙ ap (λ i. summed k n (v / (k + 1)) i) (sym high_is))
     (ap₂ (λ i j. min (i + j) k) low (sym low_is))
     ∙ summed_one k v (made * (k + 1) + other) n (n + 1) (omega arith)
+
+-- ---- rows as they are made
+
+pub one_points : (k : ℕ) → k + 1 ≡ points_in k 1
+one_points k =
+    let none = pow-zero (k + 1) in
+    (let e : k + 1 ≡ 1 * (k + 1) = omega arith in e) ∙ ap (λ i. i * (k + 1)) (sym none) ∙ sym (pow-suc (k + 1) 0)
+
+pub none_few : (k : ℕ) → points_in k 0 ≤ 64
+none_few k = let none = pow-zero (k + 1) in omega arith
+
+pub points_more : (k n : ℕ) → 0 < n → points_in k (n - 1) * (k + 1) ≡ points_in k n
+points_more k n l = sym (pow-suc (k + 1) (n - 1)) ∙ ap (points_in k) (let e : suc (n - 1) ≡ n = omega arith in e)
+
+pub row_room : (k n v i : ℕ) (row : List ℕ) → 0 < n → points_in k n ≤ most_points → IsRow k (n - 1) v row → i < length row → (get_or row i 0 + 1) * (k + 1) ≤ most_points
+row_room k n v i row some few h l =
+    let e = h.0 in
+    let is = h.1 i (omega arith) in
+    let below = summed_below k (n - 1) v i in
+    let grown : (get_or row i 0 + 1) * (k + 1) ≤ points_in k (n - 1) * (k + 1) = mul-le-mul_right (k + 1) (omega arith) in
+    let all = points_more k n some in
+    omega arith
+
+pub row_whole : (k n v u m : ℕ) (above row : List ℕ) → 0 < n → m ≡ length above → IsRow k (n - 1) u above → RowTo k n v (m * (k + 1)) row → IsRow k n v row
+row_whole k n v u m above row some e h made =
+    subst (λ c. RowTo k n v c row) (ap (λ i. i * (k + 1)) (e ∙ h.0) ∙ points_more k n some) made
+
+module _ (k n : ℕ) (s : Shape) (shape : IsShape k n s) where
+  pub row_places : (l : ℕ) (row : List ℕ) → IsRow s.k s.low l row → (p : ℕ) → p < length row → get_or row p 0 < 64
+  row_places l row h p m =
+      let e = h.0 in
+      let is = h.1 p (omega arith) in
+      let small = sum_small k n s shape l p in
+      let room = shape.room in
+      omega arith
+
+  pub width_is : s.width ≡ points_in s.k s.low
+  width_is = shape.width ∙ ap (λ i. points_in i s.low) (sym shape.bound)
+
+  pub words_is : s.words ≡ points_in s.k s.high
+  words_is = shape.words ∙ ap (λ i. points_in i s.high) (sym shape.bound)
+
+  pub row_few : (l : ℕ) (row : List ℕ) → IsRow s.k s.low l row → length row ≤ 64
+  row_few l row h = let e = h.0 in let room = shape.room in let is = width_is in omega arith
+
+  pub row_long : (i : ℕ) (row : List ℕ) → IsRow s.k s.high i row → length row ≡ s.words
+  row_long i row h = h.0 ∙ sym words_is
+
+  pub row_words : (i : ℕ) (row : List ℕ) → IsRow s.k s.high i row → (w : ℕ) → w < length row → get_or row w 0 < s.words
+  row_words i row h w m =
+      let e = h.0 in
+      let is = h.1 w (omega arith) in
+      let below = summed_below s.k s.high i w in
+      let words = words_is in
+      omega arith

@@ -1,18 +1,21 @@
 -- Sums of sets, by words.
-use Rattle.std.proofs.Common.{◌≡◌, ℕ, ◌+◌, ◌*◌, ◌/◌, ◌%◌, ◌<◌, ◌≤◌, List, [], length, get_or, refl, sym, ap, ap₂, ◌∙◌, subst, arith}
+use Rattle.std.proofs.Common.{◌≡◌, ℕ, ◌+◌, ◌*◌, ◌/◌, ◌%◌, ◌<◌, ◌≤◌, ⊎_elim, Bool, true, false, List, [], ◌∷◌, ◌++◌, length, get_or, refl, sym, ap, ap₂, ◌∙◌, subst, arith}
+use Rattle.std.specs.Prelude.{IsTrue, ◌↔◌}
+use Rattle.std.proofs.lemmas.Bool.{cases_lt}
+use Rattle.std.proofs.lemmas.List.{get_or_append_left, get_or_push, length_push}
 use Rattle.pat_inclusion_spec.specs.bounds.Numbers.{points_in}
 use Rattle.pat_grid_points.specs.Views.{summed}
 use Rattle.pat_grid_points.proofs.Digits.{summed_below}
 use Rattle.pat_grid_sums.specs.declared.shape.Shape.{Shape}
-use Rattle.pat_grid_sums.specs.Sets.{In, Puts, AnyBefore, IsListed, AtNumber, Lists, IsMoved, IsJoined, IsAdded}
-use Rattle.pat_grid_sums.specs.Shapes.{IsShape, IsRow, IsSum, Has, AreMoved, IsRowSum}
+use Rattle.pat_grid_sums.specs.Sets.{In, Puts, AnyBefore, IsListed, AtNumber, Lists, IsMovedAny, IsMoved, IsJoined, IsAdded}
+use Rattle.pat_grid_sums.specs.Shapes.{IsShape, IsRow, IsSum, Has, AreMoved, IsRowSum, AreSums}
 use Rattle.pat_grid_sums.proofs.Putting.{puts_as, has_as}
 use Rattle.pat_grid_sums.proofs.Splitting.{all_points, word_within, place_within, sum_word, sum_place, is_sum}
 
 -- the words' bits, each moved by the row of a place
-pub moved_sums : (s : Shape) (others row words : List ℕ) (l : ℕ) → s.width ≡ points_in s.k s.low → IsRow s.k s.low l row → Has (AnyBefore (λ w h q. AnyBefore (IsMoved others row w) (length row) h q) (length others)) (length others) words → Has (IsSum others s l) (length others) words
+pub moved_sums : (s : Shape) (others row words : List ℕ) (l : ℕ) → s.width ≡ points_in s.k s.low → IsRow s.k s.low l row → Has (AnyBefore (IsMovedAny others row) (length others)) (length others) words → Has (IsSum others s l) (length others) words
 moved_sums s others row words l width row_is h =
-    has_as (AnyBefore (λ w a q. AnyBefore (IsMoved others row w) (length row) a q) (length others)) (IsSum others s l) (length others) words
+    has_as (AnyBefore (IsMovedAny others row) (length others)) (IsSum others s l) (length others) words
     (λ a q t.
     let p = t.2 in
     let at : a ≡ t.0 = p.2.1 in
@@ -23,6 +26,38 @@ moved_sums s others row words l width row_is h =
     let few = t.1 in
     let many = row_is.0 in
     (a, t.2, (t.0, (let e : t.0 < length row = omega arith in e), (t.3, refl, t.4 ∙ sym (row_is.1 t.0 (omega arith))))))
+    h
+
+-- one place more
+any_moved : (wanted : Bool) (P : Type 0) (Q : Type 0) → (wanted ≡ false → P → ⊥) → (wanted ≡ true → Q) → P → Q
+any_moved true P Q none all p = all refl
+any_moved false P Q none all p = absurd (none refl p)
+
+pub moved_more : (ones others : List ℕ) (s : Shape) (m : ℕ) (all : List (List ℕ)) (new : List ℕ) (wanted : Bool) → AreMoved ones others s m all → length new ≡ length others → (wanted ≡ false → (h : ℕ) → h < length ones → In ones h m → ⊥) → (wanted ≡ true → Has (IsSum others s m) (length others) new) → AreMoved ones others s (m + 1) (all ++ new ∷ [])
+moved_more ones others s m all new wanted before long none some =
+    let many = before.as_many in
+    let last : get_or (all ++ new ∷ []) m [] ≡ new = get_or_push all new [] m before.as_many in
+    record {
+      as_many = length_push all new ∙ (let e : length all + 1 ≡ m + 1 = omega arith in e);
+      as_long = λ l k. ⊎_elim
+          (λ (below : l < m). ap length (get_or_append_left all (new ∷ []) [] l (omega arith)) ∙ before.as_long l below)
+          (λ (past : m ≤ l). let e : m ≡ l = omega arith in subst (λ i. length (get_or (all ++ new ∷ []) i []) ≡ length others) e (ap length last ∙ long))
+          (cases_lt l m);
+      moved = λ l h k there i. ⊎_elim
+          (λ (below : l < m). subst (Has (IsSum others s l) (length others)) (sym (get_or_append_left all (new ∷ []) [] l (omega arith))) (before.moved l h below there i))
+          (λ (past : m ≤ l).
+          let e : m ≡ l = omega arith in
+          let here : Has (IsSum others s m) (length others) new = any_moved wanted (In ones h m) (Has (IsSum others s m) (length others) new) (λ f. none f h there) some (subst (In ones h) (sym e) i) in
+          subst (λ j. Has (IsSum others s j) (length others) (get_or (all ++ new ∷ []) j [])) e (subst (Has (IsSum others s m) (length others)) (sym last) here))
+          (cases_lt l m);
+    }
+
+-- one bit of the word
+pub added_if : (ones : List ℕ) (word : ℕ) (moved : List (List ℕ)) (row : List ℕ) (l : ℕ) (wanted : Bool) (now x y : List ℕ) → (IsTrue wanted ↔ In ones word l) → now ≡ get_or moved l [] → Puts (λ h q. IsTrue wanted × AnyBefore (IsJoined now row) (length row) h q) x y → Puts (IsAdded ones word moved row l) x y
+added_if ones word moved row l wanted now x y test is h =
+    puts_as (λ a q. IsTrue wanted × AnyBefore (IsJoined now row) (length row) a q) (IsAdded ones word moved row l) x y
+    (λ a q t. (test.0 t.0, subst (λ xs. AnyBefore (IsJoined xs row) (length row) a q) is t.1))
+    (λ a q t. (test.1 t.0, subst (λ xs. AnyBefore (IsJoined xs row) (length row) a q) (sym is) t.1))
     h
 
 -- sums of the points of one word
@@ -56,10 +91,15 @@ module _ (k n : ℕ) (s : Shape) (shape : IsShape k n s) (firsts seconds ones ot
       let many = went.as_many in
       let first = had.only word place sum.3 in
       let by = (went.moved place word (let m = sum.2 in omega arith) found.1 sum.3).only other (c % s.width) sum.6 in
-      let second = have.only other by.0 by.3 in
-      (first.0, second.0, first.1, second.1, is_sum k n s shape c (get_or firsts first.0 0) (get_or seconds second.0 0)
-      (sum.5 ∙ ap₂ (summed s.k s.high) first.2.0 second.2.0)
-      (by.4 ∙ ap₂ (summed s.k s.low) first.2.1 second.2.1))
+      let second = have.only other by.0 by.3 in (
+        first.0,
+        second.0,
+        first.1,
+        second.1,
+        is_sum k n s shape c (get_or firsts first.0 0) (get_or seconds second.0 0)
+            (sum.5 ∙ ap₂ (summed s.k s.high) first.2.0 second.2.0)
+            (by.4 ∙ ap₂ (summed s.k s.low) first.2.1 second.2.1),
+      )
 
   pub all_sums : (i j : ℕ) → i < length firsts → j < length seconds → get_or firsts i 0 < points_in k n → get_or seconds j 0 < points_in k n → IsListed (summed k n (get_or firsts i 0) (get_or seconds j 0)) numbers
   all_sums i j li lj lv lw =
@@ -80,3 +120,10 @@ module _ (k n : ℕ) (s : Shape) (shape : IsShape k n s) (firsts seconds ones ot
       (v / s.width, word_there, (v % s.width, w / s.width, (let e : v % s.width < length moved = omega arith in e), in_first, other_there, refl, in_moved)) in
       let below = summed_below k n v w in
       listed.all c (omega arith) (subst (λ a. In sums a (c % s.width)) (sym (sum_word k n s shape v w)) (subst (λ a. In sums (summed s.k s.high (v / s.width) (w / s.width)) a) (sym (sum_place k n s shape v w)) here))
+
+  pub sums_made : ((i : ℕ) → i < length firsts → get_or firsts i 0 < points_in k n) → ((j : ℕ) → j < length seconds → get_or seconds j 0 < points_in k n) → AreSums k n firsts seconds numbers
+  sums_made lf ls = record {
+    within = numbers_within;
+    only = are_sums;
+    all = λ i j l m. all_sums i j l m (lf i l) (ls j m);
+  }

@@ -34,6 +34,10 @@ pub record Lists (words : List ℕ) (width m : ℕ) (numbers : List ℕ) : Type 
 abbrev pub IsMoved : List ℕ → List ℕ → ℕ → ℕ → ℕ → ℕ → Type 0
 IsMoved others row word p h q = In others word p × (h ≡ word) × (q ≡ get_or row p 0)
 
+-- so do all bits of the word
+abbrev pub IsMovedAny : List ℕ → List ℕ → ℕ → ℕ → ℕ → Type 0
+IsMovedAny others row word h q = AnyBefore (IsMoved others row word) (length row) h q
+
 -- the bits of word w go where the row says
 abbrev pub IsJoined : List ℕ → List ℕ → ℕ → ℕ → ℕ → Type 0
 IsJoined moved row w h q = (h ≡ get_or row w 0) × In moved w q

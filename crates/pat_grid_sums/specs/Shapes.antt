@@ -4,7 +4,7 @@ use Rattle.pat_inclusion_spec.specs.bounds.Numbers.{points_in}
 use Rattle.pat_grid_points.specs.Views.{summed}
 use Rattle.pat_limits.specs.Limits.{most_points}
 use Rattle.pat_grid_sums.specs.declared.shape.Shape.{Shape}
-use Rattle.pat_grid_sums.specs.Sets.{In, Puts, AnyBefore}
+use Rattle.pat_grid_sums.specs.Sets.{In, IsListed}
 
 -- the first tags' points number the words, and those of the last tags the places in a word
 pub record IsShape (k n : ℕ) (s : Shape) : Type 0 where
@@ -43,3 +43,9 @@ pub record AreMoved (ones others : List ℕ) (s : Shape) (m : ℕ) (all : List (
 abbrev pub IsRowSum : List ℕ → List (List ℕ) → Shape → ℕ → ℕ → ℕ → Type 0
 IsRowSum ones moved s i h q =
     (l w : ℕ) × (l < length moved) × In ones i l × (w < s.words) × (h ≡ summed s.k s.high i w) × In (get_or moved l []) w q
+
+-- the numbers are those of the sums of a point of the one list with one of the other
+pub record AreSums (k n : ℕ) (firsts seconds numbers : List ℕ) : Type 0 where
+  pub within : (t : ℕ) → t < length numbers → get_or numbers t 0 < points_in k n
+  pub only : (t : ℕ) → t < length numbers → (i j : ℕ) × (i < length firsts) × (j < length seconds) × (get_or numbers t 0 ≡ summed k n (get_or firsts i 0) (get_or seconds j 0))
+  pub all : (i j : ℕ) → i < length firsts → j < length seconds → IsListed (summed k n (get_or firsts i 0) (get_or seconds j 0)) numbers

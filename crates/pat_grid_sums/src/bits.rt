@@ -1,6 +1,6 @@
 // Sets of points as words of bits.
 
-ghost use Rattle.std.specs.Prelude.{◌≡◌, ◌<◌, ◌≤◌, ◌/◌, ◌*◌, ℕ, [], length, get_or, replicate, ◌+◌, IfOk, OnOk, IsTrue, ◌↔◌};
+ghost use Rattle.std.specs.Prelude.{◌≡◌, ◌<◌, ◌≤◌, ◌/◌, ◌*◌, ℕ, [], length, get_or, set, replicate, bit_or, ◌+◌, IfOk, OnOk, IsTrue, ◌↔◌};
 ghost use Rattle.std.specs.Int.{bit_at};
 ghost use Rattle.pat_grid_sums.specs.Sets.{In, Puts, AnyBefore, AtNumber, Lists};
 
@@ -30,13 +30,20 @@ pub fn put(words: &mut Sequence<u64>, word: usize, bit: usize)
     requires bit { bit < 64 }
     ensures { Puts (λ h q. (h ≡ word) × (q ≡ bit)) words.old words.new }
 {
-    words.items[word] |= 1u64 << (bit as u32);
+    exchange(words, word, 1u64 << (bit as u32));
 }
 
 /// Puts all bits of one word into another one.
 pub fn join(words: &mut Sequence<u64>, word: usize, bits: u64)
     requires { word < length words.old }
     ensures { Puts (λ h q. (h ≡ word) × (bit_at bits q ≡ 1)) words.old words.new }
+{
+    exchange(words, word, bits);
+}
+
+fn exchange(words: &mut Sequence<u64>, word: usize, bits: u64)
+    requires { word < length words.old }
+    ensures { words.new ≡ set words.old word (bit_or (get_or words.old word 0) bits) }
 {
     words.items[word] |= bits;
 }

@@ -1,7 +1,7 @@
 // A set of points moved by the places of a word.
 
 ghost use Rattle.std.specs.Prelude.{◌≡◌, ◌<◌, ◌≤◌, true, ℕ, length, get_or, IfOk, IsFalse};
-ghost use Rattle.pat_grid_sums.specs.Sets.{In, Puts, AnyBefore, IsMoved};
+ghost use Rattle.pat_grid_sums.specs.Sets.{In, Puts, AnyBefore, IsMovedAny};
 ghost use Rattle.pat_grid_sums.specs.Shapes.{IsShape, IsSum, Has, AreMoved};
 
 use crate::bits::{has, no_bits, put};
@@ -54,13 +54,24 @@ fn moved_if(
     ensures moved { IfOk result (λ moved. wanted ≡ true → Has (IsSum others.now shape place) (length others.now) moved) }
 {
     let mut moved = no_bits(alloc, others.len())?;
-    if wanted {
-        let row = row_of(alloc, place, shape.k, shape.low)?;
-        for word in 0..others.len() {
-            move_word(others, word, row.as_slice(), &mut moved);
-        }
+    if !wanted {
+        return Ok(moved);
     }
+    let row = row_of(alloc, place, shape.k, shape.low)?;
+    move_all(others, row.as_slice(), &mut moved);
     Ok(moved)
+}
+
+/// Puts the bits of each word in where the row says.
+fn move_all(others: &[u64], row: &[usize], moved: &mut Sequence<u64>)
+    requires long { length moved.old ≡ length others.now }
+    requires few { length row.now ≤ 64 }
+    requires row { (p : ℕ) → p < length row.now → get_or row.now p 0 < 64 }
+    ensures { Puts (AnyBefore (IsMovedAny others.now row.now) (length others.now)) moved.old moved.new }
+{
+    for word in 0..others.len() {
+        move_word(others, word, row, moved);
+    }
 }
 
 /// Puts the bits of one word in where the row says.
@@ -69,7 +80,7 @@ fn move_word(others: &[u64], word: usize, row: &[usize], moved: &mut Sequence<u6
     requires into { word < length moved.old }
     requires few { length row.now ≤ 64 }
     requires row { (p : ℕ) → p < length row.now → get_or row.now p 0 < 64 }
-    ensures { Puts (AnyBefore (IsMoved others.now row.now word) (length row.now)) moved.old moved.new }
+    ensures { Puts (IsMovedAny others.now row.now word) moved.old moved.new }
 {
     for bit in 0..row.len() {
         move_bit(others, word, bit, row[bit], moved);

@@ -1,11 +1,10 @@
 // Sums of sets of points.
 
-ghost use Rattle.std.specs.Prelude.{◌≡◌, ◌<◌, ◌≤◌, ℕ, [], length, get_or, IfOk, OnOk, IsTrue};
+ghost use Rattle.std.specs.Prelude.{◌≡◌, ◌<◌, ◌≤◌, ◌/◌, ℕ, [], length, get_or, IfOk, OnOk, IsTrue};
 ghost use Rattle.pat_inclusion_spec.specs.Points.{grid_fits};
 ghost use Rattle.pat_inclusion_spec.specs.bounds.Numbers.{points_in};
-ghost use Rattle.pat_grid_points.specs.Views.{summed};
-ghost use Rattle.pat_grid_sums.specs.Sets.{In, Puts, AnyBefore, IsListed, AtNumber, IsJoined, IsAdded};
-ghost use Rattle.pat_grid_sums.specs.Shapes.{IsShape, Has, IsRowSum};
+ghost use Rattle.pat_grid_sums.specs.Sets.{In, Puts, AnyBefore, AtNumber, IsJoined, IsAdded};
+ghost use Rattle.pat_grid_sums.specs.Shapes.{IsShape, Has, IsRowSum, AreSums};
 
 use crate::bits::{has, join, list_all, no_bits, put_all};
 use crate::moving::moved_by_each;
@@ -26,16 +25,16 @@ pub fn list_sums(
     requires fits { IsTrue (grid_fits k tags) }
     requires firsts { (i : ℕ) → i < length firsts.now → get_or firsts.now i 0 < points_in k tags }
     requires seconds { (j : ℕ) → j < length seconds.now → get_or seconds.now j 0 < points_in k tags }
-    ensures within { IfOk result (λ numbers. (t : ℕ) → t < length numbers → get_or numbers t 0 < points_in k tags) }
-    ensures only { IfOk result (λ numbers. (t : ℕ) → t < length numbers → (i j : ℕ) × (i < length firsts.now) × (j < length seconds.now) × (get_or numbers t 0 ≡ summed k tags (get_or firsts.now i 0) (get_or seconds.now j 0))) }
-    ensures all { IfOk result (λ numbers. (i j : ℕ) → i < length firsts.now → j < length seconds.now → IsListed (summed k tags (get_or firsts.now i 0) (get_or seconds.now j 0)) numbers) }
+    ensures { IfOk result (λ numbers. AreSums k tags firsts.now seconds.now numbers) }
 {
     let shape = shape_of(k, tags);
     let ones = set_of(alloc, firsts, shape)?;
     let others = set_of(alloc, seconds, shape)?;
     let moved = moved_by_each(alloc, ones.as_slice(), others.as_slice(), shape)?;
     let sums = sums_of(alloc, ones.as_slice(), moved.as_slice(), shape)?;
-    list_all(alloc, sums.as_slice(), shape.words * shape.width, shape.width)
+    let points = shape.words * shape.width;
+    let numbers = list_all(alloc, sums.as_slice(), points, shape.width)?;
+    Ok(numbers)
 }
 
 /// The set of the points with these numbers.
@@ -93,7 +92,13 @@ fn add_row(
 }
 
 /// The sums of the points of one word.
-fn add_word(ones: &[u64], word: usize, moved: &[Sequence<u64>], row: &[usize], sums: &mut Sequence<u64>)
+fn add_word(
+    ones: &[u64],
+    word: usize,
+    moved: &[Sequence<u64>],
+    row: &[usize],
+    sums: &mut Sequence<u64>,
+)
     requires word { word < length ones.now }
     requires few { length moved.now ≤ 64 }
     requires moved { (l : ℕ) → l < length moved.now → length (get_or moved.now l []) ≡ length row.now }
