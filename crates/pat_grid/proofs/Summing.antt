@@ -6,11 +6,12 @@ use Rattle.pat_inclusion_spec.specs.bounds.Tables.{Setting, IsKnown, Step, cappe
 use Rattle.pat_inclusion_spec.specs.bounds.Numbers.{points_in, point_of, table_of, unknown, HasAllEntries}
 use Rattle.pat_grid_points.specs.Views.{summed}
 use Rattle.pat_grid_points.proofs.Digits.{summed_below}
+use Rattle.pat_grid_sums.specs.Shapes.{AreSums}
 use Rattle.pat_grid.specs.declared.tables.sizes.Sizes.{Sizes}
-use Rattle.pat_grid.specs.tables.Moves.{entry_at, IsPlace, Among, Moved, Lowers, TakesParts, AreOthers, PairAt, RowsBefore, KeepsKnown, AreKnown, WithinAt, RowWithin, RowsWithin, HasSums}
+use Rattle.pat_grid.specs.tables.Moves.{entry_at, IsPlace, Among, ArePoints, Moved, Lowers, TakesParts, AreOthers, PairAt, RowsBefore, KeepsKnown, AreKnown, WithinAt, RowWithin, RowsWithin, HasSums}
 use Rattle.pat_grid.specs.declared.tables.board.Board.{Board}
 use Rattle.pat_grid.specs.tables.Views.{setting_of, IsBoard}
-use Rattle.pat_grid.proofs.Relaxing.{entry_other, entry_within, symbol_within, pair_step, pair_kept}
+use Rattle.pat_grid.proofs.Relaxing.{entry_other, entry_within, symbol_within, pair_step, pair_kept, same_row, moved_none, moved_as, moved_both}
 
 pub keeps_none : (g : Setting) (x : List ℕ) → KeepsKnown g x x
 keeps_none g x a c l k = refl
@@ -95,3 +96,51 @@ reach_keeps b x y s c size board place none written a d l known =
     (cases_eq d c))
     (λ n. other (inl n))
     (cases_eq a s)
+
+-- ---- what is claimed at each turn
+
+-- a pair that isn't within the limit
+pub pair_past : (g : Setting) (s a b v w e f : ℕ) (x : Sizes) (p : Bool) → e ≡ entry_at g x.entries a v → f ≡ entry_at g x.entries b w → g.limit ≤ e + f → Moved g s (AreOthers a b s) (WithinAt g s a b v w) x p x p
+pair_past g s a b v w e f x p he hf l =
+    moved_none g s (AreOthers a b s) (WithinAt g s a b v w) x p (λ small. absurd (omega arith))
+
+pub pair_walked : (g : Setting) (s a b v w : ℕ) (x y : Sizes) (p q : Bool) → Moved g s (AreOthers a b s) (PairAt g s a b v w) x p y q → Moved g s (AreOthers a b s) (WithinAt g s a b v w) x p y q
+pair_walked g s a b v w x y p q m =
+    moved_as g s (AreOthers a b s) (AreOthers a b s) (PairAt g s a b v w) (WithinAt g s a b v w) x y p q m (λ d. d) (λ o pair small. pair)
+
+-- pairs of which one has no tree below the limit claim nothing
+pub rows_listed : (g : Setting) (s a b : ℕ) (firsts seconds ones others x y : List ℕ) → ((i : ℕ) → i < length firsts → entry_at g x a (get_or firsts i 0) < g.limit → Among (get_or firsts i 0) ones) → ((j : ℕ) → j < length seconds → entry_at g x b (get_or seconds j 0) < g.limit → Among (get_or seconds j 0) others) → ((i : ℕ) → i < length firsts → entry_at g y a (get_or firsts i 0) ≡ entry_at g x a (get_or firsts i 0)) → ((j : ℕ) → j < length seconds → entry_at g y b (get_or seconds j 0) ≡ entry_at g x b (get_or seconds j 0)) → RowsWithin g s a b ones others (length ones) y → RowsWithin g s a b firsts seconds (length firsts) y
+rows_listed g s a b firsts seconds ones others x y all_first all_second same_first same_second rows i l j m small =
+    let e = same_first i l in
+    let f = same_second j m in
+    let one = all_first i l (omega arith) in
+    let other = all_second j m (omega arith) in
+    subst (λ v. PairAt g s a b v (get_or seconds j 0) y) one.2
+    (subst (λ w. PairAt g s a b (get_or ones one.0 0) w y) other.2
+    (rows one.0 one.1 other.0 other.1
+    (subst (λ v. entry_at g y a v + entry_at g y b (get_or others other.0 0) < g.limit) (sym one.2)
+    (subst (λ w. entry_at g y a (get_or firsts i 0) + entry_at g y b w < g.limit) (sym other.2) small))))
+
+pub within_moved : (g : Setting) (s a b : ℕ) (firsts seconds ones others : List ℕ) (x y : Sizes) (p q : Bool) → ArePoints g firsts → ArePoints g seconds → ((i : ℕ) → i < length firsts → entry_at g x.entries a (get_or firsts i 0) < g.limit → Among (get_or firsts i 0) ones) → ((j : ℕ) → j < length seconds → entry_at g x.entries b (get_or seconds j 0) < g.limit → Among (get_or seconds j 0) others) → Moved g s (AreOthers a b s) (RowsWithin g s a b ones others (length ones)) x p y q → Moved g s (AreOthers a b s) (RowsWithin g s a b firsts seconds (length firsts)) x p y q
+within_moved g s a b firsts seconds ones others x y p q lf ls all_first all_second m =
+    moved_as g s (AreOthers a b s) (AreOthers a b s) (RowsWithin g s a b ones others (length ones)) (RowsWithin g s a b firsts seconds (length firsts)) x y p q m (λ d. d)
+    (λ o rows. rows_listed g s a b firsts seconds ones others x.entries y.entries all_first all_second
+    (λ i l. same_row g s a (get_or firsts i 0) x.entries y.entries m.lowers (lf i l) (⊎_elim (λ t. inl t) (λ t. inr t.0) o))
+    (λ j l. same_row g s b (get_or seconds j 0) x.entries y.entries m.lowers (ls j l) (⊎_elim (λ t. inl t) (λ t. inr t.1) o))
+    rows)
+
+-- all sums are reached where the numbers are
+pub sums_reached : (g : Setting) (s : ℕ) (firsts seconds numbers entries : List ℕ) → AreSums g.bound g.tags firsts seconds numbers → ((t : ℕ) → t < length numbers → entry_at g entries s (get_or numbers t 0) ≤ g.limit + 1) → HasSums g s firsts seconds entries
+sums_reached g s firsts seconds numbers entries sums reached i j l m =
+    let t = sums.all i j l m in
+    let k = reached t.0 t.1 in
+    let at = ap (entry_at g entries s) t.2 in
+    omega arith
+
+-- the pairs within the limit, and then the sums
+pub many_moved : (g : Setting) (s a b : ℕ) (firsts seconds : List ℕ) (x y z : Sizes) (p q r : Bool) → ArePoints g firsts → ArePoints g seconds → AreOthers a b s → Moved g s (AreOthers a b s) (RowsWithin g s a b firsts seconds (length firsts)) x p y q → Moved g s (Unit {0}) (HasSums g s firsts seconds) y q z r → Moved g s (AreOthers a b s) (RowsBefore g s a b firsts seconds (length firsts)) x p z r
+many_moved g s a b firsts seconds x y z p q r lf ls apart first second =
+    moved_both g s (AreOthers a b s) (RowsWithin g s a b firsts seconds (length firsts)) (HasSums g s firsts seconds) (RowsBefore g s a b firsts seconds (length firsts)) x y z p q r first
+    (moved_as g s (Unit {0}) (AreOthers a b s) (HasSums g s firsts seconds) (HasSums g s firsts seconds) y z q r second (λ d. tt) (λ o h. h))
+    (λ d lowers h. rows_within_kept g s a b (length firsts) firsts seconds y.entries z.entries lf ls d lowers h)
+    (λ h k. rows_from g s a b firsts seconds z.entries h k)
