@@ -1,14 +1,15 @@
 -- What is reached by sums of sets.
-use Rattle.std.proofs.Common.{◌≡◌, ℕ, suc, ◌+◌, ◌*◌, ◌<◌, ◌≤◌, min, ◌⊎◌, inl, inr, ⊎_elim, Bool, true, false, List, length, get_or, set, refl, sym, ap, ap₂, ◌∙◌, subst, arith}
+use Rattle.std.proofs.Common.{◌≡◌, ℕ, suc, ◌+◌, ◌*◌, ◌<◌, ◌≤◌, min, ◌⊎◌, inl, inr, ⊎_elim, Bool, true, false, List, [], ◌∷◌, ◌++◌, length, get_or, set, refl, sym, ap, ap₂, ◌∙◌, subst, arith}
+use Rattle.std.specs.Prelude.{if◌then◌else◌}
 use Rattle.std.proofs.lemmas.Bool.{cases_lt, cases_eq}
-use Rattle.std.proofs.lemmas.List.{get_or_default}
+use Rattle.std.proofs.lemmas.List.{get_or_default, get_or_append_left, get_or_push, length_push, append-nil}
 use Rattle.pat_inclusion_spec.specs.bounds.Tables.{Setting, IsKnown, Step, capped}
 use Rattle.pat_inclusion_spec.specs.bounds.Numbers.{points_in, point_of, table_of, unknown, HasAllEntries}
 use Rattle.pat_grid_points.specs.Views.{summed}
 use Rattle.pat_grid_points.proofs.Digits.{summed_below}
 use Rattle.pat_grid_sums.specs.Shapes.{AreSums}
 use Rattle.pat_grid.specs.declared.tables.sizes.Sizes.{Sizes}
-use Rattle.pat_grid.specs.tables.Moves.{entry_at, IsPlace, Among, ArePoints, Moved, Lowers, TakesParts, AreOthers, PairAt, RowsBefore, KeepsKnown, AreKnown, WithinAt, RowWithin, RowsWithin, HasSums}
+use Rattle.pat_grid.specs.tables.Moves.{entry_at, IsPlace, Among, ArePoints, Moved, Lowers, TakesParts, AreOthers, PairAt, RowsBefore, KeepsKnown, AreKnown, WithinAt, RowWithin, RowsWithin, KeptBefore, HasSums}
 use Rattle.pat_grid.specs.declared.tables.board.Board.{Board}
 use Rattle.pat_grid.specs.tables.Views.{setting_of, IsBoard}
 use Rattle.pat_grid.proofs.Relaxing.{entry_other, entry_within, symbol_within, pair_step, pair_kept, same_row, moved_none, moved_as, moved_both}
@@ -144,3 +145,76 @@ many_moved g s a b firsts seconds x y z p q r lf ls apart first second =
     (moved_as g s (Unit {0}) (AreOthers a b s) (HasSums g s firsts seconds) (HasSums g s firsts seconds) y z q r second (λ d. tt) (λ o h. h))
     (λ d lowers h. rows_within_kept g s a b (length firsts) firsts seconds y.entries z.entries lf ls d lowers h)
     (λ h k. rows_from g s a b firsts seconds z.entries h k)
+
+-- ---- a star's round
+
+-- nothing was lowered, so all of it is as it was
+same_moved : (g : Setting) (s a b : ℕ) (firsts seconds : List ℕ) (x y : Sizes) (p q : Bool) → q ≡ false → Moved g s (AreOthers a b s) (RowsWithin g s a b firsts seconds (length firsts)) x false y q → Moved g s ⊥ (RowsWithin g s a b firsts seconds (length firsts)) x p y p
+same_moved g s a b firsts seconds x y p q e m = record {
+  as_long = m.as_long;
+  sound = m.sound;
+  at_most = m.at_most;
+  falls = λ t. inl t;
+  stays = λ t. (t, (m.stays e).1);
+  lowers = m.lowers;
+  claim = λ t. m.claim (inl e);
+  lists = m.lists;
+  news = m.news;
+}
+
+pub round_moved : (g : Setting) (s a b : ℕ) (firsts seconds : List ℕ) (x y z : Sizes) (p q r : Bool) → q ≡ false → Moved g s (AreOthers a b s) (RowsWithin g s a b firsts seconds (length firsts)) x false y q → Moved g s (Unit {0}) (HasSums g s firsts seconds) y p z r → Moved g s ⊥ (RowsBefore g s a b firsts seconds (length firsts)) x p z r
+round_moved g s a b firsts seconds x y z p q r e first second =
+    moved_both g s ⊥ (RowsWithin g s a b firsts seconds (length firsts)) (HasSums g s firsts seconds) (RowsBefore g s a b firsts seconds (length firsts)) x y z p p r
+    (same_moved g s a b firsts seconds x y p q e first)
+    (moved_as g s (Unit {0}) ⊥ (HasSums g s firsts seconds) (HasSums g s firsts seconds) y z p r second (λ d. tt) (λ o h. h))
+    (λ n lowers h. absurd n)
+    (λ h k. rows_from g s a b firsts seconds z.entries h k)
+
+-- something was lowered, so nothing is claimed
+pub round_lowered : (g : Setting) (s a b : ℕ) (firsts seconds : List ℕ) (x y : Sizes) (p q : Bool) → q ≡ true → Moved g s (AreOthers a b s) (RowsWithin g s a b firsts seconds (length firsts)) x false y q → Moved g s ⊥ (RowsBefore g s a b firsts seconds (length firsts)) x p y true
+round_lowered g s a b firsts seconds x y p q e m = record {
+  as_long = m.as_long;
+  sound = m.sound;
+  at_most = m.at_most;
+  falls = λ t. ⊎_elim (λ (i : false ≡ true). absurd (cc)) (λ l. inr l) (m.falls e);
+  stays = λ t. absurd (cc);
+  lowers = m.lowers;
+  claim = λ t. ⊎_elim (λ (i : true ≡ false). absurd (cc)) (λ n. absurd n) t;
+  lists = m.lists;
+  news = m.news;
+}
+
+-- ---- numbers that were kept
+
+pub kept_none : (g : Setting) (a : ℕ) (entries numbers : List ℕ) → KeptBefore g a entries numbers 0 []
+kept_none g a entries numbers = record {
+  among = λ i l. absurd (omega arith);
+  all = λ i l small. absurd (omega arith);
+}
+
+kept_in : (g : Setting) (a m : ℕ) (entries numbers kept : List ℕ) → m < length numbers → KeptBefore g a entries numbers m kept → KeptBefore g a entries numbers (m + 1) (kept ++ get_or numbers m 0 ∷ [])
+kept_in g a m entries numbers kept there h =
+    let n = get_or numbers m 0 in
+    let more = length_push kept n in
+    let last : get_or (kept ++ n ∷ []) (length kept) 0 ≡ n = get_or_push kept n 0 (length kept) refl in
+    record {
+      among = λ i l. ⊎_elim
+          (λ (below : i < length kept). subst (λ c. Among c numbers) (sym (get_or_append_left kept (n ∷ []) 0 i below)) (h.among i below))
+          (λ (past : length kept ≤ i). let e : length kept ≡ i = omega arith in subst (λ j. Among (get_or (kept ++ n ∷ []) j 0) numbers) e (m, there, sym last))
+          (cases_lt i (length kept));
+      all = λ i l small. ⊎_elim
+          (λ (below : i < m). let t = h.all i below small in let k = t.1 in (t.0, (let o : t.0 < length (kept ++ n ∷ []) = omega arith in o), get_or_append_left kept (n ∷ []) 0 t.0 t.1 ∙ t.2))
+          (λ (past : m ≤ i). let e : m ≡ i = omega arith in (length kept, (let o : length kept < length (kept ++ n ∷ []) = omega arith in o), last ∙ ap (λ j. get_or numbers j 0) e))
+          (cases_lt i m);
+    }
+
+pub kept_more : (g : Setting) (a m : ℕ) (entries numbers kept : List ℕ) (wanted : Bool) → m < length numbers → (wanted ≡ false → g.limit ≤ entry_at g entries a (get_or numbers m 0)) → KeptBefore g a entries numbers m kept → KeptBefore g a entries numbers (m + 1) (kept ++ (if wanted then get_or numbers m 0 ∷ [] else []))
+kept_more g a m entries numbers kept true there large h = kept_in g a m entries numbers kept there h
+kept_more g a m entries numbers kept false there large h =
+    subst (KeptBefore g a entries numbers (m + 1)) (sym (append-nil kept)) (record {
+      among = h.among;
+      all = λ i l small. ⊎_elim
+          (λ (below : i < m). h.all i below small)
+          (λ (past : m ≤ i). let e : m ≡ i = omega arith in let at = ap (λ j. entry_at g entries a (get_or numbers j 0)) e in let big = large refl in absurd (omega arith))
+          (cases_lt i m);
+    })

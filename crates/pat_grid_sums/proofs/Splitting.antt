@@ -1,10 +1,10 @@
 -- Numbers of points divided into words, and their sums.
-use Rattle.std.proofs.Common.{◌≡◌, ℕ, zero, suc, ◌+◌, ◌-◌, ◌*◌, ◌/◌, ◌%◌, ◌^◌, ◌<◌, ◌≤◌, min, Bool, true, List, [], ◌∷◌, ◌++◌, length, get_or, ⊎_elim, refl, sym, ap, ap₂, ◌∙◌, subst, arith, suc-mul, mul-le-mul_right, pow-add}
+use Rattle.std.proofs.Common.{◌≡◌, ℕ, zero, suc, ◌+◌, ◌-◌, ◌*◌, ◌/◌, ◌%◌, ◌^◌, ◌<◌, ◌≤◌, min, true, List, [], ◌∷◌, ◌++◌, length, get_or, ⊎_elim, refl, sym, ap, ap₂, ◌∙◌, subst, arith, suc-mul, mul-le-mul_right, pow-add}
 use Rattle.std.specs.Prelude.{nat_le}
 use Rattle.std.proofs.lemmas.Bool.{cases_lt, and_from, le-leb}
 use Rattle.std.proofs.lemmas.List.{get_or_append_left, get_or_push, length_push}
 use Rattle.std.proofs.lemmas.Nat.{div-mul-add, mod-mul-add, div-add-mod'}
-use Rattle.std.proofs.Math.Nat.{pow-zero, pow-suc, mul_assoc, mul_comm, add-mul, mod-lt, div-one, one-le-pow, div-lt_iff_lt-mul}
+use Rattle.std.proofs.Math.Nat.{pow-zero, pow-suc, mul_assoc, add-mul, mod-lt, div-one, one-le-pow, div-lt_iff_lt-mul}
 use Rattle.pat_inclusion_spec.specs.Points.{grid_fits}
 use Rattle.pat_inclusion_spec.specs.bounds.Numbers.{points_in}
 use Rattle.pat_grid_points.specs.Views.{summed}

@@ -7,7 +7,7 @@ use Rattle.pat_inclusion_spec.specs.bounds.Numbers.{points_in}
 use Rattle.pat_grid_points.specs.Views.{summed}
 use Rattle.pat_grid_points.proofs.Digits.{summed_below}
 use Rattle.pat_grid_sums.specs.declared.shape.Shape.{Shape}
-use Rattle.pat_grid_sums.specs.Sets.{In, Puts, AnyBefore, IsListed, AtNumber, Lists, IsMovedAny, IsMoved, IsJoined, IsAdded}
+use Rattle.pat_grid_sums.specs.Sets.{In, Puts, AnyBefore, IsListed, AtNumber, Lists, IsMovedAny, IsJoined, IsAdded}
 use Rattle.pat_grid_sums.specs.Shapes.{IsShape, IsRow, IsSum, Has, AreMoved, IsRowSum, AreSums}
 use Rattle.pat_grid_sums.proofs.Putting.{puts_as, has_as}
 use Rattle.pat_grid_sums.proofs.Splitting.{all_points, word_within, place_within, sum_word, sum_place, is_sum}

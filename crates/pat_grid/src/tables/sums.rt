@@ -1,23 +1,52 @@
 // What two parts give at many points: pairs of them are looked at only where their trees together are within the limit, and what larger
 // trees alone reach are sums of sets.
 
-ghost use Rattle.std.specs.Prelude.{◌≡◌, ◌<◌, ◌≤◌, ◌+◌, length, get_or, ℕ, IfOk, OnOk, IsTrue};
+ghost use Rattle.std.specs.Prelude.{◌≡◌, ◌<◌, ◌≤◌, ◌+◌, ◌++◌, ◌∷◌, [], if◌then◌else◌, length, get_or, ℕ, IfOk, OnOk, IsTrue};
 ghost use Rattle.pat_inclusion_spec.specs.bounds.Tables.{Step};
 ghost use Rattle.pat_inclusion_spec.specs.bounds.Numbers.{HasAllEntries, table_of, point_of};
 ghost use Rattle.pat_grid.specs.tables.Views.{setting_of, IsBoard};
-ghost use Rattle.pat_grid.specs.tables.Moves.{entry_at, IsPlace, Among, Moved, TakesParts, AreOthers, RowsBefore, KeepsKnown, AreKnown, WithinAt, RowWithin, RowsWithin, HasSums};
+ghost use Rattle.pat_grid.specs.tables.Moves.{entry_at, IsPlace, HasLists, WholeRows, KeptBefore, Moved, TakesParts, AreOthers, RowsBefore, KeepsKnown, AreKnown, WithinAt, RowWithin, RowsWithin, HasSums};
 
 use crate::tables::board::Board;
 use crate::tables::entries::{entry, reach};
 use crate::tables::sizes::Sizes;
-use crate::tables::steps::relax_pair;
-use pat_grid_sums::list_sums;
+use crate::tables::listing::known;
+use crate::tables::steps::{relax_pair, relax_parts};
 use pat_grid_points::SparseList;
+use pat_grid_sums::list_sums;
 use pat_sequences::Sequence;
 use std::alloc::{AllocError, Global};
 
+/// Lowers the entries of symbol `s` to what its parts give at each number of the one list with each of the other.
+pub fn relax_either(
+    alloc: Global,
+    board: &Board,
+    sizes: &mut Sizes,
+    s: usize,
+    parts: (usize, usize),
+    firsts: &[usize],
+    seconds: &[usize],
+    changed: &mut bool,
+) -> Result<(), AllocError>
+    requires board { IsBoard board.now }
+    requires all { HasAllEntries (setting_of board.now) sizes.old.entries }
+    requires there { s < length board.now.symbols.now }
+    requires firsts { (i : ℕ) → i < length firsts.now → (get_or firsts.now i 0 < board.now.points) × TakesParts (setting_of board.now) s parts.0 parts.1 (get_or firsts.now i 0) }
+    requires seconds { (j : ℕ) → j < length seconds.now → get_or seconds.now j 0 < board.now.points }
+    requires known { let g = setting_of board.now in AreKnown g parts.0 firsts.now sizes.old.entries × AreKnown g parts.1 seconds.now sizes.old.entries }
+    ensures { let g = setting_of board.now in OnOk result (Moved g s (AreOthers parts.0 parts.1 s) (RowsBefore g s parts.0 parts.1 firsts.now seconds.now (length firsts.now)) sizes.old changed.old sizes.new changed.new) }
+{
+    if !is_apart(parts, s) {
+        return relax_parts(board, sizes, s, parts, firsts, seconds, changed);
+    }
+    if !are_many(board, firsts.len(), seconds.len()) {
+        return relax_parts(board, sizes, s, parts, firsts, seconds, changed);
+    }
+    relax_many(alloc, board, sizes, s, parts, firsts, seconds, changed)
+}
+
 /// Whether both parts are other symbols.
-pub fn is_apart(parts: (usize, usize), s: usize) -> bool
+fn is_apart(parts: (usize, usize), s: usize) -> bool
     ensures { IsTrue result → AreOthers parts.0 parts.1 s }
 {
     parts.0 != s && parts.1 != s
@@ -29,8 +58,8 @@ pub fn are_many(board: &Board, firsts: usize, seconds: usize) -> bool
     firsts.saturating_mul(seconds) / 16 > board.points
 }
 
-/// Lowers the entries of symbol `s` to what its parts give at each number of the one list with each of the other.
-pub fn relax_many(
+/// So where there are many pairs, of other symbols.
+fn relax_many(
     alloc: Global,
     board: &Board,
     sizes: &mut Sizes,
@@ -53,8 +82,31 @@ pub fn relax_many(
     reach_sums(alloc, board, sizes, s, parts, firsts, seconds, changed)
 }
 
-/// So of a star, which is its own second part: once, since it is looked at again where something was lowered.
+/// So of a star, which is its own second part, at each point at which it has a tree: once, since it is looked at again where something
+/// was lowered.
 pub fn relax_round(
+    alloc: Global,
+    board: &Board,
+    sizes: &mut Sizes,
+    listed: &mut Sequence<usize>,
+    s: usize,
+    part: usize,
+    firsts: &[usize],
+    changed: &mut bool,
+) -> Result<(), AllocError>
+    requires board { IsBoard board.now }
+    requires all { HasAllEntries (setting_of board.now) sizes.old.entries }
+    requires lists { HasLists (setting_of board.now) sizes.old }
+    requires there { s < length board.now.symbols.now }
+    requires firsts { (i : ℕ) → i < length firsts.now → (get_or firsts.now i 0 < board.now.points) × TakesParts (setting_of board.now) s part s (get_or firsts.now i 0) }
+    requires known { AreKnown (setting_of board.now) part firsts.now sizes.old.entries }
+    ensures { let g = setting_of board.now in OnOk result (Moved g s ⊥ (WholeRows g s part s firsts.now (length firsts.now)) sizes.old changed.old sizes.new changed.new) }
+{
+    known(board, sizes, s, 0, listed)?;
+    relax_again(alloc, board, sizes, s, part, firsts, listed.as_slice(), changed)
+}
+
+fn relax_again(
     alloc: Global,
     board: &Board,
     sizes: &mut Sizes,
@@ -70,7 +122,7 @@ pub fn relax_round(
     requires firsts { (i : ℕ) → i < length firsts.now → (get_or firsts.now i 0 < board.now.points) × TakesParts (setting_of board.now) s part s (get_or firsts.now i 0) }
     requires seconds { (j : ℕ) → j < length seconds.now → get_or seconds.now j 0 < board.now.points }
     requires known { let g = setting_of board.now in AreKnown g part firsts.now sizes.old.entries × AreKnown g s seconds.now sizes.old.entries }
-    ensures { let g = setting_of board.now in OnOk result (Moved g s (⊥) (RowsBefore g s part s firsts.now seconds.now (length firsts.now)) sizes.old changed.old sizes.new changed.new) }
+    ensures { let g = setting_of board.now in OnOk result (Moved g s ⊥ (RowsBefore g s part s firsts.now seconds.now (length firsts.now)) sizes.old changed.old sizes.new changed.new) }
 {
     let mut lowered = false;
     relax_within(alloc, board, sizes, s, (part, s), firsts, seconds, &mut lowered)?;
@@ -118,16 +170,23 @@ fn within(
     requires board { IsBoard board.now }
     requires all { HasAllEntries (setting_of board.now) entries.now }
     requires numbers { (i : ℕ) → i < length numbers.now → get_or numbers.now i 0 < board.now.points }
-    ensures among { IfOk result (λ kept. (i : ℕ) → i < length kept → Among (get_or kept i 0) numbers.now) }
-    ensures all { IfOk result (λ kept. (i : ℕ) → i < length numbers.now → entry_at (setting_of board.now) entries.now s (get_or numbers.now i 0) < board.now.limit → Among (get_or numbers.now i 0) kept) }
+    ensures { IfOk result (λ kept. KeptBefore (setting_of board.now) s entries.now numbers.now (length numbers.now) kept) }
 {
     let mut kept = Sequence::new(alloc);
     for number in numbers {
-        if entry(board, entries, s, *number) < board.limit {
-            kept.push(*number)?;
-        }
+        let is_small = entry(board, entries, s, *number) < board.limit;
+        keep_if(is_small, *number, &mut kept)?;
     }
     Ok(kept)
+}
+
+fn keep_if(wanted: bool, number: usize, kept: &mut Sequence<usize>) -> Result<(), AllocError>
+    ensures { OnOk result (kept.new ≡ kept.old ++ (if wanted then number ∷ [] else [])) }
+{
+    if wanted {
+        kept.push(number)?;
+    }
+    Ok(())
 }
 
 fn relax_row_within(

@@ -12,8 +12,8 @@ use crate::tables::board::Board;
 use crate::tables::entries::lower;
 use crate::tables::listing::known;
 use crate::tables::sizes::{Scratch, Sizes};
-use crate::tables::steps::{relax_part, relax_parts, relax_row};
-use crate::tables::sums::{are_many, is_apart, relax_many, relax_round};
+use crate::tables::steps::{relax_part, relax_row};
+use crate::tables::sums::{are_many, relax_either, relax_round};
 use pat_bags::Bag;
 use pat_grid_points::{SparseList, Symbol, next_held, number_of, take};
 use pat_sequences::Sequence;
@@ -146,19 +146,8 @@ fn relax_product(
 {
     known(board, sizes, parts.0, 0, firsts)?;
     known(board, sizes, parts.1, 0, seconds)?;
-    if is_apart(parts, s) && are_many(board, firsts.len(), seconds.len()) {
-        return relax_many(
-            alloc,
-            board,
-            sizes,
-            s,
-            parts,
-            firsts.as_slice(),
-            seconds.as_slice(),
-            changed,
-        );
-    }
-    relax_parts(
+    relax_either(
+        alloc,
         board,
         sizes,
         s,
@@ -192,8 +181,7 @@ fn relax_star(
     let firsts = listed.as_slice();
     lower(board, sizes, s, 0, 1, changed)?;
     if are_many(board, firsts.len(), board.points) {
-        known(board, sizes, s, 0, seconds)?;
-        return relax_round(alloc, board, sizes, s, part, firsts, seconds.as_slice(), changed);
+        return relax_round(alloc, board, sizes, seconds, s, part, firsts, changed);
     }
     for first in firsts {
         relax_turn(board, sizes, seconds, s, part, *first, changed)?;

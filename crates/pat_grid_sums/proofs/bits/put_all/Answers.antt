@@ -1,5 +1,3 @@
-use Rattle.std.proofs.Common.{◌<◌, ◌/◌, get_or, sym, subst}
-use Rattle.std.proofs.Math.Nat.{mod-lt}
 use Rattle.pat_grid_sums.specs.Sets.{AtNumber}
 use Rattle.pat_grid_sums.proofs.Putting.{puts_begun, puts_more}
 use Rattle.pat_grid_sums.proofs.bits.put_all.Goals as goal

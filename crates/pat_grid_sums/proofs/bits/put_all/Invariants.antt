@@ -1,4 +1,3 @@
-use Rattle.std.proofs.Common.{length}
 use Rattle.pat_grid_sums.specs.Sets.{Puts, AnyBefore, AtNumber}
 use Rattle.pat_grid_sums.proofs.bits.put_all.Given as goal
 

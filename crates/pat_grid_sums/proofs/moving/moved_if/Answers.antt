@@ -1,4 +1,4 @@
-use Rattle.std.proofs.Common.{length, replicate, sym, subst}
+use Rattle.std.proofs.Common.{length, sym, subst}
 use Rattle.pat_grid_sums.specs.Sets.{Puts, AnyBefore, IsMovedAny}
 use Rattle.pat_grid_sums.specs.Shapes.{IsRow}
 use Rattle.pat_grid_sums.proofs.Putting.{has_all}

@@ -1,4 +1,4 @@
-use Rattle.std.proofs.Common.{◌≡◌, ◌+◌, ◌-◌, ◌*◌, ◌/◌, ◌%◌, ◌≤◌, ◌<◌, length, get_or, refl, sym, subst, arith}
+use Rattle.std.proofs.Common.{◌≡◌, ◌+◌, ◌-◌, ◌*◌, ◌/◌, refl, sym, subst, arith}
 use Rattle.pat_grid_points.proofs.Digits.{fewer_points}
 use Rattle.pat_grid_sums.specs.Shapes.{RowTo, IsRow}
 use Rattle.pat_grid_sums.proofs.Splitting.{row_room, row_whole}

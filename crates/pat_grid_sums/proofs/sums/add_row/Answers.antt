@@ -1,4 +1,4 @@
-use Rattle.std.proofs.Common.{◌<◌, ℕ, length, get_or, sym, subst}
+use Rattle.std.proofs.Common.{◌<◌, get_or, sym, subst}
 use Rattle.pat_grid_sums.specs.Shapes.{IsRow}
 use Rattle.pat_grid_sums.proofs.Splitting.{words_few, row_words}
 use Rattle.pat_grid_sums.proofs.sums.add_row.Goals as goal
