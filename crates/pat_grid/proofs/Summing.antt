@@ -186,14 +186,15 @@ round_lowered g s a b firsts seconds x y p q e m = record {
 
 -- ---- numbers that were kept
 
-pub kept_none : (g : Setting) (a : ℕ) (entries numbers : List ℕ) → KeptBefore g a entries numbers 0 []
-kept_none g a entries numbers = record {
+pub kept_none : (g : Setting) (a most : ℕ) (entries numbers : List ℕ) → KeptBefore g a most entries numbers 0 []
+kept_none g a most entries numbers = record {
   among = λ i l. absurd (omega arith);
+  less = λ i l. absurd (omega arith);
   all = λ i l small. absurd (omega arith);
 }
 
-kept_in : (g : Setting) (a m : ℕ) (entries numbers kept : List ℕ) → m < length numbers → KeptBefore g a entries numbers m kept → KeptBefore g a entries numbers (m + 1) (kept ++ get_or numbers m 0 ∷ [])
-kept_in g a m entries numbers kept there h =
+kept_in : (g : Setting) (a most m : ℕ) (entries numbers kept : List ℕ) → m < length numbers → entry_at g entries a (get_or numbers m 0) < most → KeptBefore g a most entries numbers m kept → KeptBefore g a most entries numbers (m + 1) (kept ++ get_or numbers m 0 ∷ [])
+kept_in g a most m entries numbers kept there small h =
     let n = get_or numbers m 0 in
     let more = length_push kept n in
     let last : get_or (kept ++ n ∷ []) (length kept) 0 ≡ n = get_or_push kept n 0 (length kept) refl in
@@ -202,17 +203,22 @@ kept_in g a m entries numbers kept there h =
           (λ (below : i < length kept). subst (λ c. Among c numbers) (sym (get_or_append_left kept (n ∷ []) 0 i below)) (h.among i below))
           (λ (past : length kept ≤ i). let e : length kept ≡ i = omega arith in subst (λ j. Among (get_or (kept ++ n ∷ []) j 0) numbers) e (m, there, sym last))
           (cases_lt i (length kept));
-      all = λ i l small. ⊎_elim
-          (λ (below : i < m). let t = h.all i below small in let k = t.1 in (t.0, (let o : t.0 < length (kept ++ n ∷ []) = omega arith in o), get_or_append_left kept (n ∷ []) 0 t.0 t.1 ∙ t.2))
+      less = λ i l. ⊎_elim
+          (λ (below : i < length kept). subst (λ c. entry_at g entries a c < most) (sym (get_or_append_left kept (n ∷ []) 0 i below)) (h.less i below))
+          (λ (past : length kept ≤ i). let e : length kept ≡ i = omega arith in subst (λ j. entry_at g entries a (get_or (kept ++ n ∷ []) j 0) < most) e (subst (λ c. entry_at g entries a c < most) (sym last) small))
+          (cases_lt i (length kept));
+      all = λ i l few. ⊎_elim
+          (λ (below : i < m). let t = h.all i below few in let k = t.1 in (t.0, (let o : t.0 < length (kept ++ n ∷ []) = omega arith in o), get_or_append_left kept (n ∷ []) 0 t.0 t.1 ∙ t.2))
           (λ (past : m ≤ i). let e : m ≡ i = omega arith in (length kept, (let o : length kept < length (kept ++ n ∷ []) = omega arith in o), last ∙ ap (λ j. get_or numbers j 0) e))
           (cases_lt i m);
     }
 
-pub kept_more : (g : Setting) (a m : ℕ) (entries numbers kept : List ℕ) (wanted : Bool) → m < length numbers → (wanted ≡ false → g.limit ≤ entry_at g entries a (get_or numbers m 0)) → KeptBefore g a entries numbers m kept → KeptBefore g a entries numbers (m + 1) (kept ++ (if wanted then get_or numbers m 0 ∷ [] else []))
-kept_more g a m entries numbers kept true there large h = kept_in g a m entries numbers kept there h
-kept_more g a m entries numbers kept false there large h =
-    subst (KeptBefore g a entries numbers (m + 1)) (sym (append-nil kept)) (record {
+pub kept_more : (g : Setting) (a most m : ℕ) (entries numbers kept : List ℕ) (wanted : Bool) → m < length numbers → (wanted ≡ true → entry_at g entries a (get_or numbers m 0) < most) → (wanted ≡ false → most ≤ entry_at g entries a (get_or numbers m 0)) → KeptBefore g a most entries numbers m kept → KeptBefore g a most entries numbers (m + 1) (kept ++ (if wanted then get_or numbers m 0 ∷ [] else []))
+kept_more g a most m entries numbers kept true there small large h = kept_in g a most m entries numbers kept there (small refl) h
+kept_more g a most m entries numbers kept false there little large h =
+    subst (KeptBefore g a most entries numbers (m + 1)) (sym (append-nil kept)) (record {
       among = h.among;
+      less = h.less;
       all = λ i l small. ⊎_elim
           (λ (below : i < m). h.all i below small)
           (λ (past : m ≤ i). let e : m ≡ i = omega arith in let at = ap (λ j. entry_at g entries a (get_or numbers j 0)) e in let big = large refl in absurd (omega arith))

@@ -139,10 +139,11 @@ abbrev pub RowsWithin : Setting → ℕ → ℕ → ℕ → List ℕ → List �
 RowsWithin g s a b firsts seconds m entries =
     (i : ℕ) → i < m → RowWithin g s a b (get_or firsts i 0) seconds (length seconds) entries
 
--- of the first m numbers those at which the tree is below the limit were kept
-pub record KeptBefore (g : Setting) (a : ℕ) (entries numbers : List ℕ) (m : ℕ) (kept : List ℕ) : Type 0 where
+-- of the first m numbers those at which the entry is below `most` were kept
+pub record KeptBefore (g : Setting) (a most : ℕ) (entries numbers : List ℕ) (m : ℕ) (kept : List ℕ) : Type 0 where
   pub among : (i : ℕ) → i < length kept → Among (get_or kept i 0) numbers
-  pub all : (i : ℕ) → i < m → entry_at g entries a (get_or numbers i 0) < g.limit → Among (get_or numbers i 0) kept
+  pub less : (i : ℕ) → i < length kept → entry_at g entries a (get_or kept i 0) < most
+  pub all : (i : ℕ) → i < m → entry_at g entries a (get_or numbers i 0) < most → Among (get_or numbers i 0) kept
 
 -- at each sum of numbers of both lists the symbol has a tree
 abbrev pub HasSums : Setting → ℕ → List ℕ → List ℕ → List ℕ → Type 0

@@ -9,8 +9,8 @@ ghost use Rattle.pat_grid.specs.tables.Moves.{entry_at, IsPlace, HasLists, Whole
 
 use crate::tables::board::Board;
 use crate::tables::entries::{entry, reach};
-use crate::tables::sizes::Sizes;
 use crate::tables::listing::known;
+use crate::tables::sizes::Sizes;
 use crate::tables::steps::{relax_pair, relax_parts};
 use pat_grid_points::SparseList;
 use pat_grid_sums::list_sums;
@@ -33,7 +33,6 @@ pub fn relax_either(
     requires there { s < length board.now.symbols.now }
     requires firsts { (i : ℕ) → i < length firsts.now → (get_or firsts.now i 0 < board.now.points) × TakesParts (setting_of board.now) s parts.0 parts.1 (get_or firsts.now i 0) }
     requires seconds { (j : ℕ) → j < length seconds.now → get_or seconds.now j 0 < board.now.points }
-    requires known { let g = setting_of board.now in AreKnown g parts.0 firsts.now sizes.old.entries × AreKnown g parts.1 seconds.now sizes.old.entries }
     ensures { let g = setting_of board.now in OnOk result (Moved g s (AreOthers parts.0 parts.1 s) (RowsBefore g s parts.0 parts.1 firsts.now seconds.now (length firsts.now)) sizes.old changed.old sizes.new changed.new) }
 {
     if !is_apart(parts, s) {
@@ -42,7 +41,32 @@ pub fn relax_either(
     if !are_many(board, firsts.len(), seconds.len()) {
         return relax_parts(board, sizes, s, parts, firsts, seconds, changed);
     }
-    relax_many(alloc, board, sizes, s, parts, firsts, seconds, changed)
+    let ones = kept_below(
+        alloc,
+        board,
+        &sizes.entries,
+        parts.0,
+        board.limit + 2,
+        firsts,
+    )?;
+    let others = kept_below(
+        alloc,
+        board,
+        &sizes.entries,
+        parts.1,
+        board.limit + 2,
+        seconds,
+    )?;
+    relax_many(
+        alloc,
+        board,
+        sizes,
+        s,
+        parts,
+        ones.as_slice(),
+        others.as_slice(),
+        changed,
+    )
 }
 
 /// Whether both parts are other symbols.
@@ -53,8 +77,7 @@ fn is_apart(parts: (usize, usize), s: usize) -> bool
 }
 
 /// Whether there are so many pairs that sums of sets are quicker.
-pub fn are_many(board: &Board, firsts: usize, seconds: usize) -> bool
-{
+pub fn are_many(board: &Board, firsts: usize, seconds: usize) -> bool {
     firsts.saturating_mul(seconds) / 16 > board.points
 }
 
@@ -99,11 +122,28 @@ pub fn relax_round(
     requires lists { HasLists (setting_of board.now) sizes.old }
     requires there { s < length board.now.symbols.now }
     requires firsts { (i : ℕ) → i < length firsts.now → (get_or firsts.now i 0 < board.now.points) × TakesParts (setting_of board.now) s part s (get_or firsts.now i 0) }
-    requires known { AreKnown (setting_of board.now) part firsts.now sizes.old.entries }
     ensures { let g = setting_of board.now in OnOk result (Moved g s ⊥ (WholeRows g s part s firsts.now (length firsts.now)) sizes.old changed.old sizes.new changed.new) }
 {
     known(board, sizes, s, 0, listed)?;
-    relax_again(alloc, board, sizes, s, part, firsts, listed.as_slice(), changed)
+    let ones = kept_below(alloc, board, &sizes.entries, part, board.limit + 2, firsts)?;
+    let others = kept_below(
+        alloc,
+        board,
+        &sizes.entries,
+        s,
+        board.limit + 2,
+        listed.as_slice(),
+    )?;
+    relax_again(
+        alloc,
+        board,
+        sizes,
+        s,
+        part,
+        ones.as_slice(),
+        others.as_slice(),
+        changed,
+    )
 }
 
 fn relax_again(
@@ -125,7 +165,16 @@ fn relax_again(
     ensures { let g = setting_of board.now in OnOk result (Moved g s ⊥ (RowsBefore g s part s firsts.now seconds.now (length firsts.now)) sizes.old changed.old sizes.new changed.new) }
 {
     let mut lowered = false;
-    relax_within(alloc, board, sizes, s, (part, s), firsts, seconds, &mut lowered)?;
+    relax_within(
+        alloc,
+        board,
+        sizes,
+        s,
+        (part, s),
+        firsts,
+        seconds,
+        &mut lowered,
+    )?;
     if lowered {
         *changed = true;
         return Ok(());
@@ -151,30 +200,59 @@ fn relax_within(
     requires seconds { (j : ℕ) → j < length seconds.now → get_or seconds.now j 0 < board.now.points }
     ensures { let g = setting_of board.now in OnOk result (Moved g s (AreOthers parts.0 parts.1 s) (RowsWithin g s parts.0 parts.1 firsts.now seconds.now (length firsts.now)) sizes.old changed.old sizes.new changed.new) }
 {
-    let ones = within(alloc, board, &sizes.entries, parts.0, firsts)?;
-    let others = within(alloc, board, &sizes.entries, parts.1, seconds)?;
-    for first in ones.as_slice() {
-        relax_row_within(board, sizes, s, parts, *first, others.as_slice(), changed)?;
+    let ones = kept_below(alloc, board, &sizes.entries, parts.0, board.limit, firsts)?;
+    let others = kept_below(alloc, board, &sizes.entries, parts.1, board.limit, seconds)?;
+    relax_rows_within(
+        board,
+        sizes,
+        s,
+        parts,
+        ones.as_slice(),
+        others.as_slice(),
+        changed,
+    )
+}
+
+/// So at each number of the one list with each of the other.
+fn relax_rows_within(
+    board: &Board,
+    sizes: &mut Sizes,
+    s: usize,
+    parts: (usize, usize),
+    firsts: &[usize],
+    seconds: &[usize],
+    changed: &mut bool,
+) -> Result<(), AllocError>
+    requires board { IsBoard board.now }
+    requires all { HasAllEntries (setting_of board.now) sizes.old.entries }
+    requires there { s < length board.now.symbols.now }
+    requires firsts { (i : ℕ) → i < length firsts.now → (get_or firsts.now i 0 < board.now.points) × TakesParts (setting_of board.now) s parts.0 parts.1 (get_or firsts.now i 0) }
+    requires seconds { (j : ℕ) → j < length seconds.now → get_or seconds.now j 0 < board.now.points }
+    ensures { let g = setting_of board.now in OnOk result (Moved g s (AreOthers parts.0 parts.1 s) (RowsWithin g s parts.0 parts.1 firsts.now seconds.now (length firsts.now)) sizes.old changed.old sizes.new changed.new) }
+{
+    for first in firsts {
+        relax_row_within(board, sizes, s, parts, *first, seconds, changed)?;
     }
     Ok(())
 }
 
-/// Those of the numbers at which the symbol's tree is below the limit.
-fn within(
+/// Those of the numbers at which the symbol's entry is below `most`.
+fn kept_below(
     alloc: Global,
     board: &Board,
     entries: &SparseList<u16>,
     s: usize,
+    most: u16,
     numbers: &[usize],
 ) -> Result<Sequence<usize>, AllocError>
     requires board { IsBoard board.now }
     requires all { HasAllEntries (setting_of board.now) entries.now }
     requires numbers { (i : ℕ) → i < length numbers.now → get_or numbers.now i 0 < board.now.points }
-    ensures { IfOk result (λ kept. KeptBefore (setting_of board.now) s entries.now numbers.now (length numbers.now) kept) }
+    ensures { IfOk result (λ kept. KeptBefore (setting_of board.now) s most entries.now numbers.now (length numbers.now) kept) }
 {
     let mut kept = Sequence::new(alloc);
     for number in numbers {
-        let is_small = entry(board, entries, s, *number) < board.limit;
+        let is_small = entry(board, entries, s, *number) < most;
         keep_if(is_small, *number, &mut kept)?;
     }
     Ok(kept)

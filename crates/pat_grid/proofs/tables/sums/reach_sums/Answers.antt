@@ -48,11 +48,12 @@ loop-number-preserved c =
     let s = a.s in
     let numbers = c.as_slice.result.now in
     let t = c.loop-number.number-index in
-    let sums = subst (AreSums g.bound g.tags a.firsts.now a.seconds.now) (sym c.as_slice.ensures) c.in_ok-numbers.ensures in
-    (moved_both g s (Unit {0}) (λ es. (i : ℕ) → i < t → entry_at g es s (get_or numbers i 0) ≤ g.limit + 1) (λ es. entry_at g es s (get_or numbers t 0) ≤ g.limit + 1) (λ es. (i : ℕ) → i < t + 1 → entry_at g es s (get_or numbers i 0) ≤ g.limit + 1) a.sizes.now c.loop-number.sizes c.reach_if.new.sizes a.changed.now c.loop-number.changed c.reach_if.new.changed c.loop-number.invariant.0 c.in_ok-reach_if.ensures.moved
-    (λ o lowers before i l. let test = c.loop-number-test.true in let less = lowers.here (get_or numbers i 0) (sums.within i (omega arith)) in let was = before i l in omega arith)
-    (λ before here. before_more (λ i. entry_at g c.reach_if.new.sizes.entries s (get_or numbers i 0) ≤ g.limit + 1) t before here),
-    keeps_both g a.sizes.now.entries c.loop-number.sizes.entries c.reach_if.new.sizes.entries c.loop-number.invariant.1 c.in_ok-reach_if.ensures.kept)
+    let sums = subst (AreSums g.bound g.tags a.firsts.now a.seconds.now) (sym c.as_slice.ensures) c.in_ok-numbers.ensures in (
+      moved_both g s (Unit {0}) (λ es. (i : ℕ) → i < t → entry_at g es s (get_or numbers i 0) ≤ g.limit + 1) (λ es. entry_at g es s (get_or numbers t 0) ≤ g.limit + 1) (λ es. (i : ℕ) → i < t + 1 → entry_at g es s (get_or numbers i 0) ≤ g.limit + 1) a.sizes.now c.loop-number.sizes c.reach_if.new.sizes a.changed.now c.loop-number.changed c.reach_if.new.changed c.loop-number.invariant.0 c.in_ok-reach_if.ensures.moved
+          (λ o lowers before i l. let test = c.loop-number-test.true in let less = lowers.here (get_or numbers i 0) (sums.within i (omega arith)) in let was = before i l in omega arith)
+          (λ before here. before_more (λ i. entry_at g c.reach_if.new.sizes.entries s (get_or numbers i 0) ≤ g.limit + 1) t before here),
+      keeps_both g a.sizes.now.entries c.loop-number.sizes.entries c.reach_if.new.sizes.entries c.loop-number.invariant.1 c.in_ok-reach_if.ensures.kept,
+    )
 
 pub returns : goal.returns
 returns c =

@@ -23,6 +23,7 @@ pub reach_sums-requires-clause-known : goal.reach_sums-requires-clause-known
 reach_sums-requires-clause-known c =
     let a = c.args in
     let points = c.requires.board.points in
-    let lowers = c.in_ok-relax_within.ensures.lowers in
-    (λ i l. subst (IsKnown a.board.now.limit) (sym (lowers.elsewhere a.parts.0 (get_or a.firsts.now i 0) c.requires.apart.0 (subst (λ n. get_or a.firsts.now i 0 < n) points (c.requires.firsts i l).0))) (c.requires.known.0 i l),
-    λ j l. subst (IsKnown a.board.now.limit) (sym (lowers.elsewhere a.parts.1 (get_or a.seconds.now j 0) c.requires.apart.1 (subst (λ n. get_or a.seconds.now j 0 < n) points (c.requires.seconds j l)))) (c.requires.known.1 j l))
+    let lowers = c.in_ok-relax_within.ensures.lowers in (
+      λ i l. subst (IsKnown a.board.now.limit) (sym (lowers.elsewhere a.parts.0 (get_or a.firsts.now i 0) c.requires.apart.0 (subst (λ n. get_or a.firsts.now i 0 < n) points (c.requires.firsts i l).0))) (c.requires.known.0 i l),
+      λ j l. subst (IsKnown a.board.now.limit) (sym (lowers.elsewhere a.parts.1 (get_or a.seconds.now j 0) c.requires.apart.1 (subst (λ n. get_or a.seconds.now j 0 < n) points (c.requires.seconds j l)))) (c.requires.known.1 j l),
+    )

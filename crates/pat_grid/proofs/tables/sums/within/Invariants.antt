@@ -1,6 +1,0 @@
-use Rattle.pat_grid.specs.tables.Views.{setting_of}
-use Rattle.pat_grid.specs.tables.Moves.{KeptBefore}
-use Rattle.pat_grid.proofs.tables.sums.within.Given as goal
-
-abbrev pub invariant-loop-number : goal.invariant-loop-number
-invariant-loop-number l = KeptBefore (setting_of l.board) l.s l.entries l.numbers l.number-index l.kept
