@@ -130,6 +130,25 @@ within_moved g s a b firsts seconds ones others x y p q lf ls all_first all_seco
     (λ j l. same_row g s b (get_or seconds j 0) x.entries y.entries m.lowers (ls j l) (⊎_elim (λ t. inl t) (λ t. inr t.1) o))
     rows)
 
+-- pairs of which one has no tree claim nothing
+pub rows_known : (g : Setting) (s a b : ℕ) (firsts seconds ones others x y : List ℕ) → ((i : ℕ) → i < length firsts → entry_at g x a (get_or firsts i 0) < g.limit + 2 → Among (get_or firsts i 0) ones) → ((j : ℕ) → j < length seconds → entry_at g x b (get_or seconds j 0) < g.limit + 2 → Among (get_or seconds j 0) others) → ((i : ℕ) → i < length firsts → entry_at g y a (get_or firsts i 0) ≡ entry_at g x a (get_or firsts i 0)) → ((j : ℕ) → j < length seconds → entry_at g y b (get_or seconds j 0) ≡ entry_at g x b (get_or seconds j 0)) → RowsBefore g s a b ones others (length ones) y → RowsBefore g s a b firsts seconds (length firsts) y
+rows_known g s a b firsts seconds ones others x y all_first all_second same_first same_second rows i l j m ka kb =
+    let e = same_first i l in
+    let f = same_second j m in
+    let one = all_first i l (omega arith) in
+    let other = all_second j m (omega arith) in
+    subst (λ v. PairAt g s a b v (get_or seconds j 0) y) one.2
+    (subst (λ w. PairAt g s a b (get_or ones one.0 0) w y) other.2 (rows one.0 one.1 other.0 other.1))
+    ka kb
+
+pub known_moved : (g : Setting) (Apart : Type 0) (s a b : ℕ) (firsts seconds ones others : List ℕ) (x y : Sizes) (p q : Bool) → (Apart → AreOthers a b s) → ArePoints g firsts → ArePoints g seconds → ((i : ℕ) → i < length firsts → entry_at g x.entries a (get_or firsts i 0) < g.limit + 2 → Among (get_or firsts i 0) ones) → ((j : ℕ) → j < length seconds → entry_at g x.entries b (get_or seconds j 0) < g.limit + 2 → Among (get_or seconds j 0) others) → Moved g s Apart (RowsBefore g s a b ones others (length ones)) x p y q → Moved g s Apart (RowsBefore g s a b firsts seconds (length firsts)) x p y q
+known_moved g Apart s a b firsts seconds ones others x y p q apart lf ls all_first all_second m =
+    moved_as g s Apart Apart (RowsBefore g s a b ones others (length ones)) (RowsBefore g s a b firsts seconds (length firsts)) x y p q m (λ d. d)
+    (λ o rows. rows_known g s a b firsts seconds ones others x.entries y.entries all_first all_second
+    (λ i l. same_row g s a (get_or firsts i 0) x.entries y.entries m.lowers (lf i l) (⊎_elim (λ t. inl t) (λ t. inr (apart t).0) o))
+    (λ j l. same_row g s b (get_or seconds j 0) x.entries y.entries m.lowers (ls j l) (⊎_elim (λ t. inl t) (λ t. inr (apart t).1) o))
+    rows)
+
 -- all sums are reached where the numbers are
 pub sums_reached : (g : Setting) (s : ℕ) (firsts seconds numbers entries : List ℕ) → AreSums g.bound g.tags firsts seconds numbers → ((t : ℕ) → t < length numbers → entry_at g entries s (get_or numbers t 0) ≤ g.limit + 1) → HasSums g s firsts seconds entries
 sums_reached g s firsts seconds numbers entries sums reached i j l m =
