@@ -1,15 +1,15 @@
 -- What is reached by sums of sets.
-use Rattle.std.proofs.Common.{◌≡◌, ℕ, suc, ◌+◌, ◌*◌, ◌<◌, ◌≤◌, min, ◌⊎◌, inl, inr, ⊎_elim, Bool, true, false, List, [], ◌∷◌, ◌++◌, length, get_or, set, refl, sym, ap, ap₂, ◌∙◌, subst, arith}
+use Rattle.std.proofs.Common.{◌≡◌, ℕ, ◌+◌, ◌*◌, ◌<◌, ◌≤◌, ◌⊎◌, inl, inr, ⊎_elim, Bool, true, false, List, [], ◌∷◌, ◌++◌, length, get_or, set, refl, sym, ap, ◌∙◌, subst, arith}
 use Rattle.std.specs.Prelude.{if◌then◌else◌}
 use Rattle.std.proofs.lemmas.Bool.{cases_lt, cases_eq}
 use Rattle.std.proofs.lemmas.List.{get_or_default, get_or_append_left, get_or_push, length_push, append-nil}
-use Rattle.pat_inclusion_spec.specs.bounds.Tables.{Setting, IsKnown, Step, capped}
+use Rattle.pat_inclusion_spec.specs.bounds.Tables.{Setting, IsKnown, Step}
 use Rattle.pat_inclusion_spec.specs.bounds.Numbers.{points_in, point_of, table_of, unknown, HasAllEntries}
 use Rattle.pat_grid_points.specs.Views.{summed}
 use Rattle.pat_grid_points.proofs.Digits.{summed_below}
 use Rattle.pat_grid_sums.specs.Shapes.{AreSums}
 use Rattle.pat_grid.specs.declared.tables.sizes.Sizes.{Sizes}
-use Rattle.pat_grid.specs.tables.Moves.{entry_at, IsPlace, Among, ArePoints, Moved, Lowers, TakesParts, AreOthers, PairAt, RowsBefore, KeepsKnown, AreKnown, WithinAt, RowWithin, RowsWithin, KeptBefore, HasSums}
+use Rattle.pat_grid.specs.tables.Moves.{entry_at, IsPlace, Among, ArePoints, Moved, Lowers, TakesParts, AreOthers, PairAt, RowsBefore, KeepsKnown, WithinAt, RowWithin, RowsWithin, KeptBefore, HasSums}
 use Rattle.pat_grid.specs.declared.tables.board.Board.{Board}
 use Rattle.pat_grid.specs.tables.Views.{setting_of, IsBoard}
 use Rattle.pat_grid.proofs.Relaxing.{entry_other, entry_within, symbol_within, pair_step, pair_kept, same_row, moved_none, moved_as, moved_both}

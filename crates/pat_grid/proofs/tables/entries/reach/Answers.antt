@@ -1,4 +1,4 @@
-use Rattle.std.proofs.Common.{◌+◌, ap, sym, ◌∙◌, refl, set, true, arith}
+use Rattle.std.proofs.Common.{◌+◌, ap, ◌∙◌, refl, set, true}
 use Rattle.pat_grid.proofs.Relaxing.{lowered}
 use Rattle.pat_grid.proofs.Summing.{reach_less, reach_keeps}
 use Rattle.pat_grid.proofs.tables.entries.reach.Goals as goal

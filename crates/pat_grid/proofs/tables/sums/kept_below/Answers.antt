@@ -1,8 +1,8 @@
-use Rattle.std.proofs.Common.{[], ◌+◌, sym, subst, arith}
+use Rattle.std.proofs.Common.{◌+◌, sym, subst, arith}
 use Rattle.std.proofs.lemmas.Bool.{ltb-false, ltb-true}
 use Rattle.pat_grid.specs.tables.Views.{setting_of}
 use Rattle.pat_grid.specs.tables.Moves.{KeptBefore}
-use Rattle.pat_grid.proofs.Summing.{kept_none, kept_more}
+use Rattle.pat_grid.proofs.Summing.{kept_more}
 use Rattle.pat_grid.proofs.tables.sums.kept_below.Goals as goal
 
 pub loop-number-preserved : goal.loop-number-preserved

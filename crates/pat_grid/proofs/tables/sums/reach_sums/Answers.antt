@@ -1,8 +1,8 @@
-use Rattle.std.proofs.Common.{ℕ, ◌+◌, ◌<◌, ◌≤◌, get_or, length, sym, subst, ◌∙◌, ap, arith}
+use Rattle.std.proofs.Common.{ℕ, ◌+◌, ◌<◌, ◌≤◌, get_or, sym, subst, ◌∙◌, arith}
 use Rattle.pat_grid_sums.specs.Shapes.{AreSums}
 use Rattle.pat_grid.specs.tables.Views.{setting_of}
 use Rattle.pat_grid.specs.tables.Moves.{entry_at, HasSums}
-use Rattle.pat_grid.proofs.Relaxing.{moved_none, moved_both, moved_as, before_none, before_more}
+use Rattle.pat_grid.proofs.Relaxing.{moved_none, moved_both, moved_as, before_more}
 use Rattle.pat_grid.proofs.Summing.{keeps_none, keeps_both, sum_step, sums_reached}
 use Rattle.pat_grid.proofs.tables.sums.reach_sums.Goals as goal
 

@@ -1,7 +1,6 @@
-use Rattle.std.proofs.Common.{◌≡◌, ◌<◌, List, length, get_or, inl, sym, subst, arith}
-use Rattle.pat_inclusion_spec.specs.bounds.Tables.{IsKnown}
+use Rattle.std.proofs.Common.{inl, sym, subst}
 use Rattle.pat_grid.specs.tables.Views.{setting_of}
-use Rattle.pat_grid.specs.tables.Moves.{AreKnown, HasSums}
+use Rattle.pat_grid.specs.tables.Moves.{AreKnown}
 use Rattle.pat_grid.proofs.Summing.{round_moved, round_lowered}
 use Rattle.pat_grid.proofs.Waiting.{on_ok}
 use Rattle.pat_grid.proofs.tables.sums.relax_again.Goals as goal

@@ -1,4 +1,4 @@
-use Rattle.std.proofs.Common.{◌≡◌, ◌<◌, ◌+◌, ℕ, get_or, length, sym, subst}
+use Rattle.std.proofs.Common.{◌<◌, ◌+◌, get_or, length, sym, subst}
 use Rattle.pat_grid.specs.tables.Views.{setting_of}
 use Rattle.pat_grid.specs.tables.Moves.{TakesParts, KeptBefore, AreOthers}
 use Rattle.pat_grid.proofs.Summing.{known_moved}

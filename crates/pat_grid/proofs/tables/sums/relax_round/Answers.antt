@@ -1,4 +1,4 @@
-use Rattle.std.proofs.Common.{◌≡◌, ◌<◌, ◌+◌, ℕ, get_or, length, sym, subst}
+use Rattle.std.proofs.Common.{◌<◌, ◌+◌, get_or, length, sym, subst}
 use Rattle.pat_inclusion_spec.specs.bounds.Tables.{IsKnown}
 use Rattle.pat_grid.specs.tables.Views.{setting_of}
 use Rattle.pat_grid.specs.tables.Moves.{entry_at, TakesParts, KeptBefore, Lists}
