@@ -4,6 +4,7 @@ mod Reached
 mod Relaxing
 mod Closing
 mod Turns
+mod Summing
 mod Done
 mod Waiting
 mod Walking

@@ -138,7 +138,7 @@ other_place p a s c d n l m e =
     (cases_lt a s)
 
 -- an entry at another place stays
-entry_other : (g : Setting) (entries : List ℕ) (s d size a c : ℕ) → d < points_in g.bound g.tags → c < points_in g.bound g.tags → (a ≡ s → ⊥) ⊎ (c ≡ d → ⊥) → entry_at g (set entries (s * points_in g.bound g.tags + d) size) a c ≡ entry_at g entries a c
+pub entry_other : (g : Setting) (entries : List ℕ) (s d size a c : ℕ) → d < points_in g.bound g.tags → c < points_in g.bound g.tags → (a ≡ s → ⊥) ⊎ (c ≡ d → ⊥) → entry_at g (set entries (s * points_in g.bound g.tags + d) size) a c ≡ entry_at g entries a c
 entry_other g entries s d size a c l m o =
     get_or-set_other entries (s * points_in g.bound g.tags + d) (a * points_in g.bound g.tags + c) size (unknown g.limit)
     (⊎_elim

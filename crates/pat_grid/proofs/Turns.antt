@@ -113,6 +113,14 @@ module _ (b : Board) (board : IsBoard b) (s : ℕ) (x : Sizes) (p : Bool) where
       (λ o h. row_whole g s a s v seconds z.entries
       (counted (λ i. IsKnown g.limit (entry_at g z.entries s i)) 0 seconds (known_as g s s 0 b.points seconds x.entries z.entries few both.lowers (⊎_elim (λ e. inl e) (λ n. absurd n) o) ls)) h)
 
+  -- all numbers of a list went along all at which the star has a tree
+  pub round_whole : (a : ℕ) (firsts seconds : List ℕ) (y : Sizes) (q : Bool) → Lists (λ i. IsKnown g.limit (entry_at g x.entries s i)) 0 b.points seconds → Moved g s ⊥ (RowsBefore g s a s firsts seconds (length firsts)) x p y q → Moved g s ⊥ (WholeRows g s a s firsts (length firsts)) x p y q
+  round_whole a firsts seconds y q ls m =
+      moved_as g s ⊥ ⊥ (RowsBefore g s a s firsts seconds (length firsts)) (WholeRows g s a s firsts (length firsts)) x y p q m (λ n. n)
+      (λ o rows i l. row_whole g s a s (get_or firsts i 0) seconds y.entries
+      (counted (λ j. IsKnown g.limit (entry_at g y.entries s j)) 0 seconds (known_as g s s 0 b.points seconds x.entries y.entries few m.lowers (⊎_elim (λ e. inl e) (λ n. absurd n) o) ls))
+      (rows i l))
+
   -- the first m numbers of the part went along so
   pub star_begins : (a : ℕ) (firsts : List ℕ) → Moved g s ⊥ (WholeRows g s a s firsts 0) x p x p
   star_begins a firsts = moved_none g s ⊥ (WholeRows g s a s firsts 0) x p (λ i l. absurd (omega arith))

@@ -6,6 +6,7 @@ mod listing;
 mod passes;
 mod sizes;
 mod steps;
+mod sums;
 mod symbols;
 mod users;
 

@@ -115,6 +115,41 @@ WholeRow g s a b v entries = (w : ℕ) → w < points_in g.bound g.tags → Pair
 abbrev pub WholeRows : Setting → ℕ → ℕ → ℕ → List ℕ → ℕ → List ℕ → Type 0
 WholeRows g s a b firsts m entries = (i : ℕ) → i < m → WholeRow g s a b (get_or firsts i 0) entries
 
+-- ---- by sums of sets
+
+-- where there was a tree the entry is what it was
+abbrev pub KeepsKnown : Setting → List ℕ → List ℕ → Type 0
+KeepsKnown g old new =
+    (a c : ℕ) → c < points_in g.bound g.tags → IsKnown g.limit (entry_at g old a c) → entry_at g new a c ≡ entry_at g old a c
+
+-- at each number of the list the symbol has a tree
+abbrev pub AreKnown : Setting → ℕ → List ℕ → List ℕ → Type 0
+AreKnown g a numbers entries = (i : ℕ) → i < length numbers → IsKnown g.limit (entry_at g entries a (get_or numbers i 0))
+
+-- where both trees together are within the limit, the parts give no less than the table has
+abbrev pub WithinAt : Setting → ℕ → ℕ → ℕ → ℕ → ℕ → List ℕ → Type 0
+WithinAt g s a b v w entries = entry_at g entries a v + entry_at g entries b w < g.limit → PairAt g s a b v w entries
+
+-- so it is for v and each of the first m numbers of the list
+abbrev pub RowWithin : Setting → ℕ → ℕ → ℕ → ℕ → List ℕ → ℕ → List ℕ → Type 0
+RowWithin g s a b v seconds m entries = (j : ℕ) → j < m → WithinAt g s a b v (get_or seconds j 0) entries
+
+-- and for each of the first m numbers of the one list and each of the other
+abbrev pub RowsWithin : Setting → ℕ → ℕ → ℕ → List ℕ → List ℕ → ℕ → List ℕ → Type 0
+RowsWithin g s a b firsts seconds m entries =
+    (i : ℕ) → i < m → RowWithin g s a b (get_or firsts i 0) seconds (length seconds) entries
+
+-- of the first m numbers those at which the entry is below `most` were kept
+pub record KeptBefore (g : Setting) (a most : ℕ) (entries numbers : List ℕ) (m : ℕ) (kept : List ℕ) : Type 0 where
+  pub among : (i : ℕ) → i < length kept → Among (get_or kept i 0) numbers
+  pub less : (i : ℕ) → i < length kept → entry_at g entries a (get_or kept i 0) < most
+  pub all : (i : ℕ) → i < m → entry_at g entries a (get_or numbers i 0) < most → Among (get_or numbers i 0) kept
+
+-- at each sum of numbers of both lists the symbol has a tree
+abbrev pub HasSums : Setting → ℕ → List ℕ → List ℕ → List ℕ → Type 0
+HasSums g s firsts seconds entries =
+    (i j : ℕ) → i < length firsts → j < length seconds → IsKnown g.limit (entry_at g entries s (summed g.bound g.tags (get_or firsts i 0) (get_or seconds j 0)))
+
 -- ---- lists of numbers
 
 -- the numbers lie between both, and those that have what is asked are all there

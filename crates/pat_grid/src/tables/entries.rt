@@ -3,7 +3,7 @@ ghost use Rattle.std.specs.Prelude.{◌≡◌, ◌<◌, ◌≤◌, ◌+◌, ◌*
 ghost use Rattle.pat_inclusion_spec.specs.bounds.Tables.{Step, IsKnown};
 ghost use Rattle.pat_inclusion_spec.specs.bounds.Numbers.{table_of, point_of, HasAllEntries};
 ghost use Rattle.pat_grid.specs.tables.Views.{setting_of, IsBoard};
-ghost use Rattle.pat_grid.specs.tables.Moves.{entry_at, IsPlace, Moved};
+ghost use Rattle.pat_grid.specs.tables.Moves.{entry_at, IsPlace, Moved, KeepsKnown};
 
 use crate::tables::board::Board;
 use crate::tables::sizes::{Sizes, note_if};
@@ -97,6 +97,30 @@ pub fn lower(
     note_if(old > board.limit + 1, &mut sizes.reached, s, number)?;
     sizes.news.push(number)?;
     sizes.entries.set(place, size)?;
+    *changed = true;
+    Ok(())
+}
+
+/// Notes that the symbol has a tree at the point with the number, where none was known; only larger ones than the limit.
+pub fn reach(
+    board: &Board,
+    sizes: &mut Sizes,
+    s: usize,
+    number: usize,
+    changed: &mut bool,
+) -> Result<(), AllocError>
+    requires board { IsBoard board.now }
+    requires all { HasAllEntries (setting_of board.now) sizes.old.entries }
+    requires place { IsPlace board.now s number }
+    requires none { board.now.limit + 1 < entry_at (setting_of board.now) sizes.old.entries s number }
+    requires step { let g = setting_of board.now in Step g (table_of g sizes.old.entries) s (point_of g.bound g.tags number) (board.now.limit + 1) }
+    ensures moved { let g = setting_of board.now in OnOk result (Moved g s (Unit {0}) (λ es. entry_at g es s number ≤ g.limit + 1) sizes.old changed.old sizes.new changed.new) }
+    ensures kept { OnOk result (KeepsKnown (setting_of board.now) sizes.old.entries sizes.new.entries) }
+{
+    let place = place_of(board, &sizes.entries, s, number);
+    sizes.reached.note(s, number)?;
+    sizes.news.push(number)?;
+    sizes.entries.set(place, board.limit + 1)?;
     *changed = true;
     Ok(())
 }

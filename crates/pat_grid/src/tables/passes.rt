@@ -24,6 +24,7 @@ pub fn least_sizes(alloc: Global, board: &Board) -> Result<SparseList<u16>, Allo
     let users = users_of(alloc, board)?;
     let mut sizes = unknown_sizes(alloc, board)?;
     let mut scratch = Scratch {
+        alloc,
         firsts: Sequence::new(alloc),
         seconds: Sequence::new(alloc),
     };

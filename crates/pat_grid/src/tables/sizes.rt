@@ -4,7 +4,7 @@ ghost use Rattle.pat_grid_points.specs.Chains.{noted};
 
 use pat_grid_points::{Chains, SparseList};
 use pat_sequences::Sequence;
-use std::alloc::AllocError;
+use std::alloc::{AllocError, Global};
 
 /// The sizes of least trees as far as they are known. Mostly a symbol has trees at a handful of points, so these are also
 /// listed.
@@ -21,6 +21,7 @@ pub struct Sizes {
 /// Lists of numbers that each look fills anew, so that memory is taken for them once.
 #[derive(Drop)]
 pub struct Scratch {
+    pub alloc: Global,
     pub firsts: Sequence<usize>,
     pub seconds: Sequence<usize>,
 }

@@ -114,7 +114,7 @@ pub fn relax_row(
 }
 
 /// So at one number of each part.
-fn relax_pair(
+pub fn relax_pair(
     board: &Board,
     sizes: &mut Sizes,
     s: usize,

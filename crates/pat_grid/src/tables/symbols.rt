@@ -12,11 +12,12 @@ use crate::tables::board::Board;
 use crate::tables::entries::lower;
 use crate::tables::listing::known;
 use crate::tables::sizes::{Scratch, Sizes};
-use crate::tables::steps::{relax_part, relax_parts, relax_row};
+use crate::tables::steps::{relax_part, relax_row};
+use crate::tables::sums::{are_many, relax_either, relax_round};
 use pat_bags::Bag;
 use pat_grid_points::{SparseList, Symbol, next_held, number_of, take};
 use pat_sequences::Sequence;
-use std::alloc::AllocError;
+use std::alloc::{AllocError, Global};
 
 /// Lowers the entries of the symbol to what its steps give.
 pub fn relax_symbol(
@@ -40,14 +41,17 @@ pub fn relax_symbol(
             relax_sum(board, sizes, &mut scratch.firsts, s, left, right, changed)
         }
         Symbol::Prod(first, second) => {
+            let alloc = scratch.alloc;
             let firsts = &mut scratch.firsts;
             let seconds = &mut scratch.seconds;
-            relax_product(board, sizes, firsts, seconds, s, (first, second), changed)
+            let parts = (first, second);
+            relax_product(alloc, board, sizes, firsts, seconds, s, parts, changed)
         }
         Symbol::Star(part) => {
+            let alloc = scratch.alloc;
             let firsts = &mut scratch.firsts;
             let seconds = &mut scratch.seconds;
-            relax_star(board, sizes, firsts, seconds, s, part, changed)
+            relax_star(alloc, board, sizes, firsts, seconds, s, part, changed)
         }
         Symbol::Lower(variable) => {
             relax_lower(
@@ -124,6 +128,7 @@ fn relax_sum(
 }
 
 fn relax_product(
+    alloc: Global,
     board: &Board,
     sizes: &mut Sizes,
     firsts: &mut Sequence<usize>,
@@ -141,7 +146,8 @@ fn relax_product(
 {
     known(board, sizes, parts.0, 0, firsts)?;
     known(board, sizes, parts.1, 0, seconds)?;
-    relax_parts(
+    relax_either(
+        alloc,
         board,
         sizes,
         s,
@@ -155,6 +161,7 @@ fn relax_product(
 /// A star is the end, or a word of its part that isn't empty and then the star. What is reached or
 /// lowered is gone on from at once.
 fn relax_star(
+    alloc: Global,
     board: &Board,
     sizes: &mut Sizes,
     listed: &mut Sequence<usize>,
@@ -173,6 +180,9 @@ fn relax_star(
     known(board, sizes, part, 1, listed)?;
     let firsts = listed.as_slice();
     lower(board, sizes, s, 0, 1, changed)?;
+    if are_many(board, firsts.len(), board.points) {
+        return relax_round(alloc, board, sizes, seconds, s, part, firsts, changed);
+    }
     for first in firsts {
         relax_turn(board, sizes, seconds, s, part, *first, changed)?;
     }

@@ -1,5 +1,5 @@
 use Rattle.std.proofs.Common.{◌≡◌, ◌≤◌, length, sym, subst, arith}
-use Rattle.pat_checkpoint_numbers.proofs.Changed.{zero_beside}
+use Rattle.pat_checkpoint_numbers.proofs.Changed.{zero_beside, zero_unmarked}
 use Rattle.pat_checkpoint_numbers.proofs.marks.Marks.new.Goals as goal
 
 pub invariant_of-result : goal.invariant_of-result
@@ -8,5 +8,8 @@ invariant_of-result c =
     record {
       ascends = c.requires;
       each = omega arith;
-      below = λ b. subst (λ k. k ≤ 0) (sym (zero_beside c.args.live.now c.loop.turns b c.loop.invariant.zero)) (omega arith);
+      below = λ b. subst (λ k. k ≤ 1) (sym (zero_beside c.args.live.now c.loop.turns b c.loop.invariant.zero)) (omega arith);
     }
+
+pub returns-clause-none : goal.returns-clause-none
+returns-clause-none c = λ b. zero_unmarked c.args.live.now c.loop.turns b c.loop.invariant.zero

@@ -1,10 +1,11 @@
-use Rattle.std.proofs.Common.{◌≡◌, length, subst, sym, arith}
+use Rattle.std.proofs.Common.{◌≡◌, length, refl, subst, sym, arith}
 use Rattle.pat_inclusion_spec.specs.bounds.Tables.{IsKnown}
 use Rattle.pat_inclusion_spec.specs.bounds.Numbers.{table_of}
 use Rattle.pat_grid.specs.tables.Views.{setting_of}
 use Rattle.pat_grid.specs.tables.Moves.{entry_at, Lists}
 use Rattle.pat_grid.proofs.Closing.{some_points, step_end}
 use Rattle.pat_grid.proofs.Turns.{star_begins, star_goes_on, star_moved, star_takes}
+use Rattle.pat_grid.proofs.Waiting.{on_ok}
 use Rattle.pat_grid.proofs.tables.symbols.relax_star.Goals as goal
 
 pub lower-requires-clause-place : goal.lower-requires-clause-place
@@ -53,3 +54,21 @@ returns c =
     (subst (Lists (λ i. IsKnown g.limit (entry_at g c.args.sizes.now.entries c.args.part i)) 1 b.points) (sym c.as_slice-firsts.ensures) c.in_ok-known.ensures)
     (let e : c.loop-first.first-index ≡ length c.as_slice-firsts.result.now = omega arith in e)
     c.in_ok-lower.ensures c.loop-first.invariant
+
+pub relax_round-requires-clause-firsts : goal.relax_round-requires-clause-firsts
+relax_round-requires-clause-firsts c =
+    let b = c.args.board.now in
+    let g = setting_of b in
+    star_takes b c.requires.board c.args.s c.args.sizes.now c.args.changed.now c.args.part c.as_slice-firsts.result.now c.requires.symbol
+    (subst (Lists (λ i. IsKnown g.limit (entry_at g c.args.sizes.now.entries c.args.part i)) 1 b.points) (sym c.as_slice-firsts.ensures) c.in_ok-known.ensures)
+
+pub returns-then-are_many : goal.returns-then-are_many
+returns-then-are_many c =
+    let b = c.args.board.now in
+    let g = setting_of b in
+    let firsts = c.as_slice-firsts.result.now in
+    on_ok _ _ _
+    (λ m. star_moved b c.requires.board c.args.s c.args.sizes.now c.args.changed.now c.args.part (length firsts) firsts c.lower.new.sizes c.relax_round.new.sizes c.lower.new.changed c.relax_round.new.changed c.requires.symbol
+    (subst (Lists (λ i. IsKnown g.limit (entry_at g c.args.sizes.now.entries c.args.part i)) 1 b.points) (sym c.as_slice-firsts.ensures) c.in_ok-known.ensures)
+    refl c.in_ok-lower.ensures m)
+    c.relax_round.ensures
