@@ -1,8 +1,10 @@
-//! What `check`, `derive` and `verify` answer on whole inputs, and derivations judged.
+//! What `check`, `derive` and `verify` answer on whole inputs, and derivations and checkpoints judged.
 #![tactic(auto)]
 
 #[cfg(test)]
 mod checking;
+#[cfg(test)]
+mod checkpoints;
 #[cfg(test)]
 mod checks;
 #[cfg(test)]

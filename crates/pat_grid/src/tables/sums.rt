@@ -17,6 +17,9 @@ use pat_grid_sums::list_sums;
 use pat_sequences::Sequence;
 use std::alloc::{AllocError, Global};
 
+// As many pairs for each point of the grid cost about what its sums of sets do.
+const PAIRS_A_POINT: usize = 16;
+
 /// Lowers the entries of symbol `s` to what its parts give at each number of the one list with each of the other.
 pub fn relax_either(
     alloc: Global,
@@ -78,7 +81,7 @@ fn is_apart(parts: (usize, usize), s: usize) -> bool
 
 /// Whether there are so many pairs that sums of sets are quicker.
 pub fn are_many(board: &Board, firsts: usize, seconds: usize) -> bool {
-    firsts.saturating_mul(seconds) / 16 > board.points
+    firsts.saturating_mul(seconds) / PAIRS_A_POINT > board.points
 }
 
 /// So where there are many pairs, of other symbols.
