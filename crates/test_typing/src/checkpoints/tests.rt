@@ -1,5 +1,8 @@
 use crate::checking::check;
 use crate::checkpoints::looked::answer;
+use pat_core::Program;
+use pat_deriv::read;
+use pat_derivations::Derivation;
 use std::alloc::{AllocError, Global};
 use std::process::Abort;
 use std::test::Fail;
@@ -87,14 +90,21 @@ const ROWS: &[(&str, &str)] = &[
     ),
 ];
 
+fn derivation_of(rt: &impl Abort, alloc: Global, program: &Program, text: &[u8]) -> Derivation {
+    if text.len() > 1_000_000 || program.interfaces.len() > 1_000_000 {
+        panic!(rt; "too long");
+    }
+    match read(alloc, program, text, 0) {
+        Ok(derivation) => derivation,
+        Err(_) => panic!(rt; "no derivation"),
+    }
+}
+
 fn try_rows(rt: &impl Abort, alloc: Global) -> Result<(), AllocError> {
     let Some(program) = program_of_text(alloc, SENDS.as_bytes().to_vec(alloc)?) else {
         panic!(rt; "no program");
     };
-    let derivation = match pat_deriv::read(alloc, &program, DERIVED.as_bytes(), 0) {
-        Ok(derivation) => derivation,
-        Err(_) => panic!(rt; "no derivation"),
-    };
+    let derivation = derivation_of(rt, alloc, &program, DERIVED.as_bytes());
     for (text, wanted) in ROWS {
         let came = answer(rt, alloc, &program, &derivation, text.as_bytes())?;
         check(rt, came.as_str() == *wanted);
