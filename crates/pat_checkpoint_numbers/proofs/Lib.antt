@@ -1,4 +1,5 @@
 mod Halved
 mod Changed
 mod News
-mod Reversed
+-- for the crates above
+pub mod Reversed

@@ -2,17 +2,17 @@
 ghost use Rattle.pat_semantics_spec.specs.WellFormed.{WellFormed};
 ghost use Rattle.pat_core.specs.Views.{program_view};
 
-use pat_checkpoint_balances::{holders_hold, messages_hold, sides_of};
+use pat_checkpoint_checks::{CheckError, examine};
 use pat_checkpoint_data::Checkpoint;
-use pat_checkpoint_numbers::{mailboxes_differ, numbers_hold};
 use pat_checkpoint_text::read;
 use pat_core::Program;
 use pat_derivations::Derivation;
+use pat_judge::judge;
 use pat_texts::TextError;
 use std::alloc::{AllocError, Global};
 use std::process::Abort;
 
-/// Where the text isn't read, or the first of four rules that its checkpoint breaks.
+/// Where the text isn't read, or the first rule that its checkpoint breaks.
 pub fn answer(
     rt: &impl Abort,
     alloc: Global,
@@ -40,18 +40,12 @@ fn broken(
 ) -> Result<String, AllocError>
     requires { WellFormed (program_view program.now) }
 {
-    if !numbers_hold(&checkpoint.config) {
-        return String::from_str(alloc, "Numbers");
+    match judge(alloc, program, derivation)? {
+        Some(rejection) => format!(in alloc; "{} {:?}", rejection.node, rejection.rule),
+        None => match examine(alloc, program, derivation, checkpoint) {
+            Ok(()) => String::from_str(alloc, "checked"),
+            Err(CheckError::Bad(rule)) => format!(in alloc; "{rule:?}"),
+            Err(CheckError::NoMemory) => Err(AllocError),
+        },
     }
-    if !mailboxes_differ(alloc, &checkpoint.config)? {
-        return String::from_str(alloc, "Distinct");
-    }
-    let sides = sides_of(alloc, program, derivation, checkpoint)?;
-    if !holders_hold(&sides) {
-        return String::from_str(alloc, "Holder");
-    }
-    if !messages_hold(program, checkpoint) {
-        return String::from_str(alloc, "Messages");
-    }
-    String::from_str(alloc, "none")
 }

@@ -20,9 +20,9 @@ const ROWS: &[(&str, &str)] = &[
     // After five steps; a run that has ended.
     (
         "%%checkpoint\nnext 1 1 1\nmailbox 0 I\nmessage 0 0 m()\nthread 0 value unit\nframe - 4 {v0=#0}\n",
-        "none",
+        "checked",
     ),
-    ("%%checkpoint\nnext 1 0 0\n", "none"),
+    ("%%checkpoint\nnext 1 0 0\n", "checked"),
     // No marker, no next numbers, and next numbers that aren't.
     ("", "bad text at 0"),
     ("%%derivation\nnext 1 0 0\n", "bad text at 0"),
@@ -73,10 +73,24 @@ const ROWS: &[(&str, &str)] = &[
         "%%checkpoint\nnext 1 0 1\nmailbox 0 I\nmessage 0 0 m()\nthread 0 value unit\nframe - 4 {v0=#0}\n",
         "Numbers",
     ),
+    // A truth value where nothing is wanted, and a certificate that is left over.
+    (
+        "%%checkpoint\nnext 1 1 1\nmailbox 0 I\nmessage 0 0 m()\nthread 0 value true\nframe - 4 {v0=#0}\n",
+        "Kinds",
+    ),
+    (
+        "%%checkpoint\nnext 1 1 1\nmailbox 0 I\nmessage 0 0 m()\nthread 0 value unit\nframe - 4 {v0=#0} g2\n",
+        "Kinds",
+    ),
     // A message that brings the mailbox that it is in.
     (
         "%%checkpoint\nnext 1 1 1\nmailbox 0 I\nmessage 0 0 m(#0)\nthread 0 value unit\nframe - 4 {v0=#0}\n",
         "Distinct",
+    ),
+    // A guard that is control and frame.
+    (
+        "%%checkpoint\nnext 1 1 1\nmailbox 0 I\nmessage 0 0 m()\nthread 0 node 4 {v0=#0}\nframe - 4 {v0=#0}\n",
+        "Order",
     ),
     // A mailbox from which nobody receives.
     (
@@ -87,6 +101,15 @@ const ROWS: &[(&str, &str)] = &[
     (
         "%%checkpoint\nnext 1 1 1\nmailbox 0 I\nmessage 0 0 m(1)\nthread 0 value unit\nframe - 4 {v0=#0}\n",
         "Messages",
+    ),
+    // A message that is lost, and a certificate that is left over.
+    (
+        "%%checkpoint\nnext 1 1 1\nmailbox 0 I\nthread 0 value unit\nframe - 4 {v0=#0}\n",
+        "Balance",
+    ),
+    (
+        "%%checkpoint\nnext 1 1 1\nmailbox 0 I g2\nmessage 0 0 m()\nthread 0 value unit\nframe - 4 {v0=#0}\n",
+        "Balance",
     ),
 ];
 

@@ -1,0 +1,14 @@
+mod SameNumbers
+mod Keeps
+mod Chosen
+mod LetTable
+mod FreeLists
+mod PartsFit
+mod Standings
+mod Wanting
+mod Unequal
+mod Turns
+mod Just
+mod Gets
+mod Walks
+mod Whole
