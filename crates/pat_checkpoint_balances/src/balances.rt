@@ -121,8 +121,8 @@ fn is_balanced(
     )
 }
 
-// The first of the patterns, and 0 where there is none.
-fn first_of(patterns: &[Pattern]) -> Result<Pattern, AllocError>
+/// The first of the patterns, and 0 where there is none.
+pub fn first_of(patterns: &[Pattern]) -> Result<Pattern, AllocError>
     ensures { IfOk result (λ e. pattern_view e ≡ first_or_zero (patterns_view patterns.now)) }
 {
     match patterns.first() {

@@ -10,6 +10,9 @@ mod products;
 mod rows;
 mod walk;
 
-pub use balances::{balances_hold, holders_hold};
+pub use balances::{balances_hold, first_of, holders_hold};
+pub use bounds::bounds_of;
 pub use gathering::{Sides, sides_of};
 pub use messages::messages_hold;
+pub use places::interface_of;
+pub use products::product_of;

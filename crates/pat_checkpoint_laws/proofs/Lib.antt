@@ -15,7 +15,7 @@ mod Singles
 mod Gathers
 pub mod Lets
 mod Formed
-mod LineCerts
+pub mod LineCerts
 mod Showable
 mod LinesFormed
 mod Levels

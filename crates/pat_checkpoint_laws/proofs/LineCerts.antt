@@ -16,7 +16,7 @@ use Rattle.pat_checkpoint_spec.specs.Balances.{balance_needs, balances_shown, ba
 use Rattle.pat_checkpoint_spec.specs.Written.{frames_need, threads_need, lines_need, threads_certs, lines_certs, each_certified}
 
 module _ (s : Scope) where
-  join : (qs qs' : List (Option Inclusion)) (ks ks' : List (Option Cert)) → each_certified s qs ks ≡ true → each_certified s qs' ks' ≡ true → each_certified s (qs ++ qs') (ks ++ ks') ≡ true
+  pub join : (qs qs' : List (Option Inclusion)) (ks ks' : List (Option Cert)) → each_certified s qs ks ≡ true → each_certified s qs' ks' ≡ true → each_certified s (qs ++ qs') (ks ++ ks') ≡ true
   join [] qs' [] ks' a b = b
   join [] qs' (k ∷ ks) ks' a b = cc
   join (q ∷ qs) qs' [] ks' a b = cc
@@ -33,7 +33,7 @@ module _ (s : Scope) where
       let r = parts qs qs' ks ks' (let e : length qs ≡ length ks = omega arith in e) a.1 in
       (and_from (is_certified s q k) (each_certified s qs ks) a.0 r.0, r.1)
 
-  one : (q : Option Inclusion) (k : Option Cert) → is_certified s q k ≡ true → each_certified s (q ∷ []) (k ∷ []) ≡ true
+  pub one : (q : Option Inclusion) (k : Option Cert) → is_certified s q k ≡ true → each_certified s (q ∷ []) (k ∷ []) ≡ true
   one q k h = and_from (is_certified s q k) true h refl
 
   -- the other way round
@@ -121,7 +121,7 @@ module _ (s : Scope) (needs : ℕ → Inclusion) where
       let q = and_parts (is_shown s (needs a) k) (balances_shown s needs more is ks) h in
       and_from (is_shown s (needs a) k) (each_certified s (map (λ a. Some (needs a)) more) ks) q.0 (balances_to more is ks q.1)
 
-  to_balances : (live is : List ℕ) (ks : List (Option Cert)) → length is ≡ length live → each_certified s (map (λ a. Some (needs a)) live) ks ≡ true → balances_shown s needs live is ks ≡ true
+  pub to_balances : (live is : List ℕ) (ks : List (Option Cert)) → length is ≡ length live → each_certified s (map (λ a. Some (needs a)) live) ks ≡ true → balances_shown s needs live is ks ≡ true
   to_balances [] [] [] l h = refl
   to_balances [] [] (k ∷ ks) l h = cc
   to_balances [] (i ∷ is) ks l h = absurd (omega arith)

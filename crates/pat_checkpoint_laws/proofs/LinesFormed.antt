@@ -41,7 +41,7 @@ need_formed s (MailboxTerm i q e) (MailboxTerm j r f) a h k =
     subst (λ n. IsFormedNeed s (Some (fit_by r (same_interface i n) e f))) same
     (fit_formed s i r e f a (subst (λ n. is_formed s n f ≡ true) (sym same) h))
 
-turned_all : {A : Type 0} (P : A → Type 0) (xs : List A) → AllByRecursion P xs → AllByRecursion P (reverse xs)
+pub turned_all : {A : Type 0} (P : A → Type 0) (xs : List A) → AllByRecursion P xs → AllByRecursion P (reverse xs)
 turned_all P [] a = tt
 turned_all P (x ∷ xs) a = subst (AllByRecursion P) (sym (reverse_onto xs x [])) (all_snoc P (reverse xs) x (turned_all P xs a.1) a.0)
 

@@ -1,0 +1,11 @@
+mod Sections
+mod Frames
+mod Threads
+mod Lists
+mod Listed
+mod Singles
+mod Covers
+mod Errors
+mod Turns
+mod Gathering
+mod Certs

@@ -1,0 +1,13 @@
+//! The certificates of a checkpoint's lines: found for a typed configuration, or the first line whose inclusion can't be shown.
+#![tactic(auto)]
+
+mod balances;
+mod bounds;
+mod certifying;
+mod error;
+mod parts;
+mod search;
+mod showing;
+
+pub use certifying::certify;
+pub use error::CertifyError;
