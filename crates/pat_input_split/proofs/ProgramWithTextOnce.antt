@@ -41,6 +41,8 @@ module _ (mark bytes : List ℕ) (split : OneSplit mark bytes) (one : (front_byt
   bytes_alone A f t (verdict.Rejected n q) r small m = absurd r
   bytes_alone A f t (verdict.RefusedAt i) r small m = absurd r
   bytes_alone A f t verdict.TooManyEntries r small m = absurd r
+  bytes_alone A f t (verdict.Unshown line) r small m = absurd r
+  bytes_alone A f t (verdict.BadCheckpoint rule) r small m = absurd r
   bytes_alone A f t (verdict.Unaccepted reason) r small m = absurd r
 
   -- they are too many for what they are, or a program alone
@@ -59,6 +61,8 @@ module _ (mark bytes : List ℕ) (split : OneSplit mark bytes) (one : (front_byt
   bare (verdict.Rejected n q) r = absurd r
   bare (verdict.RefusedAt i) r = absurd r
   bare verdict.TooManyEntries r = absurd r
+  bare (verdict.Unshown line) r = absurd r
+  bare (verdict.BadCheckpoint rule) r = absurd r
   bare (verdict.Unaccepted reason) r = absurd r
 
   one_bare : (v w : Verdict) → Bare v → Bare w → v ≡ w

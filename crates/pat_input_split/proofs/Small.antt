@@ -16,6 +16,8 @@ bytes_small mark bytes (verdict.Resolve k s) r other = absurd r
 bytes_small mark bytes (verdict.Rejected n rule) r other = absurd r
 bytes_small mark bytes (verdict.RefusedAt i) r other = absurd r
 bytes_small mark bytes verdict.TooManyEntries r other = absurd r
+bytes_small mark bytes (verdict.Unshown line) r other = absurd r
+bytes_small mark bytes (verdict.BadCheckpoint rule) r other = absurd r
 bytes_small mark bytes (verdict.Unaccepted reason) r other = absurd r
 
 pub refused_small : (mark bytes : List ℕ) (v : Verdict) → IsMarkedRefusal mark bytes v → v ≢ verdict.TooLong → length bytes ≤ whole_limit

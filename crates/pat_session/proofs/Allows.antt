@@ -6,7 +6,7 @@ use Rattle.pat_ports.specs.Bytes.{AppendsFront}
 use Rattle.pat_input.specs.Inputs.{IsInput, limit, whole_limit}
 use Rattle.pat_load.specs.LoadText.{load_text}
 use Rattle.pat_front.specs.declared.verdict.Verdict.{Verdict}
-use Rattle.pat_front.specs.declared.verdict.Verdict.TheVariants.{TooLong, Syntax, NumberTooWide, TooDeep, Resolve, BadText, Rejected, RefusedAt, TooManyEntries, Unaccepted}
+use Rattle.pat_front.specs.declared.verdict.Verdict.TheVariants.{TooLong, Syntax, NumberTooWide, TooDeep, Resolve, BadText, Rejected, RefusedAt, TooManyEntries, Unshown, BadCheckpoint, Unaccepted}
 use Rattle.pat_front.specs.declared.exit_answers.status.Status.{Status}
 use Rattle.pat_front.specs.declared.exit_answers.status.Status.TheVariants.{Ok, Refused, Usage, ReadFault, WriteFault, NoMemory, Budget, Waiting, Full}
 use Rattle.pat_session.specs.declared.words.Command.{Command}
@@ -113,6 +113,8 @@ is_too_long (BadText n) = inr (λ e. let clash : BadText n ≡ TooLong = e in cc
 is_too_long (Rejected n r) = inr (λ e. let clash : Rejected n r ≡ TooLong = e in cc)
 is_too_long (RefusedAt n) = inr (λ e. let clash : RefusedAt n ≡ TooLong = e in cc)
 is_too_long TooManyEntries = inr (λ e. let clash : TooManyEntries ≡ TooLong = e in cc)
+is_too_long (Unshown n) = inr (λ e. let clash : Unshown n ≡ TooLong = e in cc)
+is_too_long (BadCheckpoint r) = inr (λ e. let clash : BadCheckpoint r ≡ TooLong = e in cc)
 is_too_long (Unaccepted r) = inr (λ e. let clash : Unaccepted r ≡ TooLong = e in cc)
 
 -- where the bytes are too many, that is what is answered
