@@ -1,0 +1,6 @@
+//! Checkpoints from their text.
+#![tactic(auto)]
+
+mod reading;
+
+pub use reading::read;
