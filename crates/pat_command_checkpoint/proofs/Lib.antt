@@ -1,0 +1,2 @@
+-- for the crates above
+pub mod Statuses
