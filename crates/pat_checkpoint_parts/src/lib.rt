@@ -1,0 +1,14 @@
+//! The rules of a checkpoint that look at one part of one thread at a time: numbers, kinds, different mailboxes, and their order.
+#![tactic(auto)]
+
+mod differing;
+mod kinds;
+mod live;
+mod numbers;
+mod order;
+
+pub use differing::mailboxes_differ;
+pub use kinds::kinds_hold;
+pub use live::interface_of;
+pub use numbers::numbers_hold;
+pub use order::order_holds;
