@@ -1,1 +1,2 @@
 pub mod NextNumbers
+pub mod Courses

@@ -11,6 +11,9 @@ ghost use Rattle.pat_checkpoint_data.specs.Views.{checkpoint_view};
 ghost use Rattle.pat_limits.specs.Limits.{most_steps};
 ghost use Rattle.pat_checkpoint_run.specs.NextNumbers.{most_next_number};
 
+use crate::course::run_turns;
+use crate::mailboxes::FirstMailboxes;
+use crate::outcome::outcome_of;
 use pat_checkpoint_data::Checkpoint;
 use pat_machine::Outcome;
 use pat_reduce::{Config, Entry};
@@ -54,5 +57,20 @@ pub fn run_from(
     requires messages { checkpoint.config.next_message ≤ most_next_number }
     ensures { IfOk result (λ r. (d : Derivation) → IsChecked (program_view code.now.program) d (checkpoint_view checkpoint) → IsResumed (program_view code.now.program) d (checkpoint_view checkpoint) steps (map entry_view r.entries) (config_view r.config) r.interfaces (outcome_view r.outcome)) }
 {
-    Err(AllocError)
+    let (config, interfaces, _, _) = checkpoint.into_parts();
+    let first = FirstMailboxes {
+        live: Sequence::from_vec(config.live.items.clone()?),
+        interfaces,
+        next: config.next_mailbox,
+    };
+    let course = run_turns(alloc, code, config, steps as u32)?;
+    let live = course.config.live.as_slice();
+    let interfaces = first.interfaces_of(alloc, course.made.as_slice(), live)?;
+    let outcome = outcome_of(code, &course.config);
+    Ok(Resumed {
+        entries: course.entries,
+        config: course.config,
+        interfaces,
+        outcome,
+    })
 }
