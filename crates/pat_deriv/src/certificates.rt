@@ -57,7 +57,8 @@ fn put_entries(out: &mut Vec<u8>, entries: &[CoverEntry]) -> Result<(), AllocErr
     }
 }
 
-fn put_cert(out: &mut Vec<u8>, cert: &Cert) -> Result<(), AllocError>
+/// A certificate.
+pub fn put_cert(out: &mut Vec<u8>, cert: &Cert) -> Result<(), AllocError>
     ensures { OnOk result (out.new.items ≡ out.old.items ++ cert_text (cert_view cert.now)) }
 {
     match cert {

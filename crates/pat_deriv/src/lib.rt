@@ -8,5 +8,6 @@ mod pieces;
 mod reading;
 mod types;
 
+pub use certificates::put_cert;
 pub use lines::write;
 pub use reading::read;

@@ -1,0 +1,9 @@
+//! Checkpoints: a typed configuration written as a text with the certificates that show it typed.
+#![tactic(auto)]
+
+mod error;
+mod writing;
+
+pub use error::WriteError;
+pub use pat_checkpoint_data::Checkpoint;
+pub use writing::write;
