@@ -1,28 +1,21 @@
 -- What `checkpoint` may answer.
-use Rattle.std.specs.Prelude.{◌≡◌, ◌⊎◌, ◌++◌, ℕ, List, Option, Some, None, if◌then◌else◌}
+use Rattle.std.specs.Prelude.{◌≡◌, ◌⊎◌, ◌++◌, ℕ, List}
 use Rattle.pat_semantics_spec.specs.Programs.{Program}
 use Rattle.pat_semantics_spec.specs.Configs.{Config}
 use Rattle.pat_semantics_spec.specs.Runs.{Entry, Outcome}
 use Rattle.pat_derivation_spec.specs.Derivations.{Derivation, scope_of, written_typing}
 use Rattle.pat_derivation_text_spec.specs.DerivationText.{derivation_text}
-use Rattle.pat_solve_spec.specs.Assignments.{is_in_bounds}
-use Rattle.pat_solve_spec.specs.Answers.{tags_of, constraints_of, grid_bound}
-use Rattle.pat_checkpoint_spec.specs.Checkpoints.{Checkpoint, interface_at}
-use Rattle.pat_checkpoint_spec.specs.Checked.{IsChecked}
-use Rattle.pat_checkpoint_spec.specs.Resumed.{IsResumed, start_checkpoint, silent}
+use Rattle.pat_checkpoint_spec.specs.Checkpoints.{interface_at}
+use Rattle.pat_checkpoint_spec.specs.Resumed.{IsResumed, start_checkpoint}
 use Rattle.pat_checkpoint_spec.specs.Written.{lines_need, IsFirstUnshown}
-use Rattle.pat_checkpoint_spec.specs.text.CheckpointText.{checkpoint_text}
-use Rattle.pat_checkpoint_spec.specs.text.Reading.{ReadsAs}
+use Rattle.pat_checkpoint_certificates.specs.Bounds.{bound_in}
+use Rattle.pat_checkpoint.specs.Writing.{IsWritten as IsWrittenAs}
 use Rattle.pat_front.specs.Lines.{line_of_verdict}
 use Rattle.pat_front.specs.declared.verdict.Verdict.{Verdict}
 use Rattle.pat_front.specs.declared.verdict.Verdict.TheVariants.{Unshown}
 use Rattle.pat_front.specs.declared.exit_answers.status.Status.{Status}
 use Rattle.pat_front.specs.declared.exit_answers.status.Status.TheVariants.{Ok, Refused}
 use Rattle.pat_typecheck.specs.Inputs.{IsAcceptedText, IsCheckRefusal}
-
--- the bounds of the grids of interfaces in bounds
-abbrev pub grid_bounds : Program → ℕ → Option ℕ
-grid_bounds p i = if is_in_bounds (tags_of p i) (constraints_of p i) then Some (grid_bound p i) else None
 
 -- a run of one worker from the start of the program, with so many steps: where it leads, and what the mailboxes are that live there
 pub record RunsTo (p : Program) (d : Derivation) (steps : ℕ) : Type 0 where
@@ -33,20 +26,17 @@ pub record RunsTo (p : Program) (d : Derivation) (steps : ℕ) : Type 0 where
   pub resumed : IsResumed p d (start_checkpoint p) steps entries config interfaces outcome
 
 -- the text is that of the derivation, and then that of a checkpoint which is checked by it and is what the run leads to, but for the lines that
--- were printed; it is read as this checkpoint
+-- were printed; this is read as that checkpoint
 pub record ShowsCheckpoint (p : Program) (d : Derivation) (steps : ℕ) (out : List ℕ) : Type 0 where
   pub run : RunsTo p d steps
-  pub checkpoint : Checkpoint
-  pub config : checkpoint.config ≡ silent run.config
-  pub interfaces : checkpoint.interfaces ≡ run.interfaces
-  pub checked : IsChecked p d checkpoint
-  pub shown : out ≡ derivation_text p d ++ checkpoint_text p checkpoint
-  pub read : ReadsAs p (checkpoint_text p checkpoint) checkpoint
+  pub text : List ℕ
+  pub written : IsWrittenAs p d run.config run.interfaces text
+  pub shown : out ≡ derivation_text p d ++ text
 
 -- line n of the checkpoint that the run leads to is the first that needs an inclusion which can't be shown
 pub record HasUnshown (p : Program) (d : Derivation) (steps n : ℕ) : Type 0 where
   pub run : RunsTo p d steps
-  pub first : IsFirstUnshown (scope_of p d) (grid_bounds p) (lines_need p (written_typing p d) (interface_at run.config.live run.interfaces) run.config) n
+  pub first : IsFirstUnshown (scope_of p d) (bound_in p) (lines_need p (written_typing p d) (interface_at run.config.live run.interfaces) run.config) n
 
 -- the bytes are the text of a program with a valid derivation, and of a run of it such a line can't be shown
 abbrev pub IsUnshown : ℕ → List ℕ → ℕ → Type 0
