@@ -30,6 +30,24 @@ pub struct Resumed {
     pub outcome: Outcome,
 }
 
+impl Resumed {
+    /// The history, the configuration that it led to, the interfaces of its live mailboxes, and how the run ended.
+    pub fn into_parts(self) -> (Sequence<Entry>, Config, Sequence<u32>, Outcome)
+        ensures entries { result.0 ≡ self.entries }
+        ensures config { result.1 ≡ self.config }
+        ensures interfaces { result.2 ≡ self.interfaces }
+        ensures outcome { result.3 ≡ self.outcome }
+    {
+        let Resumed {
+            entries,
+            config,
+            interfaces,
+            outcome,
+        } = self;
+        (entries, config, interfaces, outcome)
+    }
+}
+
 impl Drop for Resumed {
     fn drop(self) {
         let Resumed {

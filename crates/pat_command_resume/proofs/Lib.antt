@@ -1,0 +1,4 @@
+mod Answering
+mod Once
+-- for the crates above
+pub mod Statuses

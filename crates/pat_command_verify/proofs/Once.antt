@@ -17,7 +17,7 @@ use Rattle.pat_front.specs.declared.verdict.Verdict.{Verdict}
 use Rattle.pat_front.specs.declared.verdict.Verdict.TheVariants as verdict
 use Rattle.pat_command_verify.specs.Allowed.{IsVerified, IsVerifyRefusal, RefusesText, Unaccepted}
 use Rattle.pat_command_verify.specs.Answers.{HasValidDerivation, OneAnswer}
-use Rattle.pat_command_verify.proofs.ReadingOnce.{read_or_not, one_unread}
+use Rattle.pat_deriv.proofs.ReadingOnce.{read_or_not, one_unread}
 
 rule_back : validity.Rule → Rule
 rule_back validity.ShapeRule = rule.Shape
