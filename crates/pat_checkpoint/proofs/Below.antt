@@ -86,30 +86,22 @@ none_made : (o : Option Function) → (start_of o).next_mailbox ≡ 0
 none_made None = refl
 none_made (Some g) = refl
 
-all_mapped : {P Q : ℕ → Type 0} (f : ℕ → ℕ) → ((a : ℕ) → P a → Q (f a)) → (xs : List ℕ) → AllByRecursion P xs → AllByRecursion Q (map f xs)
-all_mapped f g [] h = tt
-all_mapped f g (x ∷ xs) h = (g x h.0, all_mapped f g xs h.1)
+all_mapped : (P Q : ℕ → Type 0) (f : ℕ → ℕ) → ((a : ℕ) → P a → Q (f a)) → (xs : List ℕ) → AllByRecursion P xs → AllByRecursion Q (map f xs)
+all_mapped P Q f g [] h = tt
+all_mapped P Q f g (x ∷ xs) h = (g x h.0, all_mapped P Q f g xs h.1)
+
+one_there : InterfacesMade → MadeCounts → (p : Program) (c : Config) (ks : List Step) (own : ℕ → ℕ) → WellFormed p → run_from p (start p) ks ≡ Some c → (a : ℕ) → a < c.next_mailbox → interfaces_along p (start p) ks own a < length p.interfaces
+one_there made counts p c ks own w run a less =
+    let new = made_along p (start p) ks in
+    let none : (start p).next_mailbox ≡ 0 = none_made (function_at p p.main) in
+    let count : c.next_mailbox ≡ (start p).next_mailbox + length new = counts p ks (start p) c run in
+    subst (λ k. k < length p.interfaces) (sym (made p ks own (start p) c a run))
+    (made_there (length p.interfaces) own (start p).next_mailbox new a (omega (arith, none)) (omega (arith, none, count, less)) (along_below p w ks (start p)))
 
 pub started_there : ReplayIsRun → InterfacesMade → MadeCounts → (p : Program) (d : Derivation) (steps : ℕ) (es : List Entry) (c : Config) (interfaces : List ℕ) (o : Outcome) → WellFormed p → IsResumed p d (start_checkpoint p) steps es c interfaces o → AllByRecursion (λ i. i < length p.interfaces) interfaces
 started_there replays made counts p d steps es c interfaces o w r =
+    let ks = history_steps es in
+    let own = interfaces_of (start_checkpoint p) in
+    let run = ((replays p (start p) c es).0 r.reached).1 in
     subst (AllByRecursion (λ i. i < length p.interfaces)) (sym r.kept)
-    (all_mapped {λ a. a < c.next_mailbox} (interfaces_along p (start p) ks own) one c.live r.typed.numbers.ordered.live_below)
-  where
-    abbrev ks : List Step
-    ks = history_steps es
-
-    abbrev own : ℕ → ℕ
-    own = interfaces_of (start_checkpoint p)
-
-    abbrev new : List ℕ
-    new = made_along p (start p) ks
-
-    run : run_from p (start p) ks ≡ Some c
-    run = ((replays p (start p) c es).0 r.reached).1
-
-    one : (a : ℕ) → a < c.next_mailbox → interfaces_along p (start p) ks own a < length p.interfaces
-    one a less =
-        let none : (start p).next_mailbox ≡ 0 = none_made (function_at p p.main) in
-        let count : c.next_mailbox ≡ (start p).next_mailbox + length new = counts p ks (start p) c run in
-        subst (λ k. k < length p.interfaces) (sym (made p ks own (start p) c a run))
-        (made_there (length p.interfaces) own (start p).next_mailbox new a (omega (arith, none)) (omega (arith, none, count, less)) (along_below p w ks (start p)))
+    (all_mapped (λ a. a < c.next_mailbox) (λ i. i < length p.interfaces) (interfaces_along p (start p) ks own) (one_there made counts p c ks own w run) c.live r.typed.numbers.ordered.live_below)

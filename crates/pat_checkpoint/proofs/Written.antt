@@ -45,9 +45,9 @@ module _ (p : Program) (d : Derivation) (c : Config) (interfaces : List ℕ) (x 
       let stands = (and_parts (stands_typed p d x) (parts_shown p d x && balances_hold p d x) ((broken p d x).0 certified.checked.none)).0 in
       let spelled : HasSpelledStrings (silent c) = record { threads = strings.threads; messages = strings.messages } in
       let own = plain tokens p d x resolved.well_formed stands
-          (subst (AllByRecursion (λ i. i < length p.interfaces)) (sym own_interfaces) there)
-          (subst HasSpelledStrings (sym silent_config) spelled)
-          range (lists_align aligned) in
+      (subst (AllByRecursion (λ i. i < length p.interfaces)) (sym own_interfaces) there)
+      (subst HasSpelledStrings (sym silent_config) spelled)
+      range (lists_align aligned) in
       record {
         checkpoint = x;
         config = silent_config;
