@@ -15,10 +15,10 @@ use Rattle.pat_checkpoint.specs.declared.error.WriteError.TheVariants.{Unshown, 
 
 -- the text is that of a checkpoint of the configuration without its printed lines, with these interfaces, that the derivation shows typed;
 -- and it is read as this checkpoint
-pub record IsWritten (p : Program) (d : Derivation) (c : Config) (interfaces : List ℕ) (text : List ℕ) : Type 0 where
+pub record IsWritten (p : Program) (d : Derivation) (c : Config) (given : List ℕ) (text : List ℕ) : Type 0 where
   pub checkpoint : Checkpoint
   pub config : checkpoint.config ≡ silent c
-  pub interfaces : checkpoint.interfaces ≡ interfaces
+  pub interfaces : checkpoint.interfaces ≡ given
   pub checked : IsChecked p d checkpoint
   pub shown : text ≡ checkpoint_text p checkpoint
   pub read : ReadsAs p text checkpoint

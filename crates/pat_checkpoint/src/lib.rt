@@ -2,8 +2,10 @@
 #![tactic(auto)]
 
 mod error;
+mod laws;
 mod writing;
 
 pub use error::WriteError;
+pub use laws::started_law;
 pub use pat_checkpoint_data::Checkpoint;
 pub use writing::write;

@@ -1,13 +1,16 @@
 // Lines.
-ghost use Rattle.std.specs.Prelude.{◌≡◌, ◌++◌, ◌∷◌, [], OnOk, codes, map};
+ghost use Rattle.std.specs.Prelude.{◌≡◌, ◌++◌, ◌∷◌, [], OnOk, IsTrue, codes, map};
 ghost use Rattle.std.specs.Fmt.{decimal};
 ghost use Rattle.pat_core.specs.Views.{program_view};
 ghost use Rattle.pat_reduce_values.specs.ValueViews.{value_view, env_view};
-ghost use Rattle.pat_reduce.specs.threads.ThreadViews.{control_view, frame_view};
+ghost use Rattle.pat_reduce.specs.threads.ThreadViews.{control_view, frame_view, message_view};
 ghost use Rattle.pat_checkpoint_data.specs.Views.{end_view};
 ghost use Rattle.pat_checkpoint_spec.specs.text.ValueText.{values_text, env_text};
 ghost use Rattle.pat_checkpoint_spec.specs.text.CheckpointText.{line, cert_end, next_text, mailbox_text, control_text, thread_text, name_text, frame_text};
 ghost use Rattle.pat_checkpoint_spec.specs.text.LineReading.{lines_with};
+ghost use Rattle.pat_texts_spec.specs.Numbers.{is_number};
+ghost use Rattle.pat_checkpoint_laws.specs.text.Readable.{is_cert, is_name};
+ghost use Rattle.pat_checkpoint_print.specs.Ranges.{values_in_range, control_in_range, frame_in_range, message_in_range};
 
 use crate::atoms::{put, put_behind, put_number};
 use crate::places::name_of_interface;
@@ -21,13 +24,17 @@ use std::alloc::{AllocError, Global};
 
 /// What a line ends with: a certificate behind a space, if there is one, and the newline.
 fn put_end(out: &mut Vec<u8>, cert: &Option<Cert>) -> Result<(), AllocError>
-    ensures { OnOk result (out.new.items ≡ out.old.items ++ (cert_end (end_view cert.now) ++ 10 ∷ [])) }
+    ensures text { OnOk result (out.new.items ≡ out.old.items ++ (cert_end (end_view cert.now) ++ 10 ∷ [])) }
+    ensures range { OnOk result (IsTrue (is_cert (end_view cert.now))) }
 {
-    if let Some(cert) = cert {
-        put(out, b" ")?;
-        put_cert(out, cert)?;
+    match cert {
+        None => put(out, b"\n"),
+        Some(cert) => {
+            put(out, b" ")?;
+            put_cert(out, cert)?;
+            put(out, b"\n")
+        }
     }
-    put(out, b"\n")
 }
 
 /// The line of the next numbers of threads, mailboxes and messages.
@@ -37,7 +44,8 @@ pub fn put_next(
     mailboxes: u32,
     messages: u32,
 ) -> Result<(), AllocError>
-    ensures { OnOk result (out.new.items ≡ out.old.items ++ line (next_text (lines_with threads mailboxes messages))) }
+    ensures text { OnOk result (out.new.items ≡ out.old.items ++ line (next_text (lines_with threads mailboxes messages))) }
+    ensures range { OnOk result (IsTrue (is_number threads) × IsTrue (is_number mailboxes) × IsTrue (is_number messages)) }
 {
     put(out, b"next ")?;
     put_number(out, threads)?;
@@ -54,7 +62,8 @@ pub fn put_mailbox(
     interface: u32,
     cert: &Option<Cert>,
 ) -> Result<(), AllocError>
-    ensures { OnOk result (out.new.items ≡ out.old.items ++ line (mailbox_text (program_view program.now) (record { number = number; interface = interface; cert = end_view cert.now }))) }
+    ensures text { OnOk result (out.new.items ≡ out.old.items ++ line (mailbox_text (program_view program.now) (record { number = number; interface = interface; cert = end_view cert.now }))) }
+    ensures range { OnOk result (IsTrue (is_number number) × IsTrue (is_cert (end_view cert.now))) }
 {
     put(out, b"mailbox ")?;
     put_number(out, number)?;
@@ -65,7 +74,8 @@ pub fn put_mailbox(
 
 /// A payload in brackets.
 fn put_payload(alloc: Global, out: &mut Vec<u8>, values: &[Value]) -> Result<(), AllocError>
-    ensures { OnOk result (out.new.items ≡ out.old.items ++ (40 ∷ (values_text (map value_view values.now) ++ 41 ∷ []))) }
+    ensures text { OnOk result (out.new.items ≡ out.old.items ++ (40 ∷ (values_text (map value_view values.now) ++ 41 ∷ []))) }
+    ensures range { OnOk result (IsTrue (values_in_range (map value_view values.now))) }
 {
     put(out, b"(")?;
     put_values(alloc, out, values)?;
@@ -79,7 +89,8 @@ pub fn put_message(
     message: &Message,
     tag: &[u8],
 ) -> Result<(), AllocError>
-    ensures { OnOk result (out.new.items ≡ out.old.items ++ line (codes "message " ++ (decimal message.now.number ++ 32 ∷ (decimal message.now.mailbox ++ 32 ∷ (tag.now ++ 40 ∷ (values_text (map value_view message.now.values) ++ 41 ∷ [])))))) }
+    ensures text { OnOk result (out.new.items ≡ out.old.items ++ line (codes "message " ++ (decimal message.now.number ++ 32 ∷ (decimal message.now.mailbox ++ 32 ∷ (tag.now ++ 40 ∷ (values_text (map value_view message.now.values) ++ 41 ∷ [])))))) }
+    ensures range { OnOk result (IsTrue (message_in_range (message_view message.now))) }
 {
     put(out, b"message ")?;
     put_number(out, message.number)?;
@@ -92,7 +103,8 @@ pub fn put_message(
 
 /// A node with the values of variables, or a value.
 fn put_control(alloc: Global, out: &mut Vec<u8>, control: &Control) -> Result<(), AllocError>
-    ensures { OnOk result (out.new.items ≡ out.old.items ++ control_text (control_view control.now)) }
+    ensures text { OnOk result (out.new.items ≡ out.old.items ++ control_text (control_view control.now)) }
+    ensures range { OnOk result (IsTrue (control_in_range (control_view control.now))) }
 {
     match control {
         Control::Node { node, env } => {
@@ -114,7 +126,8 @@ pub fn put_thread(
     control: &Control,
     cert: &Option<Cert>,
 ) -> Result<(), AllocError>
-    ensures { OnOk result (out.new.items ≡ out.old.items ++ line (thread_text (record { number = number; control = control_view control.now; cert = end_view cert.now; frames = [] }))) }
+    ensures text { OnOk result (out.new.items ≡ out.old.items ++ line (thread_text (record { number = number; control = control_view control.now; cert = end_view cert.now; frames = [] }))) }
+    ensures range { OnOk result (IsTrue (is_number number) × IsTrue (control_in_range (control_view control.now)) × IsTrue (is_cert (end_view cert.now))) }
 {
     put(out, b"thread ")?;
     put_number(out, number)?;
@@ -125,7 +138,8 @@ pub fn put_thread(
 
 /// The variable that a value is bound to, or a dash for none.
 fn put_name(out: &mut Vec<u8>, var: Option<u32>) -> Result<(), AllocError>
-    ensures { OnOk result (out.new.items ≡ out.old.items ++ name_text var) }
+    ensures text { OnOk result (out.new.items ≡ out.old.items ++ name_text var) }
+    ensures range { OnOk result (IsTrue (is_name var)) }
 {
     match var {
         None => put(out, b"-"),
@@ -140,7 +154,8 @@ pub fn put_frame(
     frame: &Frame,
     cert: &Option<Cert>,
 ) -> Result<(), AllocError>
-    ensures { OnOk result (out.new.items ≡ out.old.items ++ line (frame_text (record { frame = frame_view frame.now; cert = end_view cert.now }))) }
+    ensures text { OnOk result (out.new.items ≡ out.old.items ++ line (frame_text (record { frame = frame_view frame.now; cert = end_view cert.now }))) }
+    ensures range { OnOk result (IsTrue (frame_in_range (frame_view frame.now)) × IsTrue (is_cert (end_view cert.now))) }
 {
     put(out, b"frame ")?;
     put_name(out, frame.var)?;

@@ -1,5 +1,5 @@
 // Names of interfaces and of tags.
-ghost use Rattle.std.specs.Prelude.{◌≡◌, ℕ, List, Option, Some, length, slice_get};
+ghost use Rattle.std.specs.Prelude.{◌≡◌, [], List, Option, Some, length, map, slice_index_or};
 ghost use Rattle.pat_core.specs.Views.{program_view};
 ghost use Rattle.pat_inclusion_spec.specs.Certificates.{Cert};
 ghost use Rattle.pat_semantics_spec.specs.Orders.{AscendsFrom};

@@ -1,5 +1,5 @@
 // The lines of a checkpoint, kind by kind.
-ghost use Rattle.std.specs.Prelude.{◌≡◌, ◌++◌, length, map, IfOk, OnOk};
+ghost use Rattle.std.specs.Prelude.{◌≡◌, ◌++◌, ℕ, List, Option, length, map, IfOk, OnOk, IsTrue};
 ghost use Rattle.pat_core.specs.Views.{program_view};
 ghost use Rattle.pat_semantics_spec.specs.Orders.{AscendsFrom};
 ghost use Rattle.pat_reduce.specs.Views.{threads_view};
@@ -9,6 +9,11 @@ ghost use Rattle.pat_checkpoint_spec.specs.Checkpoints.{IsAligned, PartsAlign};
 ghost use Rattle.pat_checkpoint_spec.specs.text.Lines.{mailbox_lines, thread_line_of, thread_lines};
 ghost use Rattle.pat_checkpoint_spec.specs.text.CheckpointText.{line, mailboxes_text, messages_text, thread_lines_text, threads_text, checkpoint_text};
 ghost use Rattle.pat_checkpoint_print.specs.Upwards.{frames_upwards};
+ghost use Rattle.pat_texts_spec.specs.Numbers.{is_number};
+ghost use Rattle.pat_checkpoint_laws.specs.text.Readable.{is_cert, are_certs};
+ghost use Rattle.pat_inclusion_spec.specs.Certificates.{Cert as GhostCert};
+ghost use Rattle.std.specs.List.{list_all};
+ghost use Rattle.pat_checkpoint_print.specs.Ranges.{frame_in_range, thread_in_range, message_in_range, IsInRange};
 
 use crate::lines::{put_frame, put_mailbox, put_message, put_next, put_thread};
 use crate::places::tag_in;
@@ -28,7 +33,8 @@ fn put_mailboxes(
 ) -> Result<(), AllocError>
     requires interfaces { length interfaces.now ≡ length live.now }
     requires certs { length certs.now ≡ length live.now }
-    ensures { OnOk result (out.new.items ≡ out.old.items ++ mailboxes_text (program_view program.now) (mailbox_lines live.now interfaces.now (map end_view certs.now))) }
+    ensures text { OnOk result (out.new.items ≡ out.old.items ++ mailboxes_text (program_view program.now) (mailbox_lines live.now interfaces.now (map end_view certs.now))) }
+    ensures range { OnOk result (IsTrue (list_all is_number live.now) × IsTrue (list_all is_cert (map end_view certs.now))) }
 {
     for (place, number) in live.iter().enumerate() {
         put_mailbox(out, program, *number, interfaces[place], &certs[place])?;
@@ -47,7 +53,8 @@ fn put_messages(
 ) -> Result<(), AllocError>
     requires order { AscendsFrom 0 live.now }
     requires interfaces { length interfaces.now ≡ length live.now }
-    ensures { (certs : List (Option GhostCert)) → length certs ≡ length live.now → OnOk result (out.new.items ≡ out.old.items ++ messages_text (program_view program.now) (mailbox_lines live.now interfaces.now certs) (map message_view messages.now)) }
+    ensures text { (certs : List (Option GhostCert)) → length certs ≡ length live.now → OnOk result (out.new.items ≡ out.old.items ++ messages_text (program_view program.now) (mailbox_lines live.now interfaces.now certs) (map message_view messages.now)) }
+    ensures range { OnOk result (IsTrue (list_all message_in_range (map message_view messages.now))) }
 {
     for message in messages {
         let tag = tag_in(program, live, interfaces, message.mailbox, message.tag);
@@ -64,7 +71,8 @@ fn put_frames(
     certs: &[Option<Cert>],
 ) -> Result<(), AllocError>
     requires { length certs.now ≡ length frames.now }
-    ensures { OnOk result (out.new.items ≡ out.old.items ++ frames_upwards (map frame_view frames.now) (map end_view certs.now)) }
+    ensures text { OnOk result (out.new.items ≡ out.old.items ++ frames_upwards (map frame_view frames.now) (map end_view certs.now)) }
+    ensures range { OnOk result (IsTrue (list_all frame_in_range (map frame_view frames.now)) × IsTrue (list_all is_cert (map end_view certs.now))) }
 {
     for (place, frame) in frames.iter().enumerate() {
         put_frame(alloc, out, frame, &certs[place])?;
@@ -81,7 +89,8 @@ fn put_whole_thread(
     certs: &PartCerts,
 ) -> Result<(), AllocError>
     requires { length certs.now.frames ≡ length state.now.frames }
-    ensures { OnOk result (out.new.items ≡ out.old.items ++ thread_lines_text (thread_line_of (number, thread_view state.now) (part_certs_view certs.now))) }
+    ensures text { OnOk result (out.new.items ≡ out.old.items ++ thread_lines_text (thread_line_of (number, thread_view state.now) (part_certs_view certs.now))) }
+    ensures range { OnOk result (IsTrue (thread_in_range (number, thread_view state.now)) × IsTrue (are_certs (part_certs_view certs.now))) }
 {
     put_thread(alloc, out, number, &state.control, &certs.control)?;
     put_frames(alloc, out, state.frames.as_slice(), certs.frames.as_slice())
@@ -95,7 +104,8 @@ fn put_threads(
     certs: &[PartCerts],
 ) -> Result<(), AllocError>
     requires { PartsAlign (threads_view threads.now) (map part_certs_view certs.now) }
-    ensures { OnOk result (out.new.items ≡ out.old.items ++ threads_text (thread_lines (threads_view threads.now) (map part_certs_view certs.now))) }
+    ensures text { OnOk result (out.new.items ≡ out.old.items ++ threads_text (thread_lines (threads_view threads.now) (map part_certs_view certs.now))) }
+    ensures range { OnOk result (IsTrue (list_all thread_in_range (threads_view threads.now)) × IsTrue (list_all are_certs (map part_certs_view certs.now))) }
 {
     for (place, (number, state)) in threads.iter().enumerate() {
         put_whole_thread(alloc, out, *number, state, &certs[place])?;
@@ -104,7 +114,7 @@ fn put_threads(
 }
 
 /// The text of a checkpoint of the program, whose mailboxes ascend and whose lists are as long as what they go along with. A name that
-/// the program doesn't have is left out.
+/// the program doesn't have is left out. The checkpoint's numbers have 32 bits and its integers 64, so a text can have them.
 pub fn print(
     alloc: Global,
     program: &Program,
@@ -112,7 +122,8 @@ pub fn print(
 ) -> Result<Vec<u8>, AllocError>
     requires aligned { IsAligned (checkpoint_view checkpoint.now) }
     requires order { AscendsFrom 0 checkpoint.now.config.live }
-    ensures { IfOk result (λ text. text.items ≡ checkpoint_text (program_view program.now) (checkpoint_view checkpoint.now)) }
+    ensures text { IfOk result (λ text. text.items ≡ checkpoint_text (program_view program.now) (checkpoint_view checkpoint.now)) }
+    ensures range { IfOk result (λ text. IsInRange (checkpoint_view checkpoint.now)) }
 {
     let config = &checkpoint.config;
     let live = config.live.as_slice();

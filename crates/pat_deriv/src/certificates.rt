@@ -1,6 +1,7 @@
 // Certificates.
-ghost use Rattle.std.specs.Prelude.{◌≡◌, ◌++◌, ◌∷◌, OnOk, map};
-ghost use Rattle.std.specs.List.{flat_map};
+ghost use Rattle.std.specs.Prelude.{◌≡◌, ◌++◌, ◌∷◌, OnOk, IsTrue, map};
+ghost use Rattle.std.specs.List.{flat_map, list_all};
+ghost use Rattle.pat_derivation_spec.specs.Spelled.{are_numbers, spells_entry, spells_cert};
 ghost use Rattle.pat_cover_certificates.specs.Views.{entry_view, entries_view};
 ghost use Rattle.pat_derivations.specs.Views.{cert_view, certs_view};
 ghost use Rattle.pat_derivation_text_spec.specs.DerivationText.{numbers_text, entry_text, cert_text, certs_text};
@@ -14,7 +15,8 @@ use std::alloc::AllocError;
 
 /// Lists of numbers, each behind a semicolon.
 fn put_periods(out: &mut Vec<u8>, periods: &[Sequence<u32>]) -> Result<(), AllocError>
-    ensures { OnOk result (out.new.items ≡ out.old.items ++ flat_map (λ y. 59 ∷ y) (map numbers_text periods.now)) }
+    ensures text { OnOk result (out.new.items ≡ out.old.items ++ flat_map (λ y. 59 ∷ y) (map numbers_text periods.now)) }
+    ensures numbers { OnOk result (IsTrue (list_all are_numbers periods.now)) }
 {
     for numbers in periods {
         out.push(b';')?;
@@ -25,7 +27,8 @@ fn put_periods(out: &mut Vec<u8>, periods: &[Sequence<u32>]) -> Result<(), Alloc
 
 /// An entry of a cover.
 fn put_entry(out: &mut Vec<u8>, entry: &CoverEntry) -> Result<(), AllocError>
-    ensures { OnOk result (out.new.items ≡ out.old.items ++ entry_text (entry_view entry.now)) }
+    ensures text { OnOk result (out.new.items ≡ out.old.items ++ entry_text (entry_view entry.now)) }
+    ensures numbers { OnOk result (IsTrue (spells_entry (entry_view entry.now))) }
 {
     put_number(out, entry.set)?;
     out.push(b':')?;
@@ -35,7 +38,8 @@ fn put_entry(out: &mut Vec<u8>, entry: &CoverEntry) -> Result<(), AllocError>
 
 /// Entries, each behind a bar.
 fn put_more_entries(out: &mut Vec<u8>, entries: &[CoverEntry]) -> Result<(), AllocError>
-    ensures { OnOk result (out.new.items ≡ out.old.items ++ flat_map (λ y. 124 ∷ y) (map entry_text (entries_view entries.now))) }
+    ensures text { OnOk result (out.new.items ≡ out.old.items ++ flat_map (λ y. 124 ∷ y) (map entry_text (entries_view entries.now))) }
+    ensures numbers { OnOk result (IsTrue (list_all spells_entry (entries_view entries.now))) }
 {
     for entry in entries {
         out.push(b'|')?;
@@ -46,7 +50,8 @@ fn put_more_entries(out: &mut Vec<u8>, entries: &[CoverEntry]) -> Result<(), All
 
 /// Entries with bars between.
 fn put_entries(out: &mut Vec<u8>, entries: &[CoverEntry]) -> Result<(), AllocError>
-    ensures { OnOk result (out.new.items ≡ out.old.items ++ joined 124 (map entry_text (entries_view entries.now))) }
+    ensures text { OnOk result (out.new.items ≡ out.old.items ++ joined 124 (map entry_text (entries_view entries.now))) }
+    ensures numbers { OnOk result (IsTrue (list_all spells_entry (entries_view entries.now))) }
 {
     match entries {
         [] => Ok(()),
@@ -57,9 +62,10 @@ fn put_entries(out: &mut Vec<u8>, entries: &[CoverEntry]) -> Result<(), AllocErr
     }
 }
 
-/// A certificate.
+/// A certificate. Its numbers have 32 bits, so a text can have them.
 pub fn put_cert(out: &mut Vec<u8>, cert: &Cert) -> Result<(), AllocError>
-    ensures { OnOk result (out.new.items ≡ out.old.items ++ cert_text (cert_view cert.now)) }
+    ensures text { OnOk result (out.new.items ≡ out.old.items ++ cert_text (cert_view cert.now)) }
+    ensures numbers { OnOk result (IsTrue (spells_cert (cert_view cert.now))) }
 {
     match cert {
         Cert::Cover(entries) => {

@@ -1,6 +1,7 @@
 // Bytes and numbers.
-ghost use Rattle.std.specs.Prelude.{◌≡◌, ◌++◌, ◌∷◌, OnOk, map};
+ghost use Rattle.std.specs.Prelude.{◌≡◌, ◌++◌, ◌∷◌, OnOk, IsTrue, map};
 ghost use Rattle.std.specs.Fmt.{decimal};
+ghost use Rattle.pat_derivation_spec.specs.Spelled.{is_number, are_numbers};
 ghost use Rattle.pat_derivation_text_spec.specs.DerivationText.{numbers_text};
 ghost use Rattle.std.specs.List.{flat_map};
 
@@ -14,14 +15,16 @@ pub fn put(out: &mut Vec<u8>, bytes: &[u8]) -> Result<(), AllocError>
 }
 
 pub fn put_number(out: &mut Vec<u8>, number: u32) -> Result<(), AllocError>
-    ensures { OnOk result (out.new.items ≡ out.old.items ++ decimal number) }
+    ensures text { OnOk result (out.new.items ≡ out.old.items ++ decimal number) }
+    ensures number { OnOk result (IsTrue (is_number number)) }
 {
     push_number(out, u64::from(number))
 }
 
 /// A number behind a byte.
 fn put_behind(out: &mut Vec<u8>, byte: u8, number: u32) -> Result<(), AllocError>
-    ensures { OnOk result (out.new.items ≡ out.old.items ++ byte ∷ decimal number) }
+    ensures text { OnOk result (out.new.items ≡ out.old.items ++ byte ∷ decimal number) }
+    ensures number { OnOk result (IsTrue (is_number number)) }
 {
     out.push(byte)?;
     put_number(out, number)
@@ -29,7 +32,8 @@ fn put_behind(out: &mut Vec<u8>, byte: u8, number: u32) -> Result<(), AllocError
 
 /// Numbers with commas between.
 pub fn put_numbers(out: &mut Vec<u8>, numbers: &[u32]) -> Result<(), AllocError>
-    ensures { OnOk result (out.new.items ≡ out.old.items ++ numbers_text numbers.now) }
+    ensures text { OnOk result (out.new.items ≡ out.old.items ++ numbers_text numbers.now) }
+    ensures numbers { OnOk result (IsTrue (are_numbers numbers.now)) }
 {
     match numbers {
         [] => Ok(()),
@@ -42,7 +46,8 @@ pub fn put_numbers(out: &mut Vec<u8>, numbers: &[u32]) -> Result<(), AllocError>
 
 /// Numbers, each behind a comma.
 fn put_more_numbers(out: &mut Vec<u8>, numbers: &[u32]) -> Result<(), AllocError>
-    ensures { OnOk result (out.new.items ≡ out.old.items ++ flat_map (λ y. 44 ∷ y) (map decimal numbers.now)) }
+    ensures text { OnOk result (out.new.items ≡ out.old.items ++ flat_map (λ y. 44 ∷ y) (map decimal numbers.now)) }
+    ensures numbers { OnOk result (IsTrue (are_numbers numbers.now)) }
 {
     for number in numbers {
         put_behind(out, b',', *number)?;
