@@ -1,2 +1,4 @@
+mod Strings
+mod Answering
 -- for the crates above
 pub mod Statuses

@@ -1,10 +1,13 @@
 -- What `checkpoint` may answer.
-use Rattle.std.specs.Prelude.{◌≡◌, ◌⊎◌, ◌++◌, ℕ, List}
+use Rattle.std.specs.Prelude.{◌≡◌, ◌⊎◌, ◌++◌, ℕ, List, map}
 use Rattle.pat_semantics_spec.specs.Programs.{Program}
 use Rattle.pat_semantics_spec.specs.Configs.{Config}
 use Rattle.pat_semantics_spec.specs.Runs.{Entry, Outcome}
 use Rattle.pat_derivation_spec.specs.Derivations.{Derivation, scope_of, written_typing}
 use Rattle.pat_derivation_text_spec.specs.DerivationText.{derivation_text}
+use Rattle.pat_reduce.specs.Views.{config_view, entry_view}
+use Rattle.pat_machine.specs.Gives.{outcome_view}
+use Rattle.pat_checkpoint_run.specs.declared.resumed.Resumed.{Resumed}
 use Rattle.pat_checkpoint_spec.specs.Checkpoints.{interface_at}
 use Rattle.pat_checkpoint_spec.specs.Resumed.{IsResumed, start_checkpoint}
 use Rattle.pat_checkpoint_spec.specs.Written.{lines_need, IsFirstUnshown}
@@ -63,3 +66,8 @@ abbrev pub AnswersProgram : Program → Derivation → ℕ → List ℕ → Stat
 AnswersProgram p d steps out Ok = ShowsCheckpoint p d steps out
 AnswersProgram p d steps out (Refused v) = (n : ℕ) × (v ≡ Unshown n) × HasUnshown p d steps n × (out ≡ line_of_verdict v)
 AnswersProgram p d steps out _ = ⊥
+
+-- where a run from the start with so many steps led
+abbrev pub HasReached : Program → Derivation → ℕ → Resumed → Type 0
+HasReached p d steps r =
+    IsResumed p d (start_checkpoint p) steps (map entry_view r.entries) (config_view r.config) r.interfaces (outcome_view r.outcome)

@@ -1,6 +1,5 @@
 // The checkpoint that a run of the program of an input leads to, as text.
-ghost use Rattle.std.specs.Prelude.{◌≡◌, ◌≤◌, ◌<◌, ◌++◌, ℕ, List, length, IfOk};
-ghost use Rattle.std.specs.List.{AllByRecursion};
+ghost use Rattle.std.specs.Prelude.{◌≡◌, ◌≤◌, ◌++◌, ℕ, List, IfOk};
 ghost use Rattle.pat_semantics_spec.specs.WellFormed.{WellFormed};
 ghost use Rattle.pat_core.specs.Views.{program_view};
 ghost use Rattle.pat_resolver_spec.specs.Places.{Places};
@@ -12,12 +11,11 @@ ghost use Rattle.pat_derivation_text_spec.specs.DerivationText.{derivation_text}
 ghost use Rattle.pat_front.specs.declared.exit_answers.status.Status.TheVariants.{Ok};
 ghost use Rattle.pat_input.specs.Inputs.{IsRead};
 ghost use Rattle.pat_typecheck.specs.Checks.{IsChecked};
-ghost use Rattle.pat_command_checkpoint.specs.Allowed.{AllowedCheckpoint, AnswersProgram};
-ghost use Rattle.pat_command_checkpoint.specs.Reached.{HasReached};
+ghost use Rattle.pat_command_checkpoint.specs.Allowed.{AllowedCheckpoint, AnswersProgram, HasReached};
 ghost use Rattle.pat_limits.specs.Limits.{most_steps};
 
-use pat_checkpoint::{WriteError, write};
-use pat_checkpoint_laws::{made_laws, resumed_laws};
+use pat_checkpoint::{WriteError, started_law, write};
+use pat_checkpoint_laws::resumed_laws;
 use pat_checkpoint_run::{Resumed, run_from, start_checkpoint};
 use pat_core::Program;
 use pat_derivations::Derivation;
@@ -81,7 +79,6 @@ fn run_program(alloc: Global, code: &Executable, steps: u32) -> Result<Resumed, 
     ensures { IfOk result (λ r. (d : AnyDerivation) → IsValid (program_view code.now.program) d → HasReached (program_view code.now.program) d steps r) }
 {
     resumed_laws();
-    made_laws();
     let start = start_checkpoint(alloc, code)?;
     run_from(alloc, code, start, steps as u64)
 }
@@ -98,7 +95,8 @@ fn answer_at(
     requires reached { (steps : ℕ) × HasReached (program_view program.now) (derivation_view derivation.now) steps resumed }
     ensures { (steps : ℕ) → HasReached (program_view program.now) (derivation_view derivation.now) steps resumed → IfOk result (λ a. AnswersProgram (program_view program.now) (derivation_view derivation.now) steps a.text.items a.status) }
 {
-    let (entries, config, interfaces, _outcome) = resumed.into_parts();
+    started_law();
+    let (entries, config, interfaces, _) = resumed.into_parts();
     let_go(entries);
     match write(alloc, program, derivation, config, interfaces) {
         Ok(text) => joined(alloc, program, derivation, text.as_slice()),
