@@ -69,12 +69,11 @@ module _ (steps : ℕ) (bytes : List ℕ) where
   pub refused : {E : Type 0} (v : Verdict) (r : Result Answer E) → AllHaveCheckpoint bytes → IsMarkedRefusal marker bytes v → IfOk r (λ a. SaysVerdict v a.text.items a.status) → IfOk r (λ a. AllowedResume steps bytes a.text.items a.status)
   refused v (Failed e) all why says = tt
   refused v (Done a) all why says =
-      subst (λ k. AllowedResume steps bytes a.text.items k) (sym says.0)
-      (
+      subst (λ k. AllowedResume steps bytes a.text.items k) (sym says.0) (
         ⊎_elim
-        (λ (r : RefusesBytes marker bytes v). inl (inl r))
-        (λ (r : RefusesFront marker bytes v). inl (inr (inl (record { front = r; whole = λ other. all r.small r.front r.text r.marked (small r.front v r.refused other) }))))
-        why,
+            (λ (r : RefusesBytes marker bytes v). inl (inl r))
+            (λ (r : RefusesFront marker bytes v). inl (inr (inl (record { front = r; whole = λ other. all r.small r.front r.text r.marked (small r.front v r.refused other) }))))
+            why,
         says.1,
       )
 

@@ -191,8 +191,7 @@ module _ (none_bad : ValidIsNoneBad) (one_reading : ReadingIsOne) (one_checkpoin
       let ends : Some o ≡ Some q =
       sym r.ends ∙ ap (λ c. outcome p c (step_count a.entries) steps None) config ∙ ap (λ l. outcome p b.config (step_count l) steps None) entries ∙ s.ends
       in
-      let same : o ≡ q = cc in
-      (
+      let same : o ≡ q = cc in (
         same,
         a.shown
             ∙ ap (λ l. run_text l a.config o) entries
