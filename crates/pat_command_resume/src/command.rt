@@ -14,6 +14,7 @@ ghost use Rattle.pat_limits.specs.Limits.{most_steps, number_count};
 
 use crate::running::go_on;
 use crate::texts::checked_texts;
+use pat_checkpoint_laws::checked_laws;
 use pat_core::Program;
 use pat_front::{Answer, FrontError, Verdict, verdict_answer};
 use pat_input::{LIMIT, WHOLE_LIMIT};
@@ -95,6 +96,7 @@ fn resume_texts(
     requires room { from + length derivation.now + length checkpoint.now ≤ whole_limit }
     ensures { IfOk result (λ a. AnswersTexts (program_view program) steps from derivation.now checkpoint.now a.text.items a.status) }
 {
+    checked_laws();
     match checked_texts(alloc, &program, derivation, checkpoint, from) {
         Ok(checked) => go_on(alloc, steps, program, checked),
         Err(error) => refused_texts(alloc, error, program),

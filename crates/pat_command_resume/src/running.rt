@@ -20,6 +20,7 @@ use pat_core::Program;
 use pat_front::{Answer, Status};
 use pat_history::{Remains, text_of};
 use pat_reduce_values::Executable;
+use pat_semantics_laws::outcome_laws;
 use std::alloc::{AllocError, Global};
 
 /// The text of the run that goes on from the checkpoint with so many steps, and its status.
@@ -37,6 +38,7 @@ pub fn go_on(
 {
     checked_laws();
     turn_laws();
+    outcome_laws();
     let code = executable(alloc, program)?;
     let resumed = run_from(alloc, &code, checkpoint, steps as u64)?;
     told(alloc, &resumed)
