@@ -2,10 +2,16 @@
 #![tactic(auto)]
 
 mod differing;
+mod free;
 mod kinds;
+mod lets;
 mod live;
+mod marks;
 mod numbers;
 mod order;
+mod parts;
+mod showing;
+mod typing;
 
 pub use differing::mailboxes_differ;
 pub use kinds::kinds_hold;
