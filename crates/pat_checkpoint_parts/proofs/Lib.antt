@@ -1,0 +1,10 @@
+mod Halved
+mod Marking
+mod Reversed
+mod News
+mod SameNumbers
+mod PartsFit
+mod Keeps
+mod Chosen
+mod LetTable
+mod FreeLists

@@ -1,12 +1,12 @@
 // The free variables of each node, in ascending order.
-ghost use Rattle.std.specs.Prelude.{◌≡◌, ℕ, ◌||◌, ◌&&◌, ◌++◌, not, map, length, IfOk, OnOk};
+ghost use Rattle.std.specs.Prelude.{◌≡◌, ℕ, ◌||◌, ◌&&◌, ◌++◌, not, nat_eq, map, IfOk, OnOk};
 ghost use Rattle.std.specs.List.{list_any};
 ghost use Rattle.pat_semantics_spec.specs.Values.{occurs};
 ghost use Rattle.pat_semantics_spec.specs.Programs.{is_among, option_list, clause_uses, core_uses, is_free};
 ghost use Rattle.pat_semantics_spec.specs.Orders.{AscendsFrom};
 ghost use Rattle.pat_semantics_spec.specs.WellFormed.{WellFormed};
 ghost use Rattle.pat_core.specs.Views.{expr_view, clause_view, core_view, program_view};
-ghost use Rattle.pat_checkpoint_parts.specs.Lists.{numbers_at, is_listed, AreFree};
+ghost use Rattle.pat_checkpoint_parts.specs.Lists.{is_listed, AreFree};
 
 use pat_core::{Clause, Core, Expr, Program};
 use pat_sequences::Sequence;
@@ -79,7 +79,7 @@ fn add_term(
         }
         Core::New(_) => Ok(()),
         Core::Send { target, args, .. } => {
-            own.push(*target)?;
+            add(own, *target)?;
             add_arguments(own, args.as_slice())
         }
         Core::Spawn(body) => add_all(own, free, *body, &[], None),
@@ -89,7 +89,7 @@ fn add_term(
             receives,
             ..
         } => {
-            own.push(*var)?;
+            add(own, *var)?;
             add_optional(own, free, *empty)?;
             add_clauses(own, free, receives.as_slice())
         }
@@ -145,7 +145,7 @@ fn add_all(
     };
     for variable in variables.as_slice() {
         if !is_bound(*variable, bound, last) {
-            own.push(*variable)?;
+            add(own, *variable)?;
         }
     }
     Ok(())
@@ -172,11 +172,19 @@ fn add_variables(own: &mut Sequence<u32>, e: &Expr) -> Result<(), AllocError>
     ensures { OnOk result ((x : ℕ) → is_among x own.new ≡ (is_among x own.old || occurs x (expr_view e.now))) }
 {
     match e {
-        Expr::Var(variable) => own.push(*variable),
+        Expr::Var(variable) => add(own, *variable),
         Expr::Unit | Expr::Bool(_) | Expr::Int(_) | Expr::Str(_) => Ok(()),
         Expr::Op(_, left, right) => {
             add_variables(own, left)?;
             add_variables(own, right)
         }
     }
+}
+
+/// Adds a variable.
+#[tactic(auto, using(crate::proofs::FreeLists::among_behind))]
+fn add(own: &mut Sequence<u32>, variable: u32) -> Result<(), AllocError>
+    ensures { OnOk result ((x : ℕ) → is_among x own.new ≡ (is_among x own.old || nat_eq x variable)) }
+{
+    own.push(variable)
 }

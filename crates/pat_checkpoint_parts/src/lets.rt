@@ -1,8 +1,9 @@
 // The `let` of each body.
-ghost use Rattle.std.specs.Prelude.{◌≡◌, ℕ, IfOk};
+ghost use Rattle.std.specs.Prelude.{◌≡◌, ◌<◌, ℕ, length, IfOk};
 ghost use Rattle.pat_semantics_spec.specs.WellFormed.{WellFormed};
-ghost use Rattle.pat_core.specs.Views.{program_view};
-ghost use Rattle.pat_checkpoint_parts.specs.Tables.{AreLets};
+ghost use Rattle.pat_core.specs.Views.{core_view, program_view};
+ghost use Rattle.pat_checkpoint_spec.specs.Kinds.{let_of, or_later};
+ghost use Rattle.pat_checkpoint_parts.specs.Tables.{AreLets, binding_at};
 
 use pat_core::{Core, Program};
 use pat_sequences::Sequence;
@@ -33,7 +34,10 @@ pub fn lets_of(alloc: Global, program: &Program) -> Result<Sequence<Option<Bindi
 }
 
 /// Puts the binding of a `let` at its body.
-fn put_let(lets: &mut Sequence<Option<Binding>>, core: &Core) {
+fn put_let(lets: &mut Sequence<Option<Binding>>, core: &Core)
+    ensures len { length lets.new ≡ length lets.old }
+    ensures put { (b : ℕ) → b < length lets.old → binding_at lets.new b ≡ or_later (let_of b (core_view core.now)) (binding_at lets.old b) }
+{
     let Core::Let { var, bound, body } = core else {
         return;
     };

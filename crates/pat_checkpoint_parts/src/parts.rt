@@ -15,7 +15,8 @@ ghost use Rattle.pat_checkpoint_spec.specs.Numbers.{ascends, control_ascends, th
 ghost use Rattle.pat_checkpoint_spec.specs.Kinds.{value_fits as value_fits_by, value_fits_some, part_fits as part_fits_by, types_agree as types_agree_by, control_fits as control_fits_by, frames_fit as frames_fit_by, thread_fits as thread_fits_by, is_frame_of_let as is_frame_of_let_by, is_same_name, has_name_of};
 ghost use Rattle.pat_checkpoint_parts.specs.Lists.{AreFree, all_but, are_same};
 ghost use Rattle.pat_checkpoint_parts.specs.Tables.{type_or_unit, binding_view};
-ghost use Rattle.pat_checkpoint_parts.specs.Typed.{program_in, typing_in, interfaces_in, frame_fits as frame_fits_by};
+ghost use Rattle.pat_checkpoint_parts.specs.Typed.{program_in, typing_in};
+ghost use Rattle.pat_checkpoint_parts.specs.Shown.{interfaces_in, frame_fits as frame_fits_by};
 
 use crate::free::free_variables;
 use crate::lets::Binding;

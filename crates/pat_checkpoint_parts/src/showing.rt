@@ -6,7 +6,8 @@ ghost use Rattle.pat_reduce.specs.threads.ThreadViews.{control_view, frame_view,
 ghost use Rattle.pat_checkpoint_spec.specs.Kinds.{type_needs, is_certified as is_certified_by, control_needs, frames_shown as frames_shown_by, thread_shown as thread_shown_by, threads_shown as threads_shown_by};
 ghost use Rattle.pat_checkpoint_data.specs.Views.{end_view, part_certs_view};
 ghost use Rattle.pat_checkpoint_parts.specs.Tables.{type_or_unit};
-ghost use Rattle.pat_checkpoint_parts.specs.Typed.{program_in, typing_in, scope_in, CanShow};
+ghost use Rattle.pat_checkpoint_parts.specs.Typed.{program_in, typing_in, scope_in};
+ghost use Rattle.pat_checkpoint_parts.specs.Shown.{CanShow};
 
 use crate::typing::Typing;
 use pat_certificate_checks::included;
