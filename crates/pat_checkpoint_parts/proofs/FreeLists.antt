@@ -1,10 +1,10 @@
 -- Lists of free variables, from the last node to the first.
 use Rattle.std.proofs.Common.{◌≡◌, ℕ, zero, suc, ◌+◌, ◌<◌, ◌≤◌, ◌⊎◌, inl, inr, Bool, true, false, ◌||◌, ◌&&◌, nat_eq, List, [], ◌∷◌, ◌++◌, length, drop, get_or, Option, Some, None, refl, sym, ap, ◌∙◌, subst, arith, ⊎_elim, slice_get, slice_set}
-use Rattle.std.specs.Prelude.{option_map}
+use Rattle.std.specs.Prelude.{option_map, nat_le}
 use Rattle.std.specs.List.{Contains, dedup}
 use Rattle.std.specs.List.Sorted.{IsPermutation, IsSorted, IsStrictlyIncreasing}
 use Rattle.std.specs.Ordering.{nat_cmp}
-use Rattle.std.proofs.lemmas.Bool.{cases_lt, eqb-true, eq-eqb, or_cases}
+use Rattle.std.proofs.lemmas.Bool.{cases_lt, eqb-true, eq-eqb, or_cases, and_from, le-leb}
 use Rattle.std.proofs.lemmas.List.{drop_all, length-map, length-set, get_or-set_same, get_or-set_other}
 use Rattle.std.proofs.lemmas.List.Sorted.{list_any-IsPermutation}
 use Rattle.std.proofs.lemmas.List.Kept.{Contains-dedup_nat, Contains-from_dedup}
@@ -12,12 +12,12 @@ use Rattle.std.proofs.lemmas.List.Folds.{list_any_at}
 use Rattle.std.proofs.lemmas.Map.Keys.{IsStrictlyIncreasing-dedup}
 use Rattle.std.proofs.lemmas.Option.{slice_get-map, slice_get_past, slice_get-get_or}
 use Rattle.pat_semantics_spec.specs.Programs.{Program, Core, core_at, node_at, is_among, is_free, is_free_within, option_uses, core_uses}
-use Rattle.pat_semantics_spec.specs.Orders.{AscendsFrom}
 use Rattle.pat_semantics_spec.specs.WellFormed.{WellFormed}
 use Rattle.pat_semantics_laws.proofs.FreeVars.{free_unfolds, core_agrees, part_after}
 use Rattle.pat_core.specs.declared.program.Node.{Node as CodeNode}
 use Rattle.pat_core.specs.declared.program.Program.{Program as CodeProgram}
 use Rattle.pat_core.specs.Views.{core_view, node_view, program_view}
+use Rattle.pat_checkpoint_spec.specs.Numbers.{ascends}
 use Rattle.pat_checkpoint_parts.specs.Lists.{list_or_none, numbers_at, is_listed}
 use Rattle.pat_checkpoint_parts.proofs.SameNumbers.{both_ways}
 
@@ -65,12 +65,12 @@ same_among x old sorted moved =
     (λ h. so_contains x (dedup nat_eq sorted) (Contains-dedup_nat sorted x (contains_so x sorted h)))
     ∙ sym (list_any-IsPermutation (nat_eq x) old sorted moved)
 
-ascends_so : (n : ℕ) (xs : List ℕ) → ((k : ℕ) → k < length xs → n ≤ get_or xs 0 0) → ((k : ℕ) → k + 1 < length xs → get_or xs k 0 < get_or xs (k + 1) 0) → AscendsFrom n xs
-ascends_so n [] low up = tt
-ascends_so n (x ∷ xs) low up = (low zero (omega arith), ascends_so (suc x) xs (λ k h. let next = up zero (omega arith) in omega arith) (λ k h. up (suc k) (omega arith)))
+ascends_so : (n : ℕ) (xs : List ℕ) → ((k : ℕ) → k < length xs → n ≤ get_or xs 0 0) → ((k : ℕ) → k + 1 < length xs → get_or xs k 0 < get_or xs (k + 1) 0) → ascends n xs ≡ true
+ascends_so n [] low up = refl
+ascends_so n (x ∷ xs) low up = and_from (nat_le n x) (ascends (suc x) xs) (le-leb n x (low zero (omega arith))) (ascends_so (suc x) xs (λ k h. let next = up zero (omega arith) in omega arith) (λ k h. up (suc k) (omega arith)))
 
 -- and they ascend
-pub sorted_ascends : (sorted : List ℕ) → IsSorted nat_cmp sorted → AscendsFrom 0 (dedup nat_eq sorted)
+pub sorted_ascends : (sorted : List ℕ) → IsSorted nat_cmp sorted → ascends 0 (dedup nat_eq sorted) ≡ true
 sorted_ascends sorted up = ascends_so 0 (dedup nat_eq sorted) (λ k h. omega arith) (IsStrictlyIncreasing-dedup sorted up)
 
 -- ---- lists of all nodes
@@ -98,17 +98,21 @@ set_other xs n k v off =
     (λ past. slice_get_past (slice_set xs n v) k (omega arith) ∙ sym (slice_get_past xs k past))
     (cases_lt k (length xs)))
 
-pub set_ascends : (xs : Numbers) (n : ℕ) (v : List ℕ) → n < length xs → AscendsFrom 0 v → ((k : ℕ) → AscendsFrom 0 (numbers_at xs k)) → (k : ℕ) → AscendsFrom 0 (numbers_at (slice_set xs n v) k)
+pub set_ascends : (xs : Numbers) (n : ℕ) (v : List ℕ) → n < length xs → ascends 0 v ≡ true → ((k : ℕ) → ascends 0 (numbers_at xs k) ≡ true) → (k : ℕ) → ascends 0 (numbers_at (slice_set xs n v) k) ≡ true
 set_ascends xs n v within up all k =
-    (elim (nat_eq k n) as (λ b. nat_eq k n ≡ b → AscendsFrom 0 (numbers_at (slice_set xs n v) k)) [
-      | true ↦ λ q. let same : k ≡ n = eqb-true k n q in subst (λ j. AscendsFrom 0 (numbers_at (slice_set xs n v) j)) (sym same) (subst (AscendsFrom 0) (sym (set_here xs n v within)) up)
-      | false ↦ λ q. subst (AscendsFrom 0) (sym (set_other xs n k v (λ same. let clash : true ≡ false = sym (eq-eqb k n same) ∙ q in cc))) (all k)
+    (elim (nat_eq k n) as (λ b. nat_eq k n ≡ b → ascends 0 (numbers_at (slice_set xs n v) k) ≡ true) [
+      | true ↦ λ q. let same : k ≡ n = eqb-true k n q in subst (λ j. ascends 0 (numbers_at (slice_set xs n v) j) ≡ true) (sym same) (ap (ascends 0) (set_here xs n v within) ∙ up)
+      | false ↦ λ q. ap (ascends 0) (set_other xs n k v (λ same. let clash : true ≡ false = sym (eq-eqb k n same) ∙ q in cc)) ∙ all k
     ]) refl
 
 -- past the last node no variable is free
 nothing_past : (d : ℕ) (p : Program) (x k : ℕ) → core_at p k ≡ None → is_free_within d p x k ≡ false
 nothing_past zero p x k h = refl
 nothing_past (suc d) p x k h = ap (option_uses (is_free_within d p x) x) h
+
+pub nothing_there : (p : Program) (x k : ℕ) → core_at p k ≡ None → is_free p x k ≡ false
+unfolding is_free
+nothing_there p x k h = nothing_past (length p.nodes) p x k h
 
 free_past : (p : Program) (x k : ℕ) → length p.nodes ≤ k → is_free p x k ≡ false
 unfolding is_free

@@ -11,7 +11,7 @@ use Rattle.pat_type_system_spec.specs.Holdings.{Holding, held}
 use Rattle.pat_type_system_spec.specs.Typed.{mailboxes_of}
 use Rattle.pat_derivation_spec.specs.Same.{all_differ}
 use Rattle.pat_checkpoint_spec.specs.Mailboxes.{is_returnable, values_of, env_differs}
-use Rattle.pat_checkpoint_parts.specs.Marked.{keeps_marked}
+use Rattle.pat_checkpoint_parts.specs.Keeping.{keeps_marked}
 
 -- with tests of marks that are the same
 pub keeps_same : (m n : ℕ → Bool) (holds : ℕ → Holding) (bs : List ℕ) → ((b : ℕ) → m b ≡ n b) → keeps_marked m holds bs ≡ keeps_marked n holds bs

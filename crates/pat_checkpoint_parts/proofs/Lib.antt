@@ -1,10 +1,8 @@
-mod Halved
-mod Marking
 mod Reversed
-mod News
 mod SameNumbers
-mod PartsFit
 mod Keeps
 mod Chosen
 mod LetTable
 mod FreeLists
+mod PartsFit
+mod Standings

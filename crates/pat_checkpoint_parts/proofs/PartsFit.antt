@@ -4,15 +4,17 @@ use Rattle.std.specs.Prelude.{nat_eq, slice_get, option_map, option_and_then, is
 use Rattle.std.specs.List.{list_all, range_with_len}
 use Rattle.std.specs.Map.{keys_of}
 use Rattle.std.proofs.lemmas.Bool.{and_parts, and_from, or_cases, eqb-true, eq-eqb}
+use Rattle.std.proofs.lemmas.Option.{slice_get-map}
 use Rattle.pat_semantics_spec.specs.Values.{Value, Kind, Env, value_at}
-use Rattle.pat_semantics_spec.specs.Programs.{Program, Function, Node, node_at, core_at, function_at, is_among, is_free, option_list}
-use Rattle.pat_semantics_spec.specs.WellFormed.{WellFormed}
+use Rattle.pat_semantics_spec.specs.Programs.{Program, Function, core_at, is_among, is_free, option_list}
 use Rattle.pat_semantics_spec.specs.Faults.{IsIn}
 use Rattle.pat_derivation_spec.specs.Scopes.{function_of, kind_at}
 use Rattle.pat_checkpoint_spec.specs.Numbers.{ascends}
 use Rattle.pat_checkpoint_spec.specs.Kinds.{vars_of, var_count, is_asked, entry_fits, value_fits_some, part_fits}
-use Rattle.pat_checkpoint_laws.proofs.Lists.{all_in, in_all, in_range, so_ascends}
-use Rattle.pat_checkpoint_laws.proofs.FreeBelow.{free_below}
+use Rattle.pat_core.specs.declared.program.Kind.{Kind as CodeKind}
+use Rattle.pat_core.specs.Views.{kind_view}
+use Rattle.pat_checkpoint_laws.proofs.Lists.{all_in, in_all, in_range}
+use Rattle.pat_checkpoint_parts.specs.Standing.{StandsWell}
 use Rattle.pat_checkpoint_parts.specs.Lists.{numbers_at, is_listed, AreFree, are_same, all_but}
 use Rattle.pat_checkpoint_parts.proofs.SameNumbers.{both_ways, same_numbers, same_so, filter_ascends, among_filter, some_key}
 
@@ -47,26 +49,21 @@ or_asked : (a b : Bool) → (a ≡ true → b ≡ true) → (not a || b) ≡ tru
 or_asked true b h = h refl
 or_asked false b h = refl
 
-module _ (p : Program) (wf : WellFormed p) (interfaces : ℕ → ℕ) (lists : List (List ℕ)) (free : AreFree p lists) (n : ℕ) (c : Node) (g : Function) (there : node_at p n ≡ Some c) (of : function_at p c.function ≡ Some g) (but : Option ℕ) (env : Env) (up : ascends 0 (keys_of env) ≡ true) where
+module _ (p : Program) (well : StandsWell p) (interfaces : ℕ → ℕ) (lists : List (List ℕ)) (free : AreFree p lists) (n : ℕ) (g : Function) (function_is : function_of p n ≡ Some g) (but : Option ℕ) (env : Env) (up : ascends 0 (keys_of env) ≡ true) where
   abbrev asked : List ℕ
   asked = all_but but (numbers_at lists n)
 
-  function_is : function_of p n ≡ Some g
-  function_is = ap (option_and_then (λ d. function_at p d.function)) there ∙ of
-
   core_is : is_some (core_at p n) ≡ true
-  core_is = ap (λ o. is_some (option_map (λ (d : Node). d.core) o)) there
+  core_is = well.functions n ∙ ap is_some function_is
 
   kind_is : (x : ℕ) → kind_at p n x ≡ slice_get g.vars x
-  kind_is x = ap (option_and_then (λ g. slice_get g.vars x)) function_is
+  kind_is x = ap (option_and_then (λ (g : Function). slice_get g.vars x)) function_is
 
   asked_is : (x : ℕ) → is_among x asked ≡ is_asked p n (option_list but) x
   asked_is x = among_filter (λ x. not (is_among x (option_list but))) x (numbers_at lists n) ∙ ap (λ b. b && not (is_among x (option_list but))) (free.listed x n)
 
   asked_below : (x : ℕ) → is_asked p n (option_list but) x ≡ true → x < var_count p n
-  asked_below x h =
-      subst (λ o. x < vars_of o) (sym function_is)
-      (free_below p wf x n c g there of (and_parts (is_free p x n) (not (is_among x (option_list but))) h).0)
+  asked_below x h = well.below x n (and_parts (is_free p x n) (not (is_among x (option_list but))) h).0
 
   ranges : Bool
   ranges = list_all (λ x. not (is_asked p n (option_list but) x) || is_some (value_at env x)) (range_with_len 0 (var_count p n))
@@ -81,7 +78,7 @@ module _ (p : Program) (wf : WellFormed p) (interfaces : ℕ → ℕ) (lists : L
   forward h =
       let both = and_parts ranges entries h in
       and_from (are_same asked (keys_of env)) kinds
-      (same_numbers 0 asked (keys_of env) (filter_ascends (λ x. not (is_among x (option_list but))) 0 (numbers_at lists n) (so_ascends 0 (numbers_at lists n) (free.ascend n))) up (λ x.
+      (same_numbers 0 asked (keys_of env) (filter_ascends (λ x. not (is_among x (option_list but))) 0 (numbers_at lists n) (free.ascend n)) up (λ x.
       both_ways (is_among x asked) (is_among x (keys_of env))
       (λ i.
       let a = sym (asked_is x) ∙ i in
@@ -112,3 +109,32 @@ module _ (p : Program) (wf : WellFormed p) (interfaces : ℕ → ℕ) (lists : L
   part_is =
       both_ways (are_same asked (keys_of env) && kinds) (ranges && entries) back forward
       ∙ sym (ap (λ b. b && (ranges && entries)) core_is)
+
+all_same : {A : Type 0} (f g : A → Bool) (xs : List A) → ((x : A) → f x ≡ g x) → list_all f xs ≡ list_all g xs
+all_same f g [] h = refl
+all_same f g (x ∷ xs) h = ap₂ (λ a b. a && b) (h x) (all_same f g xs h)
+
+module _ (p : Program) (well : StandsWell p) (interfaces : ℕ → ℕ) (lists : List (List ℕ)) (free : AreFree p lists) (n : ℕ) (but : Option ℕ) (env : Env) (up : ascends 0 (keys_of env) ≡ true) where
+  -- where the node is there
+  pub part_there : (kinds : List CodeKind) → Some (map kind_view kinds) ≡ option_map (λ (g : Function). g.vars) (function_of p n)
+      → (are_same (all_but but (numbers_at lists n)) (keys_of env) && list_all (λ e. value_fits_some interfaces e.1 (option_map kind_view (slice_get kinds e.0))) env) ≡ part_fits p interfaces n (option_list but) env
+  part_there kinds h = at_function (function_of p n) refl h
+    where
+      at_function : (o : Option Function) → function_of p n ≡ o → Some (map kind_view kinds) ≡ option_map (λ (g : Function). g.vars) o
+          → (are_same (all_but but (numbers_at lists n)) (keys_of env) && list_all (λ e. value_fits_some interfaces e.1 (option_map kind_view (slice_get kinds e.0))) env) ≡ part_fits p interfaces n (option_list but) env
+      at_function None is h = cc
+      at_function (Some g) is h =
+          let vars : map kind_view kinds ≡ g.vars = cc in
+          ap (λ b. are_same (all_but but (numbers_at lists n)) (keys_of env) && b)
+          (all_same (λ e. value_fits_some interfaces e.1 (option_map kind_view (slice_get kinds e.0))) (λ e. value_fits_some interfaces e.1 (slice_get g.vars e.0)) env (λ e.
+          ap (value_fits_some interfaces e.1) (sym (slice_get-map kind_view kinds e.0) ∙ ap (λ l. slice_get l e.0) vars)))
+          ∙ part_is p well interfaces lists free n g is but env up
+
+  -- and where it isn't
+  pub no_part : None ≡ option_map (λ (g : Function). g.vars) (function_of p n) → false ≡ part_fits p interfaces n (option_list but) env
+  no_part h = at_function (function_of p n) refl h
+    where
+      at_function : (o : Option Function) → function_of p n ≡ o → None ≡ option_map (λ (g : Function). g.vars) o → false ≡ part_fits p interfaces n (option_list but) env
+      at_function None is h =
+          sym (ap (λ b. b && (list_all (λ x. not (is_asked p n (option_list but) x) || is_some (value_at env x)) (range_with_len 0 (var_count p n)) && list_all (entry_fits p interfaces n (option_list but)) env)) (well.functions n ∙ ap is_some is))
+      at_function (Some g) is h = cc

@@ -14,12 +14,6 @@ both_ways true false f g = absurd (let clash = f refl in cc)
 both_ways false true f g = absurd (let clash = g refl in cc)
 both_ways false false f g = refl
 
-pub turned_eq : (a b : ℕ) → nat_eq a b ≡ nat_eq b a
-turned_eq a b =
-    both_ways (nat_eq a b) (nat_eq b a)
-    (λ h. let same : a ≡ b = eqb-true a b h in eq-eqb b a (sym same))
-    (λ h. let same : b ≡ a = eqb-true b a h in eq-eqb a b (sym same))
-
 pub lower : (n m : ℕ) (xs : List ℕ) → m ≤ n → ascends n xs ≡ true → ascends m xs ≡ true
 lower n m [] le h = refl
 lower n m (x ∷ xs) le h =

@@ -1,5 +1,6 @@
 pub mod Lists
-pub mod Marked
+pub mod Keeping
 pub mod Tables
 pub mod Typed
+pub mod Standing
 pub mod Shown

@@ -1,5 +1,5 @@
 -- What parts are held against, in the definitions.
-use Rattle.std.specs.Prelude.{◌≡◌, ℕ, ◌&&◌, List}
+use Rattle.std.specs.Prelude.{◌≡◌, ℕ, Bool, ◌&&◌, List}
 use Rattle.pat_semantics_spec.specs.Programs.{Program, option_list}
 use Rattle.pat_semantics_spec.specs.Configs.{Frame}
 use Rattle.pat_semantics_spec.specs.WellFormed.{WellFormed}

@@ -1,9 +1,9 @@
 // The free variables of each node, in ascending order.
-ghost use Rattle.std.specs.Prelude.{◌≡◌, ℕ, ◌||◌, ◌&&◌, ◌++◌, not, nat_eq, map, IfOk, OnOk};
+ghost use Rattle.std.specs.Prelude.{◌≡◌, ℕ, true, ◌||◌, ◌&&◌, ◌++◌, not, nat_eq, map, IfOk, OnOk};
 ghost use Rattle.std.specs.List.{list_any};
 ghost use Rattle.pat_semantics_spec.specs.Values.{occurs};
 ghost use Rattle.pat_semantics_spec.specs.Programs.{is_among, option_list, clause_uses, core_uses, is_free};
-ghost use Rattle.pat_semantics_spec.specs.Orders.{AscendsFrom};
+ghost use Rattle.pat_checkpoint_spec.specs.Numbers.{ascends};
 ghost use Rattle.pat_semantics_spec.specs.WellFormed.{WellFormed};
 ghost use Rattle.pat_core.specs.Views.{expr_view, clause_view, core_view, program_view};
 ghost use Rattle.pat_checkpoint_parts.specs.Lists.{is_listed, AreFree};
@@ -39,7 +39,7 @@ fn free_of(
     free: &Sequence<Sequence<u32>>,
 ) -> Result<Sequence<u32>, AllocError>
     ensures uses { IfOk result (λ own. (x : ℕ) → is_among x own ≡ core_uses (λ k. is_listed free.now k x) x (core_view core.now)) }
-    ensures ascends { IfOk result (λ own. AscendsFrom 0 own) }
+    ensures ascends { IfOk result (λ own. ascends 0 own ≡ true) }
 {
     let mut own = Sequence::new(alloc);
     add_term(&mut own, free, core)?;
@@ -50,7 +50,7 @@ fn free_of(
 /// In ascending order, each once.
 fn put_in_order(own: &mut Sequence<u32>)
     ensures same { (x : ℕ) → is_among x own.new ≡ is_among x own.old }
-    ensures ascends { AscendsFrom 0 own.new }
+    ensures ascends { ascends 0 own.new ≡ true }
 {
     own.items.sort_unstable();
     own.items.dedup();

@@ -13,11 +13,12 @@ ghost use Rattle.pat_reduce.specs.Views.{config_view, threads_view};
 ghost use Rattle.pat_reduce.specs.threads.ThreadViews.{control_view, frame_view, thread_view};
 ghost use Rattle.pat_checkpoint_spec.specs.Numbers.{numbers_hold, env_lives, control_lives, thread_lives};
 ghost use Rattle.pat_checkpoint_spec.specs.Mailboxes.{mailboxes_differ, env_differs, control_differs, thread_differs, values_of, control_values, is_returnable as is_returnable_by, keeps_from, frames_keep as frames_keep_by, thread_keeps as thread_keeps_by, order_holds as order_holds_by};
-ghost use Rattle.pat_checkpoint_parts.specs.Marked.{is_marked, keeps_marked};
+ghost use Rattle.pat_checkpoint_numbers.specs.Marked.{is_marked};
+ghost use Rattle.pat_checkpoint_parts.specs.Keeping.{keeps_marked};
 ghost use Rattle.pat_checkpoint_parts.specs.Tables.{type_or_unit};
 ghost use Rattle.pat_checkpoint_parts.specs.Typed.{program_in, typing_in};
 
-use crate::marks::Marks;
+use pat_checkpoint_numbers::Marks;
 use crate::typing::Typing;
 use pat_core::Program;
 use pat_derivations::{Derivation, LookUps};

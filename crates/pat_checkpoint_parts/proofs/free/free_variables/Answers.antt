@@ -1,9 +1,9 @@
-use Rattle.std.proofs.Common.{◌≡◌, ◌-◌, length, ap, sym, ◌∙◌, subst, arith}
+use Rattle.std.proofs.Common.{◌≡◌, ◌-◌, true, length, ap, sym, ◌∙◌, subst, arith}
 use Rattle.std.proofs.lemmas.List.{length-set}
 use Rattle.pat_semantics_spec.specs.Programs.{core_uses}
-use Rattle.pat_semantics_spec.specs.Orders.{AscendsFrom}
 use Rattle.pat_core.specs.declared.program.Node.{Node}
 use Rattle.pat_core.specs.Views.{core_view, program_view}
+use Rattle.pat_checkpoint_spec.specs.Numbers.{ascends}
 use Rattle.pat_checkpoint_parts.specs.Lists.{numbers_at, is_listed}
 use Rattle.pat_checkpoint_parts.proofs.FreeLists.{none_more, listed_past, one_more, core_there, set_ascends}
 use Rattle.pat_checkpoint_parts.proofs.free.free_variables.Goals as goal
@@ -16,7 +16,7 @@ loop-n-init c =
     record {
       each = each;
       right = λ x k from. listed_past c.args.program.now c.loop.free each x k (omega arith);
-      ascend = λ k. subst (AscendsFrom 0) (sym (c.loop.invariant.none k)) tt;
+      ascend = λ k. ap (ascends 0) (c.loop.invariant.none k);
     }
 
 pub loop-n-preserved : goal.loop-n-preserved
@@ -31,5 +31,5 @@ loop-n-preserved c =
           ap (λ l. is_listed l k x) c.replace.ensures.after
           ∙ one_more (program_view c.args.program.now) c.requires c.loop-n.free (c.loop-n.n - 1) c.in_ok-variables.variables (core_view c.index-nodes-n.result.core) there (omega arith)
           (λ y j after. c.loop-n.invariant.right y j (omega arith)) (λ y. c.in_ok-variables.ensures.uses y ∙ ap (λ (d : Node). core_uses (λ j. is_listed c.loop-n.free j y) y (core_view d.core)) (sym c.index-nodes-n.is)) x k from;
-      ascend = λ k. subst (λ l. AscendsFrom 0 (numbers_at l k)) (sym c.replace.ensures.after) (set_ascends c.loop-n.free (c.loop-n.n - 1) c.in_ok-variables.variables (omega arith) c.in_ok-variables.ensures.ascends c.loop-n.invariant.ascend k);
+      ascend = λ k. subst (λ l. ascends 0 (numbers_at l k) ≡ true) (sym c.replace.ensures.after) (set_ascends c.loop-n.free (c.loop-n.n - 1) c.in_ok-variables.variables (omega arith) c.in_ok-variables.ensures.ascends c.loop-n.invariant.ascend k);
     }

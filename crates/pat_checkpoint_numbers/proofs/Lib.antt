@@ -1,0 +1,3 @@
+mod Halved
+mod Changed
+mod News
