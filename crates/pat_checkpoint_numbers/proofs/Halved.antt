@@ -9,6 +9,7 @@ use Rattle.std.proofs.lemmas.Option.{slice_get-get_or}
 use Rattle.pat_semantics_spec.specs.Programs.{is_among}
 use Rattle.pat_checkpoint_spec.specs.Numbers.{ascends}
 use Rattle.pat_checkpoint_spec.specs.Checkpoints.{interface_at}
+use Rattle.pat_checkpoint_numbers.specs.Beside.{or_zero}
 
 pub above : (n : ℕ) (ks : List ℕ) (i : ℕ) → ascends n ks ≡ true → i < length ks → n ≤ get_or ks i 0
 above n [] i a h = omega arith
@@ -55,10 +56,6 @@ stands_among (y ∷ ys) (suc i) x h = ap (λ b. nat_eq x y || b) (stands_among y
 
 -- ---- what stands beside live mailboxes
 
-abbrev pub or_zero : Option ℕ → ℕ
-or_zero None = 0
-or_zero (Some k) = k
-
 pub there : (n : ℕ) (live is : List ℕ) (i a : ℕ) → ascends n live ≡ true → slice_get live i ≡ Some a → interface_at live is a ≡ or_zero (slice_get is i)
 there n [] is i a up h = cc
 there n (b ∷ bs) [] zero a up h = refl
@@ -89,3 +86,12 @@ not_there (b ∷ bs) (k ∷ ks) a h =
 
 pub beside : (live is : List ℕ) (i a : ℕ) → ascends 0 live ≡ true → slice_get live i ≡ Some a → interface_at live is a ≡ or_zero (slice_get is i)
 beside live is i a up h = there 0 live is i a up h
+
+read_is : (is : List ℕ) (i : ℕ) → or_zero (slice_get is i) ≡ get_or is i 0
+read_is [] zero = refl
+read_is [] (suc i) = refl
+read_is (k ∷ ks) zero = refl
+read_is (k ∷ ks) (suc i) = read_is ks i
+
+pub read_beside : (live is : List ℕ) (i a : ℕ) → ascends 0 live ≡ true → slice_get live i ≡ Some a → get_or is i 0 ≡ interface_at live is a
+read_beside live is i a up h = sym (there 0 live is i a up h ∙ read_is is i)

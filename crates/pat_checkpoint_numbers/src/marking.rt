@@ -11,6 +11,7 @@ use std::alloc::{AllocError, Global};
 
 impl<'a> Marks<'a> {
     /// No mailbox is marked.
+    #[tactic(auto, using(crate::proofs::Changed::zero_more))]
     pub fn new(alloc: Global, live: &'a [u32]) -> Result<Self, AllocError>
         requires { IsTrue (ascends 0 live.now) }
         ensures live { IfOk result (λ marks. marks.live.now ≡ live.now) }

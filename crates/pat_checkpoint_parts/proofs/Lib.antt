@@ -1,4 +1,3 @@
-mod Reversed
 mod SameNumbers
 mod Keeps
 mod Chosen
@@ -6,3 +5,5 @@ mod LetTable
 mod FreeLists
 mod PartsFit
 mod Standings
+mod Wanting
+mod Unequal

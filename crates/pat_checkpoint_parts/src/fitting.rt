@@ -21,9 +21,9 @@ ghost use Rattle.pat_checkpoint_parts.specs.Shown.{interfaces_in, frame_fits as 
 
 use crate::free::free_variables;
 use crate::lets::Binding;
-use pat_checkpoint_numbers::interface_of;
 use crate::parts::Parts;
 use crate::typing::Typing;
+use pat_checkpoint_numbers::interface_of;
 use pat_core::{Kind, Program};
 use pat_derivations::Derivation;
 use pat_primitives::{Base, Polarity};

@@ -1,10 +1,11 @@
 // A program with the types that its derivation gives.
-ghost use Rattle.std.specs.Prelude.{◌≡◌, map, reverse, option_copied, option_map, IfOk};
+ghost use Rattle.std.specs.Prelude.{◌≡◌, map, reverse, option_copied, option_map, List, [], ◌∷◌, IfOk, IfSome, IfNone};
 ghost use Rattle.pat_semantics_spec.specs.WellFormed.{WellFormed};
 ghost use Rattle.pat_type_system_spec.specs.Holdings.{wanted as wanted_by};
 ghost use Rattle.pat_type_schemes_spec.specs.NodeTypes.{need_of};
 ghost use Rattle.pat_core.specs.Views.{program_view};
 ghost use Rattle.pat_types.specs.Views.{type_view, needs_view};
+ghost use Rattle.pat_reduce.specs.declared.threads.state.Frame.{Frame as CodeFrame};
 ghost use Rattle.pat_reduce.specs.threads.ThreadViews.{frame_view};
 ghost use Rattle.pat_checkpoint_spec.specs.Kinds.{let_with};
 ghost use Rattle.pat_checkpoint_parts.specs.Tables.{binding_view, type_or_unit};
@@ -71,7 +72,7 @@ impl<'a> Typing<'a> {
     pub fn wanted(&self, frames: &[Frame]) -> Option<&'a TypeOf>
         ensures { type_or_unit (option_copied result) ≡ wanted_by (program_in self.now) (typing_in self.now) (map frame_view (reverse frames.now)) }
     {
-        match frames.last() {
+        match top_of(frames) {
             None => None,
             Some(frame) => match self.let_of(frame.body) {
                 None => None,
@@ -79,4 +80,12 @@ impl<'a> Typing<'a> {
             },
         }
     }
+}
+
+/// The uppermost of the frames, which stand from the last one up.
+fn top_of(frames: &[Frame]) -> Option<&Frame>
+    ensures some { IfSome result (λ frame. (rest : List CodeFrame) × (reverse frames.now ≡ frame.now ∷ rest)) }
+    ensures none { IfNone result (frames.now ≡ []) }
+{
+    frames.last()
 }

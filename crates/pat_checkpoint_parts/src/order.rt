@@ -18,8 +18,8 @@ ghost use Rattle.pat_checkpoint_parts.specs.Keeping.{keeps_marked};
 ghost use Rattle.pat_checkpoint_parts.specs.Tables.{type_or_unit};
 ghost use Rattle.pat_checkpoint_parts.specs.Typed.{program_in, typing_in};
 
-use pat_checkpoint_numbers::Marks;
 use crate::typing::Typing;
+use pat_checkpoint_numbers::Marks;
 use pat_core::Program;
 use pat_derivations::{Derivation, LookUps};
 use pat_reduce::{Config, Control, Frame, ThreadState, Value};

@@ -1,17 +1,22 @@
 // Whether what each part gives is shown to fit what the next one wants.
-ghost use Rattle.std.specs.Prelude.{◌≡◌, length, map, reverse, option_copied, IsTrue, IfOk};
+ghost use Rattle.std.specs.Prelude.{◌≡◌, length, map, reverse, Some, IsTrue, IfOk};
 ghost use Rattle.pat_type_system_spec.specs.Holdings.{wanted};
+ghost use Rattle.pat_inclusion_spec.specs.Values.{is_formed};
+ghost use Rattle.pat_inclusion_spec.specs.Certificates.{is_shown};
+ghost use Rattle.pat_derivation_spec.specs.Demands.{fit_by};
+ghost use Rattle.pat_primitives.specs.Views.{polarity_view};
+ghost use Rattle.pat_patterns.specs.Views.{pattern_view};
 ghost use Rattle.pat_reduce.specs.Views.{threads_view};
 ghost use Rattle.pat_reduce.specs.threads.ThreadViews.{control_view, frame_view, thread_view};
 ghost use Rattle.pat_checkpoint_spec.specs.Kinds.{type_needs, is_certified as is_certified_by, control_needs, frames_shown as frames_shown_by, thread_shown as thread_shown_by, threads_shown as threads_shown_by};
 ghost use Rattle.pat_checkpoint_data.specs.Views.{end_view, part_certs_view};
-ghost use Rattle.pat_checkpoint_parts.specs.Tables.{type_or_unit};
 ghost use Rattle.pat_checkpoint_parts.specs.Typed.{program_in, typing_in, scope_in};
 ghost use Rattle.pat_checkpoint_parts.specs.Shown.{CanShow};
 
 use crate::typing::Typing;
 use pat_certificate_checks::included;
 use pat_checkpoint_data::PartCerts;
+use pat_checkpoint_laws::examining_laws;
 use pat_derivations::Cert;
 use pat_patterns::Pattern;
 use pat_primitives::Polarity;
@@ -112,6 +117,7 @@ fn is_certified(
     requires { CanShow typing.now plain.now }
     ensures { IfOk result (λ yes. yes ≡ is_certified_by (scope_in typing.now) (type_needs ((typing_in typing.now).results node) (wanted (program_in typing.now) (typing_in typing.now) (map frame_view (reverse below.now)))) (end_view cert.now)) }
 {
+    examining_laws();
     match (typing.type_of(node), typing.wanted(below)) {
         (
             Some(
@@ -132,21 +138,38 @@ fn is_certified(
             if interface != other {
                 return Ok(false);
             }
-            let (left, right) = match polarity {
-                Polarity::Sending => (wanted, given),
-                Polarity::Receiving => (given, wanted),
-            };
-            included(
-                alloc,
-                typing.program,
-                typing.derivation,
-                plain,
-                *interface,
-                left,
-                right,
-                cert.as_ref(),
+            fits_by(
+                alloc, typing, plain, *interface, *polarity, given, wanted, cert,
             )
         }
         _ => Ok(cert.is_none()),
+    }
+}
+
+/// Whether it is shown that the one pattern of the interface fits the other.
+fn fits_by(
+    alloc: Global,
+    typing: &Typing<'_>,
+    plain: &[Pattern],
+    interface: u32,
+    polarity: Polarity,
+    given: &Pattern,
+    wanted: &Pattern,
+    cert: &Option<Cert>,
+) -> Result<bool, AllocError>
+    requires can { CanShow typing.now plain.now }
+    requires given { IsTrue (is_formed (scope_in typing.now) interface (pattern_view given.now)) }
+    requires wanted { IsTrue (is_formed (scope_in typing.now) interface (pattern_view wanted.now)) }
+    ensures { IfOk result (λ yes. yes ≡ is_shown (scope_in typing.now) (fit_by (polarity_view polarity) (Some interface) (pattern_view given.now) (pattern_view wanted.now)) (end_view cert.now)) }
+{
+    let (program, derivation) = (typing.program, typing.derivation);
+    let cert = cert.as_ref();
+    match polarity {
+        Polarity::Sending => included(
+            alloc, program, derivation, plain, interface, wanted, given, cert,
+        ),
+        Polarity::Receiving => included(
+            alloc, program, derivation, plain, interface, given, wanted, cert,
+        ),
     }
 }

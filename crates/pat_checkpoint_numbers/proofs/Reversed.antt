@@ -40,3 +40,13 @@ module _ {A B : Type 0} (p : B → Bool) (f : A → B) where
   all_at [] i d h l = absurd (omega arith)
   all_at (x ∷ xs) zero d h l = (and_parts (p (f x)) (list_all p (map f xs)) h).0
   all_at (x ∷ xs) (suc i) d h l = all_at xs i d (and_parts (p (f x)) (list_all p (map f xs)) h).1 (omega arith)
+
+-- a test of frames from the last one up, behind a test that passes
+pub frames_too : {A B : Type 0} (p : B → Bool) (f : A → B) (slice frames : List A) (k r : Bool) → r ≡ list_all p (map f slice) → reverse slice ≡ frames → k ≡ true → r ≡ (k && list_all p (map f frames))
+frames_too p f slice frames k r is same sure =
+    is ∙ sym (all_reversed p f slice) ∙ ap (λ l. list_all p (map f l)) same ∙ sym (ap (λ b. b && list_all p (map f frames)) sure)
+
+-- and what frames pass where both tests do
+pub frames_pass : {A B : Type 0} (p : B → Bool) (f : A → B) (slice frames : List A) (k : Bool) → reverse slice ≡ frames → (k && list_all p (map f frames)) ≡ true → list_all p (map f slice) ≡ true
+frames_pass p f slice frames k same h =
+    sym (all_reversed p f slice) ∙ ap (λ l. list_all p (map f l)) same ∙ (and_parts k (list_all p (map f frames)) h).1

@@ -3,7 +3,7 @@ use Rattle.pat_reduce.specs.threads.ThreadViews.{frame_view}
 use Rattle.pat_checkpoint_spec.specs.Kinds.{frames_fit}
 use Rattle.pat_checkpoint_parts.specs.Typed.{program_in, typing_in}
 use Rattle.pat_checkpoint_parts.specs.Shown.{interfaces_in}
-use Rattle.pat_checkpoint_parts.proofs.fitting.Parts.frames_fit.Given as goal
+use Rattle.pat_checkpoint_parts.proofs.parts.Parts.frames_fit.Given as goal
 
 -- it is so of the frames so far
 abbrev pub invariant-loop-place : goal.invariant-loop-place

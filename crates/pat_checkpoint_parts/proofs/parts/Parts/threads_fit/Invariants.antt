@@ -5,7 +5,7 @@ use Rattle.pat_checkpoint_spec.specs.Numbers.{thread_ascends}
 use Rattle.pat_checkpoint_spec.specs.Kinds.{thread_fits}
 use Rattle.pat_checkpoint_parts.specs.Typed.{program_in, typing_in}
 use Rattle.pat_checkpoint_parts.specs.Shown.{interfaces_in}
-use Rattle.pat_checkpoint_parts.proofs.fitting.Parts.threads_fit.Given as goal
+use Rattle.pat_checkpoint_parts.proofs.parts.Parts.threads_fit.Given as goal
 
 -- what is left decides it
 abbrev pub invariant-loop-state : goal.invariant-loop-state

@@ -1,6 +1,6 @@
 use Rattle.std.proofs.Common.{◌≡◌, true, length}
 use Rattle.pat_checkpoint_numbers.proofs.Changed.{are_zero}
-use Rattle.pat_checkpoint_numbers.proofs.marking.Marks.new.Given as goal
+use Rattle.pat_checkpoint_numbers.proofs.marks.Marks.new.Given as goal
 
 -- a 0 for each so far
 abbrev pub invariant-loop : goal.invariant-loop

@@ -5,7 +5,7 @@ use Rattle.pat_core.specs.Views.{kind_view}
 use Rattle.pat_reduce_values.specs.ValueViews.{env_view}
 use Rattle.pat_checkpoint_spec.specs.Kinds.{value_fits_some}
 use Rattle.pat_checkpoint_parts.specs.Shown.{interfaces_in}
-use Rattle.pat_checkpoint_parts.proofs.fitting.Parts.values_fit.Given as goal
+use Rattle.pat_checkpoint_parts.proofs.parts.Parts.values_fit.Given as goal
 
 -- what is left decides it
 abbrev pub invariant-loop-variable : goal.invariant-loop-variable
