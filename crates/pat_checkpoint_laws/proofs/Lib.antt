@@ -1,7 +1,7 @@
 -- what the tests of a checkpoint say
-mod Lists
+pub mod Lists
 mod NumberTests
-mod FreeBelow
+pub mod FreeBelow
 mod PartTests
 mod TypeTests
 mod Put
@@ -10,10 +10,10 @@ mod Chosen
 mod ThreadTests
 mod MessageTests
 mod CheckedTyped
-mod ValidParts
+pub mod ValidParts
 mod Singles
 mod Gathers
-mod Lets
+pub mod Lets
 mod Formed
 mod LineCerts
 mod Showable

@@ -1,14 +1,16 @@
-//! The rules of a checkpoint that look at one part of one thread at a time: numbers, kinds, different mailboxes, and their order.
+//! The rules of a checkpoint on one part of a thread after another: their kinds, and their order.
 #![tactic(auto)]
 
-mod differing;
+mod fitting;
+mod free;
 mod kinds;
-mod live;
-mod numbers;
+mod lets;
+mod lookups;
 mod order;
+mod parts;
+mod showing;
+mod typing;
 
-pub use differing::mailboxes_differ;
 pub use kinds::kinds_hold;
-pub use live::interface_of;
-pub use numbers::numbers_hold;
 pub use order::order_holds;
+pub use pat_checkpoint_numbers::{interface_of, mailboxes_differ, numbers_hold};

@@ -1,0 +1,5 @@
+mod Halved
+mod Changed
+mod News
+-- for the crates above
+pub mod Reversed
