@@ -1,0 +1,9 @@
+mod Places
+mod Turns
+mod Courses
+mod Nexts
+mod LocalsTaken
+mod ActsShared
+mod InterfacesFound
+mod Resuming
+mod Starts

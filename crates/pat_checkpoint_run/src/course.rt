@@ -1,22 +1,24 @@
 // Turns, one after another.
-ghost use Rattle.std.specs.Prelude.{◌≡◌, IfOk, OnOk, Some};
+ghost use Rattle.std.specs.Prelude.{◌≡◌, ℕ, ◌+◌, ◌<◌, ◌≤◌, length, option_map, IfOk, OnOk, IfSome, IfNone, Some, None};
 ghost use Rattle.pat_semantics_spec.specs.Orders.{IsOrdered};
+ghost use Rattle.pat_semantics_spec.specs.Runs.{shared_step};
 ghost use Rattle.pat_core.specs.Views.{program_view};
 ghost use Rattle.pat_reduce.specs.Places.{IsPlace};
-ghost use Rattle.pat_reduce.specs.Views.{config_view, entry_view};
-ghost use Rattle.pat_checkpoint_run.specs.Courses.{HasRoom, HasRun};
+ghost use Rattle.pat_reduce.specs.Views.{act_view, config_view};
+ghost use Rattle.pat_checkpoint_spec.specs.Turns.{next_thread};
+ghost use Rattle.pat_checkpoint_run.specs.Courses.{HasRoom, HasRun, Notes, TakesTurn};
 
 use crate::locals::take_locals;
 use crate::next::{Turn, next_turn};
 use crate::sharing::share;
 use pat_checkpoint_laws::{made_laws, turn_laws};
-use pat_reduce::{Config, Entry};
+use pat_reduce::{Act, Config, Entry};
 use pat_reduce_values::Executable;
 use pat_sequences::Sequence;
 use std::alloc::{AllocError, Global};
 
 // The most steps of a turn.
-const ALLOWANCE: u32 = 256;
+const ALLOWANCE: u64 = 256;
 
 /// A run on its way: where it stands, its history, the interfaces of the mailboxes that it made, in order, the steps that are left, and the
 /// thread whose turn was last.
@@ -25,7 +27,7 @@ pub struct Course {
     pub config: Config,
     pub entries: Sequence<Entry>,
     pub made: Sequence<u32>,
-    pub left: u32,
+    pub left: u64,
     pub last: Option<u32>,
 }
 
@@ -34,12 +36,13 @@ pub fn run_turns(
     alloc: Global,
     code: &Executable,
     config: Config,
-    steps: u32,
+    steps: u64,
 ) -> Result<Course, AllocError>
     requires ordered { IsOrdered (config_view config) }
     requires room { HasRoom (config_view config) steps }
     ensures { IfOk result (HasRun (program_view code.now.program) (config_view config) steps) }
 {
+    // Laws: turns unfold by their first one, and what steps make joins.
     turn_laws();
     made_laws();
     let mut course = Course {
@@ -57,7 +60,13 @@ pub fn run_turns(
 
 impl Course {
     // The thread whose turn it is, where a step is left.
-    fn next(&self, code: &Executable) -> Option<Turn> {
+    fn next(&self, code: &Executable) -> Option<Turn>
+        requires { IsOrdered (config_view self.now.config) }
+        ensures some { IfSome result (λ n. 0 < self.now.left) }
+        ensures turn { IfSome result (λ n. next_thread (program_view code.now.program) (config_view self.now.config) self.now.last ≡ Some n.thread) }
+        ensures place { IfSome result (λ n. IsPlace self.now.config.threads n.thread n.place) }
+        ensures none { IfNone result (0 < self.now.left → next_thread (program_view code.now.program) (config_view self.now.config) self.now.last ≡ None) }
+    {
         if self.left == 0 {
             return None;
         }
@@ -65,35 +74,49 @@ impl Course {
     }
 
     // Takes a turn.
-    fn take(&mut self, alloc: Global, code: &Executable, turn: Turn) -> Result<(), AllocError> {
-        let allowance = ALLOWANCE.min(self.left);
+    fn take(&mut self, alloc: Global, code: &Executable, turn: Turn) -> Result<(), AllocError>
+        requires ordered { IsOrdered (config_view self.old.config) }
+        requires room { HasRoom (config_view self.old.config) self.old.left }
+        requires some { 0 < self.old.left }
+        requires place { IsPlace self.old.config.threads turn.thread turn.place }
+        ensures { OnOk result (TakesTurn (program_view code.now.program) turn.thread self.old self.new) }
+    {
+        // A law: local steps that go on for as long as they can are those of the turn; an act that is found enabled is its first.
+        turn_laws();
+        made_laws();
+        let allowance = ALLOWANCE.min(self.left) as u32;
         let local = take_locals(alloc, code, &mut self.config, turn, allowance)?;
-        let shared = if local < allowance {
-            share(alloc, code, &mut self.config, &mut self.made, turn)?
-        } else {
-            None
-        };
-        self.note(Entry {
-            worker: 0,
-            thread: turn.thread,
-            local,
-            shared,
-        })
+        if local == allowance {
+            return self.note(turn.thread, local, None);
+        }
+        let shared = share(alloc, code, &mut self.config, &mut self.made, turn)?;
+        self.note(turn.thread, local, shared)
     }
 
-    // Notes the entry of a turn.
-    fn note(&mut self, entry: Entry) -> Result<(), AllocError> {
+    // Notes a turn.
+    fn note(&mut self, thread: u32, local: u32, shared: Option<Act>) -> Result<(), AllocError>
+        requires { local + length (shared_step thread (option_map act_view shared)) ≤ self.old.left }
+        ensures { OnOk result (Notes thread local (option_map act_view shared) self.old self.new) }
+    {
+        let entry = Entry {
+            worker: 0,
+            thread,
+            local,
+            shared,
+        };
         self.entries.push(entry)?;
-        self.left -= steps_of(&entry);
-        self.last = Some(entry.thread);
+        self.left -= steps_of(local, shared);
+        self.last = Some(thread);
         Ok(())
     }
 }
 
-// The number of steps of an entry.
-fn steps_of(entry: &Entry) -> u32 {
-    match entry.shared {
-        Some(_) => entry.local + 1,
-        None => entry.local,
+// The number of steps of a turn.
+fn steps_of(local: u32, shared: Option<Act>) -> u64
+    ensures { (t : ℕ) → result ≡ local + length (shared_step t (option_map act_view shared)) }
+{
+    match shared {
+        Some(_) => local as u64 + 1,
+        None => local as u64,
     }
 }

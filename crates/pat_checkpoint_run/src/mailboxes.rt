@@ -1,9 +1,10 @@
 // The interfaces of mailboxes: of those that a checkpoint had, and of those that were made since.
-ghost use Rattle.std.specs.Prelude.{◌≡◌, map, IfOk};
+ghost use Rattle.std.specs.Prelude.{◌≡◌, map, slice_get, unwrap_or, IfOk};
 ghost use Rattle.pat_semantics_spec.specs.Orders.{AscendsFrom};
 ghost use Rattle.pat_checkpoint_spec.specs.Checkpoints.{interface_at};
 ghost use Rattle.pat_checkpoint_spec.specs.Resumed.{interface_made};
 
+use pat_reduce::Config;
 use pat_sequences::Sequence;
 use std::alloc::{AllocError, Global};
 
@@ -16,6 +17,19 @@ pub struct FirstMailboxes {
 }
 
 impl FirstMailboxes {
+    /// The live mailboxes of a configuration, with these interfaces.
+    pub fn of(alloc: Global, config: &Config, interfaces: Sequence<u32>) -> Result<Self, AllocError>
+        ensures live { IfOk result (λ first. first.live ≡ config.now.live) }
+        ensures interfaces { IfOk result (λ first. first.interfaces ≡ interfaces) }
+        ensures next { IfOk result (λ first. first.next ≡ config.now.next_mailbox) }
+    {
+        Ok(FirstMailboxes {
+            live: copied(alloc, config.live.as_slice())?,
+            interfaces,
+            next: config.next_mailbox,
+        })
+    }
+
     /// The interface of each of these mailboxes, where the ones that were made since have those.
     pub fn interfaces_of(
         &self,
@@ -53,11 +67,28 @@ impl FirstMailboxes {
         ensures { result ≡ interface_at self.now.live self.now.interfaces mailbox }
     {
         match self.live.as_slice().binary_search(&mailbox) {
-            Ok(place) => match self.interfaces.as_slice().get(place) {
-                Some(interface) => *interface,
-                None => 0,
-            },
+            Ok(place) => number_at(self.interfaces.as_slice(), place),
             Err(_) => 0,
         }
     }
+}
+
+// The number at a place, or 0 where there is none.
+fn number_at(numbers: &[u32], place: usize) -> u32
+    ensures { result ≡ unwrap_or (slice_get numbers.now place) 0 }
+{
+    match numbers.get(place) {
+        Some(number) => *number,
+        None => 0,
+    }
+}
+
+fn copied(alloc: Global, numbers: &[u32]) -> Result<Sequence<u32>, AllocError>
+    ensures { IfOk result (λ copy. copy ≡ numbers.now) }
+{
+    let mut copy = Sequence::new(alloc);
+    for number in numbers {
+        copy.push(*number)?;
+    }
+    Ok(copy)
 }

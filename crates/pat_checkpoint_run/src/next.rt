@@ -38,7 +38,8 @@ fn able_above(code: &Executable, config: &Config, last: Option<u32>) -> Option<T
     ensures place { IfSome result (λ n. IsPlace config.now.threads n.thread n.place) }
     ensures none { IfNone result (able_above (program_view code.now.program) (config_view config.now) last ≡ None) }
 {
-    for (place, own) in config.threads.as_slice().iter().enumerate() {
+    let threads = config.threads.as_slice();
+    for (place, own) in threads.iter().enumerate() {
         if is_able(code, config, last, own.0) {
             return Some(Turn {
                 thread: own.0,

@@ -15,6 +15,7 @@ use crate::course::run_turns;
 use crate::mailboxes::FirstMailboxes;
 use crate::outcome::outcome_of;
 use pat_checkpoint_data::Checkpoint;
+use pat_checkpoint_laws::{checked_laws, made_laws, resumed_laws};
 use pat_machine::Outcome;
 use pat_reduce::{Config, Entry};
 use pat_reduce_values::Executable;
@@ -75,13 +76,13 @@ pub fn run_from(
     requires messages { checkpoint.config.next_message ≤ most_next_number }
     ensures { IfOk result (λ r. (d : Derivation) → IsChecked (program_view code.now.program) d (checkpoint_view checkpoint) → IsResumed (program_view code.now.program) d (checkpoint_view checkpoint) steps (map entry_view r.entries) (config_view r.config) r.interfaces (outcome_view r.outcome)) }
 {
+    // Laws: what is checked is typed, so it is in order; its turns are a run that goes on from it; and which interfaces mailboxes have.
+    checked_laws();
+    resumed_laws();
+    made_laws();
     let (config, interfaces, _, _) = checkpoint.into_parts();
-    let first = FirstMailboxes {
-        live: Sequence::from_vec(config.live.items.clone()?),
-        interfaces,
-        next: config.next_mailbox,
-    };
-    let course = run_turns(alloc, code, config, steps as u32)?;
+    let first = FirstMailboxes::of(alloc, &config, interfaces)?;
+    let course = run_turns(alloc, code, config, steps)?;
     let live = course.config.live.as_slice();
     let interfaces = first.interfaces_of(alloc, course.made.as_slice(), live)?;
     let outcome = outcome_of(code, &course.config);

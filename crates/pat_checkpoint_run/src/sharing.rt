@@ -1,14 +1,17 @@
 // The shared step of a turn.
-ghost use Rattle.std.specs.Prelude.{◌≡◌, IfOk, option_map};
-ghost use Rattle.pat_semantics_spec.specs.Steps.{redex};
+ghost use Rattle.std.specs.Prelude.{◌≡◌, ◌++◌, List, Some, IfOk, OnOk, option_map};
+ghost use Rattle.pat_semantics_spec.specs.Programs.{option_list};
+ghost use Rattle.pat_semantics_spec.specs.Configs.{Frame as FrameOf};
+ghost use Rattle.pat_semantics_spec.specs.Steps.{redex, thread_of};
 ghost use Rattle.pat_core.specs.Views.{program_view};
 ghost use Rattle.pat_type_system_spec.specs.Interfaces.{made_by, new_interface};
 ghost use Rattle.pat_reduce.specs.Places.{IsPlace};
 ghost use Rattle.pat_reduce.specs.Views.{act_view, config_view};
-ghost use Rattle.pat_reduce.specs.threads.ThreadViews.{control_view, thread_view};
+ghost use Rattle.pat_reduce.specs.threads.ThreadViews.{control_view};
 ghost use Rattle.pat_checkpoint_run.specs.Courses.{HasRoom, Shares};
 
 use crate::next::Turn;
+use pat_checkpoint_laws::turn_laws;
 use pat_reduce::{Act, Config, Control, Core, Step, core_of};
 use pat_reduce_values::Executable;
 use pat_sequences::Sequence;
@@ -26,13 +29,13 @@ pub fn share(
     requires place { IsPlace config.old.threads turn.thread turn.place }
     ensures { IfOk result (λ a. Shares (program_view code.now.program) turn.thread (config_view config.old) made.old (option_map act_view a) (config_view config.new) made.new) }
 {
+    // A law: an act that is found enabled is the first one.
+    turn_laws();
     let Some(act) = config.enabled_act(code, turn.thread) else {
         return Ok(None);
     };
     let control = &config.threads.items[turn.place].1.control;
-    if let Some(interface) = made_by(code, act, control) {
-        made.push(interface)?;
-    }
+    note_made(made, made_by(code, act, control))?;
     let step = Step {
         thread: turn.thread,
         act,
@@ -44,8 +47,20 @@ pub fn share(
     }
 }
 
+// The interfaces go on by that of a mailbox that is made, if one is.
+fn note_made(made: &mut Sequence<u32>, interface: Option<u32>) -> Result<(), AllocError>
+    ensures { OnOk result (made.new ≡ made.old ++ option_list interface) }
+{
+    match interface {
+        Some(interface) => made.push(interface),
+        None => Ok(()),
+    }
+}
+
 // The interface of the mailbox that the act makes, if it makes one.
-fn made_by(code: &Executable, act: Act, control: &Control) -> Option<u32> {
+fn made_by(code: &Executable, act: Act, control: &Control) -> Option<u32>
+    ensures { (frames : List FrameOf) → result ≡ made_by (program_view code.now.program) (act_view act) (Some (thread_of (control_view control.now) frames)) }
+{
     match act {
         Act::New => new_interface(code, control),
         _ => None,

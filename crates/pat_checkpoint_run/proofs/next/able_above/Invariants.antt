@@ -1,0 +1,14 @@
+use Rattle.std.proofs.Common.{◌≡◌, ◌&&◌}
+use Rattle.pat_semantics_spec.specs.Runs.{can_step_thread}
+use Rattle.pat_machine_spec.specs.Turns.{is_above}
+use Rattle.pat_core.specs.Views.{program_view}
+use Rattle.pat_reduce.specs.Views.{config_view}
+use Rattle.pat_checkpoint_spec.specs.Turns.{able_above}
+use Rattle.pat_checkpoint_run.proofs.Nexts.{first_from}
+use Rattle.pat_checkpoint_run.proofs.next.able_above.Given as goal
+
+-- the first from here on is the first
+abbrev pub invariant-loop-place : goal.invariant-loop-place
+invariant-loop-place l =
+    first_from (λ t. is_above l.last t && can_step_thread (program_view l.code.program) (config_view l.config) t) l.threads l.place
+    ≡ able_above (program_view l.code.program) (config_view l.config) l.last
