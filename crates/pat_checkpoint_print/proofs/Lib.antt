@@ -1,2 +1,4 @@
 mod Found
 mod Turned
+mod Integers
+mod Rows
