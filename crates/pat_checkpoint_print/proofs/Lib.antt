@@ -1,4 +1,5 @@
 mod Found
+mod Names
+mod Parts
 mod Turned
-mod Integers
 mod Rows

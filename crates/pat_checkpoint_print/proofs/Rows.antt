@@ -1,15 +1,13 @@
--- One item more of lists that are printed.
-use Rattle.std.proofs.Common.{◌≡◌, ℕ, ◌+◌, ◌<◌, Bool, true, ◌&&◌, List, ◌∷◌, ◌++◌, drop, length, get_or, ap, sym, ◌∙◌, append_assoc}
-use Rattle.std.proofs.lemmas.List.{at_drop_more}
+-- What holds where something was put.
+use Rattle.std.proofs.Common.{◌≡◌, ℕ, List, ◌++◌, ap₂, ◌∙◌, append_assoc}
+use Rattle.std.specs.Prelude.{Result, OnOk}
+use Rattle.std.specs.declared.result.Result.TheVariants.{Ok, Err}
 
--- the item at a place stands before those behind it
-pub row_from : {A : Type 0} (xs : List A) (i : ℕ) (x : A) → i < length xs → x ≡ get_or xs i x → drop i xs ≡ x ∷ drop (i + 1) xs
-row_from xs i x h e = at_drop_more (λ ys. ys) xs i x h ∙ ap (λ y. y ∷ drop (i + 1) xs) (sym e)
+-- what follows from what holds where nothing failed
+pub also : {A E P Q : Type 0} (r : Result A E) → (P → Q) → OnOk r P → OnOk r Q
+also (Ok x) f h = f h
+also (Err e) f h = tt
 
--- what is put makes the text, and the rest is left
-pub text_more : (new old own rest whole : List ℕ) → new ≡ old ++ own → old ++ (own ++ rest) ≡ whole → new ++ rest ≡ whole
-text_more new old own rest whole put is = ap (λ t. t ++ rest) put ∙ append_assoc old own rest ∙ is
-
--- a test that holds of the item is left to the rest
-pub all_more : (own rest whole : Bool) → own ≡ true → (own && rest) ≡ whole → rest ≡ whole
-all_more own rest whole h is = sym (ap (λ b. b && rest) h) ∙ is
+-- one text and then another
+pub joined : (old mid new own rest same : List ℕ) → mid ≡ old ++ own → rest ≡ same → new ≡ mid ++ rest → new ≡ old ++ (own ++ same)
+joined old mid new own rest same put is e = e ∙ ap₂ (λ m t. m ++ t) put is ∙ append_assoc old own same
