@@ -33,7 +33,7 @@ pub fn write(
     requires resolved { (q : Places) × IsResolved (program_view program.now) q }
     requires valid { IsValid (program_view program.now) (derivation_view derivation.now) }
     requires typed { CanBeCertified (program_view program.now) (derivation_view derivation.now) (config_view config) interfaces }
-    requires there { AllByRecursion (λ i. i < length program.now.interfaces) interfaces }
+    requires there { AllByRecursion (λ i. i < length (program_view program.now).interfaces) interfaces }
     requires strings { HasSpelledStrings (config_view config) }
     ensures written { IfOk result (λ text. IsWritten (program_view program.now) (derivation_view derivation.now) (config_view config) interfaces text.items) }
     ensures unshown { IfErr result (IsRefusal (program_view program.now) (derivation_view derivation.now) (config_view config) interfaces) }

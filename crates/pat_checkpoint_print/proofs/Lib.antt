@@ -1,2 +1,5 @@
 mod Found
+mod Names
+mod Parts
 mod Turned
+mod Rows

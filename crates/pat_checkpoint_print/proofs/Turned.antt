@@ -51,10 +51,7 @@ frames_turned frames own certs ends is are same =
     ap₂ (λ fs cs. frames_upwards fs cs)
     (ap (map frame_view) (sym (reverse-reverse frames) ∙ ap reverse is) ∙ map_turned frame_view own)
     (ap (map end_view) (sym (reverse-reverse certs) ∙ ap reverse are) ∙ map_turned end_view ends)
-    ∙ upwards (map frame_view own) (map end_view ends) (length-map end_view ends ∙ same ∙ sym (length-map frame_view own))
-
-pub same_turned : {A B : Type 0} (xs own : List A) (ys ends : List B) → reverse xs ≡ own → reverse ys ≡ ends → length ends ≡ length own → length ys ≡ length xs
-same_turned xs own ys ends is are same = sym (length-reverse ys) ∙ ap length are ∙ same ∙ sym (ap length is) ∙ length-reverse xs
+    ∙ upwards (map frame_view own) (map end_view ends) (length-map ends end_view ∙ same ∙ sym (length-map own frame_view))
 
 all_turned : {A : Type 0} (f : A → Bool) (xs : List A) → list_all f xs ≡ true → list_all f (reverse xs) ≡ true
 all_turned f [] h = refl

@@ -32,9 +32,12 @@ fn name_within(interface: &Interface, tag: u8) -> &[u8]
 fn name_of_tag(program: &Program, interface: u32, tag: u8) -> &[u8]
     ensures { result.now ≡ tag_name (program_view program.now) (Some interface) tag }
 {
-    match program.interfaces.as_slice().get(interface as usize) {
-        Some(own) => name_within(own, tag),
-        None => b"",
+    let interfaces = program.interfaces.as_slice();
+    let place = interface as usize;
+    if place < interfaces.len() {
+        name_within(&interfaces[place], tag)
+    } else {
+        b""
     }
 }
 

@@ -103,7 +103,8 @@ fn put_threads(
     threads: &[(u32, ThreadState)],
     certs: &[PartCerts],
 ) -> Result<(), AllocError>
-    requires { PartsAlign (threads_view threads.now) (map part_certs_view certs.now) }
+    requires count { length certs.now ≡ length threads.now }
+    requires parts { PartsAlign (threads_view threads.now) (map part_certs_view certs.now) }
     ensures text { OnOk result (out.new.items ≡ out.old.items ++ threads_text (thread_lines (threads_view threads.now) (map part_certs_view certs.now))) }
     ensures range { OnOk result (IsTrue (list_all thread_in_range (threads_view threads.now)) × IsTrue (list_all are_certs (map part_certs_view certs.now))) }
 {
