@@ -1,5 +1,5 @@
 -- What parts of an answer allow.
-use Rattle.std.proofs.Common.{◌≡◌, ◌≤◌, ◌+◌, ◌⊎◌, ℕ, Bool, true, false, if◌then◌else◌, List, length, take, Option, Some, None, Result, Ok as Done, Err as Failed, refl, sym, ap, ◌∙◌, subst, inl, inr, ⊎_elim}
+use Rattle.std.proofs.Common.{◌≡◌, ◌≤◌, ◌<◌, ◌+◌, ◌⊎◌, ℕ, Bool, true, false, if◌then◌else◌, List, length, take, drop, Option, Some, None, Result, Ok as Done, Err as Failed, refl, sym, ap, ◌∙◌, subst, inl, inr, ⊎_elim, arith}
 use Rattle.std.specs.Prelude.{◌≢◌, IfOk, IsTrue, map}
 use Rattle.std.proofs.lemmas.List.{length-take-le}
 use Rattle.pat_semantics_spec.specs.Programs.{Program}
@@ -21,7 +21,8 @@ use Rattle.pat_checkpoint_rules.specs.declared.CheckRule.{CheckRule as CodeRule}
 use Rattle.pat_checkpoint_rules.specs.declared.CheckRule.TheVariants.{Numbers}
 use Rattle.pat_checkpoint_laws.specs.Laws.{CheckedIsSafe}
 use Rattle.pat_input.specs.Inputs.{limit, whole_limit}
-use Rattle.pat_input_split.specs.Marked.{IsMarked}
+use Rattle.pat_input_split.specs.Marked.{IsMarked, IsUnmarked}
+use Rattle.pat_input_split.specs.Splits.{OneSplit}
 use Rattle.pat_input_split.specs.program_with_text.MarkedPrograms.{HasProgram, RefusesBytes, RefusesFront, IsMarkedRefusal}
 use Rattle.pat_front.specs.declared.front.FrontError.{FrontError}
 use Rattle.pat_front.specs.declared.front.FrontError.TheVariants as error
@@ -80,6 +81,24 @@ module _ (steps : ℕ) (bytes : List ℕ) where
 -- the program in front isn't too long, so a checkpoint stands behind it
 pub marked_behind : (bytes front text : List ℕ) (p : Program) → AllHaveCheckpoint bytes → HasProgram marker bytes front text p → HasCheckpoint text
 marked_behind bytes front text p all has = let own = has.has in all has.small front text has.marked own.1.tree.small
+
+-- ---- the place of a derivation
+
+module _ (bytes : List ℕ) (at : ℕ) (within : at ≤ length bytes) (marked : IsMarked marker bytes (take at bytes) (drop at bytes)) where
+  pub lacks_at : length bytes ≤ whole_limit → at ≤ limit → IsUnmarked checkpoint_marker (drop at bytes) → LacksCheckpoint bytes (verdict.BadText (length bytes))
+  lacks_at few near none =
+      let front = length-take-le at bytes within in
+      record { small = few; front = take at bytes; text = drop at bytes; marked = marked; few = omega (arith, front, near); unmarked = none; is = refl }
+
+  module _ (split : OneSplit marker bytes) where
+    pub has_at : HasCheckpoint (drop at bytes) → (front text : List ℕ) → IsMarked marker bytes front text → length front ≤ limit → HasCheckpoint text
+    has_at has front text other few = subst HasCheckpoint (split.same (take at bytes) front (drop at bytes) text marked other).1 has
+
+    pub far_at : limit < at → (front text : List ℕ) → IsMarked marker bytes front text → length front ≤ limit → HasCheckpoint text
+    far_at far front text other few =
+        let same = ap length (split.same (take at bytes) front (drop at bytes) text marked other).0 in
+        let long = length-take-le at bytes within in
+        absurd (omega (arith, same, long, far, few))
 
 -- ---- texts
 

@@ -1,5 +1,5 @@
 // An input of a program, a derivation and a checkpoint.
-ghost use Rattle.std.specs.Prelude.{◌<◌, ◌≤◌, ◌+◌, ℕ, List, IfOk, IsTrue, IsFalse, length};
+ghost use Rattle.std.specs.Prelude.{◌<◌, ◌≤◌, ◌+◌, ℕ, List, IfOk, IsTrue, IsFalse, length, take, drop};
 ghost use Rattle.pat_semantics_spec.specs.WellFormed.{WellFormed};
 ghost use Rattle.pat_core.specs.Views.{program_view};
 ghost use Rattle.pat_derivation_text_spec.specs.DerivationText.{marker};
@@ -47,9 +47,24 @@ fn lacks_checkpoint(bytes: &[u8]) -> bool
         return false;
     }
     match place_of_mark(bytes, b"%%derivation") {
-        Some(at) => at <= LIMIT && !has_checkpoint(&bytes[at..]),
+        Some(at) => lacks_behind(bytes, at),
         None => false,
     }
+}
+
+// So where the derivation begins at this offset.
+fn lacks_behind(bytes: &[u8], at: usize) -> bool
+    requires small { length bytes.now ≤ whole_limit }
+    requires within { at ≤ length bytes.now }
+    requires marked { IsMarked marker bytes.now (take at bytes.now) (drop at bytes.now) }
+    ensures lacks { IsTrue result → LacksCheckpoint bytes.now (BadText (length bytes.now)) }
+    ensures has { IsFalse result → (front text : List ℕ) → IsMarked marker bytes.now front text → length front ≤ limit → HasCheckpoint text }
+{
+    split_law();
+    if at > LIMIT {
+        return false;
+    }
+    !has_checkpoint(&bytes[at..])
 }
 
 // Whether a checkpoint stands behind the derivation.
@@ -57,7 +72,10 @@ fn has_checkpoint(text: &[u8]) -> bool
     ensures has { IsTrue result → HasCheckpoint text.now }
     ensures lacks { IsFalse result → IsUnmarked checkpoint_marker text.now }
 {
-    place_of_mark(text, b"%%checkpoint").is_some()
+    match place_of_mark(text, b"%%checkpoint") {
+        Some(_) => true,
+        None => false,
+    }
 }
 
 // A program, and behind it a derivation, whose first byte has this offset, and a checkpoint.
