@@ -1,5 +1,5 @@
 -- A checkpoint that stands typed, whose numbers are in range and whose strings are spelled, is one that a reader takes.
-use Rattle.std.proofs.Common.{◌≡◌, ℕ, zero, suc, ◌<◌, ◌≤◌, Bool, true, false, ◌&&◌, ◌||◌, nat_eq, nat_le, nat_lt, if◌then◌else◌, List, [], ◌∷◌, length, map, Option, Some, None, refl, sym, ap, ◌∙◌, subst, arith, ⊎_elim}
+use Rattle.std.proofs.Common.{◌≡◌, ℕ, zero, suc, ◌<◌, Bool, true, false, ◌&&◌, nat_eq, nat_le, nat_lt, if◌then◌else◌, List, [], ◌∷◌, length, map, Option, Some, None, refl, sym, ap, ◌∙◌, subst, arith, ⊎_elim}
 use Rattle.std.specs.Prelude.{IsTrue, is_some, option_map, option_and_then, slice_get}
 use Rattle.std.specs.List.{AllByRecursion, list_all}
 use Rattle.std.specs.Map.{keys_of}
@@ -16,7 +16,7 @@ use Rattle.pat_texts_spec.specs.Numbers.{is_number}
 use Rattle.pat_checkpoint_spec.specs.Checkpoints.{Checkpoint, IsAligned, interface_at, interfaces_of}
 use Rattle.pat_checkpoint_spec.specs.Numbers.{ascends, control_ascends, thread_ascends, message_lives, value_lives, is_in_order, refers_to_live, numbers_hold}
 use Rattle.pat_checkpoint_spec.specs.Kinds.{part_fits, types_agree, control_fits, is_frame_of_let, frames_fit, thread_fits, kinds_fit}
-use Rattle.pat_checkpoint_spec.specs.Mailboxes.{mailboxes_differ, order_holds, holders_hold, values_fit, fits_declared, message_fits, messages_hold}
+use Rattle.pat_checkpoint_spec.specs.Mailboxes.{mailboxes_differ, order_holds, holders_hold, fits_declared, message_fits, messages_hold}
 use Rattle.pat_checkpoint_spec.specs.Checked.{stands_typed}
 use Rattle.pat_checkpoint_spec.specs.text.ValueText.{is_constant, is_value, is_named}
 use Rattle.pat_checkpoint_spec.specs.text.ValueReading.{ascends_from}

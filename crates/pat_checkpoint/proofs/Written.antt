@@ -1,6 +1,7 @@
 -- The text of a certified checkpoint is read as it.
-use Rattle.std.proofs.Common.{◌≡◌, ℕ, ◌<◌, List, [], length, ◌↔◌, refl, sym, ap, ◌∙◌, subst}
-use Rattle.std.specs.Prelude.{IsTrue, ◌&&◌}
+use Rattle.std.proofs.Common.{◌≡◌, ℕ, ◌<◌, List, length, sym, ap, subst}
+use Rattle.std.specs.Prelude.{◌&&◌, Result, IfOk, IfErr}
+use Rattle.std.specs.declared.result.Result.TheVariants.{Ok, Err}
 use Rattle.std.specs.List.{AllByRecursion}
 use Rattle.std.proofs.lemmas.Bool.{and_parts}
 use Rattle.pat_semantics_spec.specs.Programs.{Program}
@@ -21,7 +22,9 @@ use Rattle.pat_checkpoint_laws.specs.text.Laws.{StringsAreTokens, PlainIsReadabl
 use Rattle.pat_checkpoint_certificates.specs.Certified.{CanBeCertified, IsCertified}
 use Rattle.pat_checkpoint_print.specs.Ranges.{IsInRange}
 use Rattle.pat_checkpoint.specs.Strings.{HasSpelledStrings}
-use Rattle.pat_checkpoint.specs.Writing.{IsWritten}
+use Rattle.pat_checkpoint.specs.declared.error.WriteError.{WriteError}
+use Rattle.pat_checkpoint.specs.declared.error.WriteError.TheVariants.{NoMemory}
+use Rattle.pat_checkpoint.specs.Writing.{IsWritten, IsRefusal}
 use Rattle.pat_checkpoint.proofs.Plain.{plain}
 
 module _ (p : Program) (d : Derivation) (c : Config) (interfaces : List ℕ) (x : Checkpoint) (certified : IsCertified p d c interfaces x) where
@@ -56,3 +59,13 @@ module _ (p : Program) (d : Derivation) (c : Config) (interfaces : List ℕ) (x 
         shown = is;
         read = subst (λ t. ReadsAs p t x) (sym is) (reads p q resolved x (readable p x own));
       }
+
+-- what follows from two things that hold of a result
+pub both : {A E : Type 0} {P Q R : A → Type 0} (r : Result A E) → ((x : A) → P x → Q x → R x) → IfOk r P → IfOk r Q → IfOk r R
+both (Ok x) f h k = f x h k
+both (Err e) f h k = tt
+
+-- want of memory says nothing
+pub nothing_said : {A : Type 0} (p : Program) (d : Derivation) (c : Config) (interfaces : List ℕ) (r : Result A WriteError) → IfErr r (λ e. e ≡ NoMemory) → IfErr r (IsRefusal p d c interfaces)
+nothing_said p d c interfaces (Ok x) h = tt
+nothing_said p d c interfaces (Err e) h = subst (IsRefusal p d c interfaces) (sym h) tt

@@ -1,7 +1,7 @@
 -- Configurations whose strings a program's text can have.
 use Rattle.std.specs.List.{AllByRecursion}
 use Rattle.pat_lexer_spec.specs.Spelled.{IsString}
-use Rattle.pat_semantics_spec.specs.Values.{UnitConst, BoolConst, IntConst, TextConst, Constant, Value, Const, Mailbox, Env}
+use Rattle.pat_semantics_spec.specs.Values.{TextConst, Constant, Value, Const, Mailbox, Env}
 use Rattle.pat_semantics_spec.specs.Configs.{Control, Running, Returned, Thread, Config}
 
 -- where the value is a string, it is one that a token spells

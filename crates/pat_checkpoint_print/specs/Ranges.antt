@@ -1,7 +1,7 @@
 -- Checkpoints whose numbers have 32 bits and whose integers have 64, as a text can have them.
 use Rattle.std.specs.Prelude.{Bool, true, ◌&&◌, ℕ, List, IsTrue}
 use Rattle.std.specs.List.{list_all}
-use Rattle.pat_semantics_spec.specs.Values.{UnitConst, BoolConst, IntConst, TextConst, Constant, Value, Const, Mailbox, Env}
+use Rattle.pat_semantics_spec.specs.Values.{IntConst, Constant, Value, Const, Mailbox, Env}
 use Rattle.pat_semantics_spec.specs.Configs.{Control, Running, Returned, Frame, Thread, Message}
 use Rattle.pat_texts_spec.specs.Numbers.{is_number}
 use Rattle.pat_checkpoint_spec.specs.Checkpoints.{Checkpoint}
