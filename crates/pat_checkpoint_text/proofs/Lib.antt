@@ -1,0 +1,10 @@
+mod Cuts
+mod Exits
+mod Found
+mod Frames
+mod Grown
+mod Lists
+mod Orders
+mod Tags
+mod Unquoting
+mod Unread

@@ -1,1 +1,5 @@
 pub mod Answers
+pub mod Gathered
+pub mod Places
+pub mod Takings
+pub mod Views

@@ -9,7 +9,7 @@ use Rattle.pat_derivation_lines.specs.patterns.Views.{names_of}
 use Rattle.pat_derivation_text_spec.specs.LineReading.{found}
 use Rattle.pat_texts_spec.proofs.Choices.{passed}
 
-names_seen : (ts : List TagDecl) → names_of ts ≡ map (λ t. t.name) (map tag_view ts)
+pub names_seen : (ts : List TagDecl) → names_of ts ≡ map (λ t. t.name) (map tag_view ts)
 names_seen [] = refl
 names_seen (t ∷ ts) = ap (λ l. t.name ∷ l) (names_seen ts)
 

@@ -115,7 +115,7 @@ fn read_cover(alloc: Global, text: &[u8]) -> Result<Cert, Unread>
 }
 
 /// A certificate.
-fn read_cert(alloc: Global, text: &[u8]) -> Result<Cert, Unread>
+pub fn read_cert(alloc: Global, text: &[u8]) -> Result<Cert, Unread>
     ensures { Gives cert_view (reading.read_cert text.now) result }
 {
     match behind(text, b"c(") {

@@ -5,6 +5,6 @@ mod certificates;
 mod patterns;
 mod types;
 
-pub use certificates::{number_of, read_certs, read_numbers};
-pub use patterns::{Unread, read_pattern};
+pub use certificates::{number_of, read_cert, read_certs, read_numbers};
+pub use patterns::{Unread, place_of, read_pattern};
 pub use types::{Mailbox, find_interface, read_needs, read_type};

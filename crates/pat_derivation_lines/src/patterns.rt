@@ -8,3 +8,4 @@ mod words;
 
 pub use reading::read_pattern;
 pub use unread::Unread;
+pub use words::place_of;

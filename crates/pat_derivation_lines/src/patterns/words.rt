@@ -31,7 +31,7 @@ pub fn split_word(text: &[u8]) -> (&[u8], &[u8])
 }
 
 /// The place of the tag with this name.
-fn place_of(tags: &[TagDecl], name: &[u8]) -> Option<usize>
+pub fn place_of(tags: &[TagDecl], name: &[u8]) -> Option<usize>
     ensures { result ≡ reading.place_of name.now (names_of tags.now) }
 {
     for (i, tag) in tags.iter().enumerate() {
