@@ -40,16 +40,16 @@ held_at g [] i x a d h = cc
 held_at g (e ∷ es) zero x a d h =
     let same : e ≡ (x, Mailbox a) = cc in
     subst (λ (d : ℕ × Value). held g a (d ∷ es) ≡ g x) (sym same) (ap (λ b. if b then g x else held g a es) (eq-eqb a a refl))
-held_at g (e ∷ es) (suc i) x a d h = go e.1 d
+held_at g (e ∷ es) (suc i) x a d h = go e.1 d (λ r. held_at g es i x a r h)
   where
-    go : (v : Value) → all_differ (mailboxes_of (v ∷ values_of es)) ≡ true → (if is_mailbox a v then g e.0 else held g a es) ≡ g x
-    go (Const k) d = held_at g es i x a d h
-    go (Mailbox b) d =
+    go : (v : Value) → all_differ (mailboxes_of (v ∷ values_of es)) ≡ true → (all_differ (mailboxes_of (values_of es)) ≡ true → held g a es ≡ g x) → (if is_mailbox a v then g e.0 else held g a es) ≡ g x
+    go (Const k) d rest = rest d
+    go (Mailbox b) d rest =
         let both = and_parts (not (is_among b (mailboxes_of (values_of es)))) (all_differ (mailboxes_of (values_of es))) d in
         (elim (nat_eq a b) as (λ t. nat_eq a b ≡ t → (if t then g e.0 else held g a es) ≡ g x) [
           | true ↦ λ is.
               let on = ap (λ k. is_among k (mailboxes_of (values_of es))) (sym (eqb-true a b is)) ∙ stands_there es i x a h in
               let off : false ≡ true = ap not (sym on) ∙ both.0 in
               absurd cc
-          | false ↦ λ is. held_at g es i x a both.1 h
+          | false ↦ λ is. rest both.1
         ]) refl

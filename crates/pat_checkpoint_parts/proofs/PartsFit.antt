@@ -50,7 +50,7 @@ or_asked true b h = h refl
 or_asked false b h = refl
 
 module _ (p : Program) (well : StandsWell p) (interfaces : ℕ → ℕ) (lists : List (List ℕ)) (free : AreFree p lists) (n : ℕ) (g : Function) (function_is : function_of p n ≡ Some g) (but : Option ℕ) (env : Env) (up : ascends 0 (keys_of env) ≡ true) where
-  abbrev asked : List ℕ
+  abbrev pub asked : List ℕ
   asked = all_but but (numbers_at lists n)
 
   core_is : is_some (core_at p n) ≡ true
@@ -65,13 +65,13 @@ module _ (p : Program) (well : StandsWell p) (interfaces : ℕ → ℕ) (lists :
   asked_below : (x : ℕ) → is_asked p n (option_list but) x ≡ true → x < var_count p n
   asked_below x h = well.below x n (and_parts (is_free p x n) (not (is_among x (option_list but))) h).0
 
-  ranges : Bool
+  abbrev pub ranges : Bool
   ranges = list_all (λ x. not (is_asked p n (option_list but) x) || is_some (value_at env x)) (range_with_len 0 (var_count p n))
 
-  kinds : Bool
+  abbrev pub kinds : Bool
   kinds = list_all (λ e. value_fits_some interfaces e.1 (slice_get g.vars e.0)) env
 
-  entries : Bool
+  abbrev pub entries : Bool
   entries = list_all (entry_fits p interfaces n (option_list but)) env
 
   forward : (ranges && entries) ≡ true → (are_same asked (keys_of env) && kinds) ≡ true
@@ -83,7 +83,7 @@ module _ (p : Program) (well : StandsWell p) (interfaces : ℕ → ℕ) (lists :
       (λ i.
       let a = sym (asked_is x) ∙ i in
       sym (some_key env x) ∙ asked_or (is_asked p n (option_list but) x) (is_some (value_at env x)) a
-      (in_all (λ x. not (is_asked p n (option_list but) x) || is_some (value_at env x)) (range_with_len 0 (var_count p n)) x both.0 (in_range 0 (var_count p n) x (omega arith) (asked_below x a))))
+      (in_all (λ x. not (is_asked p n (option_list but) x) || is_some (value_at env x)) (range_with_len 0 (var_count p n)) x both.0 (let less = asked_below x a in in_range 0 (var_count p n) x (omega arith) (omega arith))))
       (λ i.
       let e = entry_of env x i in
       let fits = in_all (entry_fits p interfaces n (option_list but)) env e.0 both.1 e.1 in

@@ -75,18 +75,23 @@ impl<'a> Parts<'a> {
         }
     }
 
+    /// Whether the value has the kind, if there is one.
+    fn fits_some(&self, value: &Value, kind: Option<&Kind>) -> bool
+        ensures { result ≡ value_fits_some (interfaces_in self.now) (value_view value.now) (option_map kind_view (option_copied kind.entry)) }
+    {
+        match kind {
+            None => false,
+            Some(kind) => self.value_fits(value, *kind),
+        }
+    }
+
     /// Whether each value has the kind of its variable.
     fn values_fit(&self, kinds: &[Kind], env: &[(u32, Value)]) -> bool
         ensures { result ≡ list_all (λ e. value_fits_some (interfaces_in self.now) e.1 (option_map kind_view (slice_get kinds.now e.0))) (env_view env.now) }
     {
         for (variable, value) in env {
-            match kinds.get(*variable as usize) {
-                None => return false,
-                Some(kind) => {
-                    if !self.value_fits(value, *kind) {
-                        return false;
-                    }
-                }
+            if !self.fits_some(value, kinds.get(*variable as usize)) {
+                return false;
             }
         }
         true
