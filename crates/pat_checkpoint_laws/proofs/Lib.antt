@@ -1,7 +1,7 @@
 -- what the tests of a checkpoint say
-pub mod Lists
+mod Lists
 mod NumberTests
-pub mod FreeBelow
+mod FreeBelow
 mod PartTests
 mod TypeTests
 mod Put
@@ -10,10 +10,10 @@ mod Chosen
 mod ThreadTests
 mod MessageTests
 mod CheckedTyped
-pub mod ValidParts
+mod ValidParts
 mod Singles
 mod Gathers
-pub mod Lets
+mod Lets
 mod Formed
 mod LineCerts
 mod Showable

@@ -1,5 +1,4 @@
 mod Halved
 mod Changed
 mod News
--- for the crates above
-pub mod Reversed
+mod Reversed

@@ -1,9 +1,0 @@
-mod SameNumbers
-mod Keeps
-mod Chosen
-mod LetTable
-mod FreeLists
-mod PartsFit
-mod Standings
-mod Wanting
-mod Unequal

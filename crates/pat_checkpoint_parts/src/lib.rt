@@ -1,15 +1,8 @@
 //! The rules of a checkpoint on one part of a thread after another: their kinds, and their order.
 #![tactic(auto)]
 
-mod fitting;
-mod free;
 mod kinds;
-mod lets;
-mod lookups;
 mod order;
-mod parts;
-mod showing;
-mod typing;
 
 pub use kinds::kinds_hold;
 pub use order::order_holds;
