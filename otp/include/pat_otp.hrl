@@ -20,5 +20,7 @@
 %% As many local steps make an entry of their own.
 -define(PORTION, 256).
 
-%% The first thread's number: it runs at place 1.
--define(MAIN, 1).
+%% Numbers of all threads but the first are as high (pat_place).
+-define(SECOND, 1 bsl (2 * ?PLACE_BITS)).
+%% No thread has this number: as the sender of messages that were sent in another epoch. Their numbers are those of the history.
+-define(SENT_BEFORE, 0).

@@ -9,58 +9,23 @@ import { tmpdir } from 'node:os';
 import { dirname, join, resolve } from 'node:path';
 import { fileURLToPath } from 'node:url';
 import { parse, Source } from '../../companion/parse.js';
-import { translate } from './translate.js';
+import { Front } from './front.js';
+import { USAGE, options } from './options.js';
+import { Translation } from './translate.js';
 import { Nodes, areLoopback, hostNodes, localNodes } from './nodes.js';
 import { certificates } from './tls.js';
 
 const HERE = dirname(fileURLToPath(import.meta.url)), OTP = dirname(HERE), ROOT = dirname(OTP);
-const USAGE = `usage: pat-otp [--nodes N | --hosts FILE] [--steps N] [--messages N] [--out HISTORY] FILE
-  --nodes N      so many nodes on this machine, from 1 to 63; else 1
-  --hosts FILE   a node for each line HOST PORT [COMMAND] (docs/OTP.md)
-  --steps N      the run ends after so many steps; else 1,000,000
-  --messages N   so many messages may be pending, from 1 to 1,000,000; else 1,000,000
-  --out HISTORY  where the run's text goes, as \`pat run\` writes it
-  --spread all   each new thread goes to the next node, and not the first thread's alone
-  --schedulers N for each node on this machine; else its processors are divided among the nodes
-  --times        says how long it took, and how much of a processor each node
-  --tls, --no-tls  whether the nodes talk through TLS; else where a host is beyond loopback
-PAT names the program pat, else it is the one of this checkout.
-`;
-const MOST_NODES = 63, MOST_MESSAGES = 1_000_000, MOST_STEPS = 2 ** 32 - 1;
 /** Standard output is for lines of the program alone. */
 const LOGGER = '{kernel, [{logger, [{handler, default, logger_std_h, #{config => #{type => standard_error}}}]}]}';
+/** The module that the nodes run, below their folder. */
+const PROGRAM = 'program.erl';
 /** What \`pat replay\` takes: program and history together. */
 const MOST_BYTES = 67_108_864;
 const STATUS = { done: 0, refused: 1, usage: 2, unread: 3, unwritten: 4, machine: 5, budget: 6, waiting: 7, full: 8, lost: 10 };
 
 class Problem extends Error { constructor(status, message) { super(message); this.status = status; } }
 const say = text => process.stderr.write(`pat-otp: ${text}\n`);
-
-function options(words) {
-  const given = { nodes: 1, steps: 1_000_000, messages: MOST_MESSAGES, spread: 'main' }, files = [];
-  const number = (word, least, most) => {
-    if (!/^\d{1,10}$/.test(word ?? '') || Number(word) < least || Number(word) > most) throw new Problem(STATUS.usage, USAGE);
-    return Number(word);
-  };
-  const text = word => { if (word === undefined) throw new Problem(STATUS.usage, USAGE); return word; };
-  const known = {
-    '--nodes': word => { given.nodes = number(word, 1, MOST_NODES); },
-    '--steps': word => { given.steps = number(word, 0, MOST_STEPS); },
-    '--messages': word => { given.messages = number(word, 1, MOST_MESSAGES); },
-    '--schedulers': word => { given.schedulers = number(word, 1, 1024); },
-    '--hosts': word => { given.hosts = text(word); },
-    '--out': word => { given.out = text(word); },
-    '--spread': word => { if (word !== 'all' && word !== 'main') throw new Problem(STATUS.usage, USAGE); given.spread = word; },
-  };
-  for (let at = 0; at < words.length; at++) {
-    if (Object.hasOwn(known, words[at])) known[words[at]](words[++at]);
-    else if (words[at] === '--times') given.times = true;
-    else if (words[at] === '--tls' || words[at] === '--no-tls') given.tls = words[at] === '--tls';
-    else files.push(words[at]);
-  }
-  if (files.length !== 1 || files[0].startsWith('--')) throw new Problem(STATUS.usage, USAGE);
-  return { ...given, file: files[0] };
-}
 
 const patProgram = () => process.env.PAT ?? join(ROOT, 'pat');
 function pat(words, input) {
@@ -89,10 +54,10 @@ function runtime() {
 }
 
 /** The program and the nodes' words, in a folder that this user alone may read. */
-function prepare(folder, source, { nodes, steps, messages, spread }) {
+function prepare(folder, source, program, { nodes, steps, messages, spread }) {
   writeFileSync(join(folder, '.erlang.cookie'), randomBytes(24).toString('hex'));
   chmodSync(join(folder, '.erlang.cookie'), 0o400);
-  writeFileSync(join(folder, 'program.erl'), translate(parse(source), 'program'));
+  writeFileSync(join(folder, PROGRAM), new Translation(program).module('program'));
   const names = nodes.slice(1).map(({ name }) => `'${name}'`).join(', ');
   const bytes = MOST_BYTES - source.bytes.length - '\n%%history\n'.length;
   const words = `{role, head}, {nodes, [${names}]}, {folder, "."}, {program, "program"}, {steps, ${steps}}, {messages, ${messages}}, `
@@ -101,10 +66,26 @@ function prepare(folder, source, { nodes, steps, messages, spread }) {
   writeFileSync(join(folder, 'node.config'), `[{pat_otp, [{role, node}]}, ${LOGGER}].\n`);
 }
 
+/** Tells the head, where a node was lost, where the history leads by now; says `unknown` where that goes wrong. */
+function goOnFrom(front, folder, loss) {
+  say(`${loss}: the run goes on without what isn't in its history by now`);
+  try {
+    front.goOn(join(folder, 'history'));
+    const { text, bytes } = front.written('program');
+    writeFileSync(join(folder, PROGRAM), text);
+    writeFileSync(join(folder, 'configuration'), bytes);
+    return 'known';
+  } catch (problem) {
+    say(`it isn't known where the history leads: ${problem.message}`);
+    return 'unknown';
+  }
+}
+
 /** What the nodes made of it: how they say that it ended, the history and the lines that were shown. */
-async function runOn(nodes, folder) {
-  const shown = [];
+async function runOn(nodes, folder, program) {
+  const shown = [], front = new Front(program);
   nodes.start();
+  nodes.whenAsked(loss => goOnFrom(front, folder, loss));
   nodes.head.stdout.on('data', piece => { shown.push(piece); process.stdout.write(piece); });
   await nodes.ended();
   await nodes.stop();
@@ -136,12 +117,13 @@ function conclude({ ending, shown }, judged) {
   if (ending === 'long')
     return { line: judged.outcome, status: STATUS.budget, note: 'the history is as long as `pat replay` takes it: the run ends here' };
   if (ending.startsWith('lost'))
-    return { line: judged.outcome, status: STATUS.lost, note: `a node was lost (${ending}): this is how far the history leads` };
+    return { line: judged.outcome, status: STATUS.lost, note: `no node is left to go on (${ending}): this is how far the history leads` };
   return refuse(`the nodes say that the run ended (${ending}), and its history is open`);
 }
 
 async function main(words) {
   const given = options(words);
+  if (!given) throw new Problem(STATUS.usage, USAGE);
   const source = new Source(read(given.file));
   const checked = pat(['check'], source.bytes);
   if (checked.status !== 0) { process.stdout.write(checked.text); return checked.status; }
@@ -151,9 +133,10 @@ async function main(words) {
   const all = new Nodes({ nodes, folder, runtime: runtime(), schedulers: given.schedulers, tls });
   process.on('exit', () => { all.kill(); rmSync(folder, { recursive: true, force: true }); });
   for (const signal of ['SIGINT', 'SIGTERM', 'SIGHUP']) process.on(signal, () => process.exit(130));
-  prepare(folder, source, { ...given, nodes });
+  const program = parse(source);
+  prepare(folder, source, program, { ...given, nodes });
   if (tls) certificates(folder, nodes);
-  return finish(await runOn(all, folder), source, given);
+  return finish(await runOn(all, folder, program), source, given);
 }
 function finish(run, source, given) {
   if (/^(absent|failed)/.test(run.ending)) throw new Problem(STATUS.machine, run.ending);

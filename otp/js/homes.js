@@ -43,11 +43,12 @@ export class Homes {
   isHere(binder) { return !this.leaves.has(binder); }
 
   /** A mailbox of which the thread that is spawned will alone receive; or undefined. */
-  adopted(spawn, free) {
-    return free.find(binder => {
-      const inside = this.names.usesOf(binder).filter(use => isReceiving(use) && isWithin(use.term, spawn));
-      return inside.length > 0 && inside.every(use => this.keeps(use, spawn));
-    });
+  adopted(spawn, free) { return free.find(binder => this.isReceivedIn(spawn.body, binder)); }
+
+  /** Whether the thread that is at a term receives there from what is free in it, and nobody else ever will. */
+  isReceivedIn(term, binder) {
+    const home = threadOf(term.up), inside = this.names.usesOf(binder).filter(use => isReceiving(use) && isWithin(use.term, term));
+    return inside.length > 0 && inside.every(use => this.keeps(use, home));
   }
 }
 

@@ -1,6 +1,7 @@
 // The nodes of a run: which there are, with what words each is started, and that none is left behind.
 import { spawn } from 'node:child_process';
 import { createServer } from 'node:net';
+import { createInterface } from 'node:readline';
 import { cpus } from 'node:os';
 import { existsSync, readFileSync, writeFileSync } from 'node:fs';
 
@@ -88,7 +89,7 @@ export class Nodes {
   hasBegun() { return existsSync(`${this.folder}/history`); }
   words(one, folder) { return words(one, folder, { nodes: this.nodes, ...this.how }); }
   here(one) {
-    // (the fourth is never written to: its end tells the head that this process is gone)
+    // (over the fourth the head asks, and its end tells the head that this process is gone)
     const stdio = one.place === 0 ? ['ignore', 'pipe', 'inherit', 'pipe'] : ['ignore', 'ignore', 'inherit'];
     const env = { ...process.env, HOME: this.folder, ERL_CRASH_DUMP_BYTES: '0' };
     return spawn('erl', ['-pa', this.runtime, ...this.words(one, this.folder)], { cwd: this.folder, env, stdio });
@@ -100,6 +101,13 @@ export class Nodes {
       + `HOME=$d ERL_CRASH_DUMP_BYTES=0 erl -pa ebin ${quoted} </dev/null`;
     const script = `tar cf - -C "$1" .erlang.cookie node.config ${files} -C "$2/.." ebin | ${one.command} "$0"`;
     return spawn('sh', ['-c', script, there, this.folder, this.runtime], { stdio: ['ignore', 'ignore', 'inherit'], detached: true });
+  }
+
+  /** Answers each line of the head's by a line. */
+  whenAsked(answer) {
+    const [,,, connection] = this.head.stdio;
+    connection.on('error', () => { /* the head is gone, which is seen otherwise */ });
+    createInterface({ input: connection }).on('line', line => connection.write(`${answer(line)}\n`));
   }
 
   /** The head's end, after which the others end by themselves; those that don't are killed. */

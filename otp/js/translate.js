@@ -4,11 +4,11 @@
 //   body, one for a call, one for an if);
 // - how many names of each mailbox its control and frames have: where one more comes up (`dup`), and where one goes, in a local
 //   step (`drop`) or as part of a shared act (`drop_now`).
+// A thread may also begin in its middle: for its control and each of its frames there is a function then, which takes the values of
+// what is free there.
 import { resolve, isMailbox } from '../../companion/names.js';
 import { Free } from './free.js';
 import { Homes } from './homes.js';
-
-export function translate(program, module) { return new Translation(program).module(module); }
 
 const variable = binder => `V${binder.id}`;
 const given = (binder, after) => `{${variable(binder)}, ${after.has(binder) ? 'stays' : 'goes'}}`;
@@ -28,7 +28,7 @@ class Body {
   ending(value) { this.flush(); return [...this.statements, value].join(',\n'); }
 }
 
-class Translation {
+export class Translation {
   constructor(program) {
     this.program = program;
     this.names = resolve(program);
@@ -38,17 +38,31 @@ class Translation {
     this.homes = new Homes(this.names);
     this.functions = new Map([...program.functions.keys()].map((name, number) => [name, `f${number}`]));
     this.spawned = [];
+    this.points = { control: new Map(), frame: new Map() };
     this.temporaries = 0;
+  }
+
+  /** The function that goes on at a term, and the binders whose values it takes. */
+  control(term) { return this.point(this.points.control, term, 'c', this.free.of(term)); }
+  /** The same behind what a `let` binds; it takes the value first. */
+  frame(one) { return this.point(this.points.frame, one, 'k', [...this.free.of(one.body)].filter(binder => binder !== one.binder)); }
+  point(points, term, letter, free) {
+    if (!points.has(term)) points.set(term, { name: `${letter}${points.size}`, binders: [...free] });
+    return points.get(term);
   }
 
   module(name) {
     const functions = [...this.program.functions.values()].map(def => this.definition(def));
     const main = this.entry('main', [], this.program.functions.get('main').body);
+    const controls = [...this.points.control].map(([term, { name: point, binders }]) => this.entry(point, binders, term));
+    const frames = [...this.points.frame].map(([one, { name: point, binders }]) => this.behind(point, one, binders));
     const threads = [];
     for (let at = 0; at < this.spawned.length; at++) threads.push(this.entry(`s${at}`, ...this.spawned[at]));
-    const exported = ['main/0', ...this.spawned.map(([binders], at) => `s${at}/${binders.length}`)];
+    const exported = ['main/0', ...this.spawned.map(([binders], at) => `s${at}/${binders.length}`),
+      ...[...this.points.control.values()].map(({ name: point, binders }) => `${point}/${binders.length}`),
+      ...[...this.points.frame.values()].map(({ name: point, binders }) => `${point}/${binders.length + 1}`)];
     return [`-module('${name}').`, `-export([${exported.join(', ')}]).`, '-compile([nowarn_unused_vars, nowarn_unused_function]).',
-      ...functions, main, ...threads, ''].join('\n\n');
+      ...functions, main, ...controls, ...frames, ...threads, ''].join('\n\n');
   }
   /** The step of the call is taken inside. */
   definition(def) {
@@ -58,6 +72,13 @@ class Translation {
   }
   entry(name, binders, term) {
     return `${name}(${binders.map(variable).join(', ')}) ->\n${this.ending(term, new Body(0, false), true)}.`;
+  }
+  /** The step back to the body is taken inside. */
+  behind(name, { bound, binder, body: rest }, binders) {
+    const body = new Body(1, false), isUsed = binder && this.free.of(rest).has(binder);
+    if (!isUsed && isMailbox(bound.kind)) body.drop('Value');
+    const parameters = [isUsed ? variable(binder) : 'Value', ...binders.map(variable)];
+    return `${name}(${parameters.join(', ')}) ->\n${this.ending(rest, body, true)}.`;
   }
   ending(term, body, isLast) { const value = this.term(term, body, isLast); return body.ending(value); }
   temporary(body, code) { const name = `T${this.temporaries++}`; body.add(`${name} = ${code}`); return name; }

@@ -1,12 +1,15 @@
-%% The numbers that all processes of a node share, in one array of atomics, and what a node knows of the run.
+%% The numbers that all processes of a node share, in one array of atomics, and what a node knows of the run. Both are made anew
+%% for each epoch: a run begins with the first, and whenever a node is lost another one begins, on those that are left.
 -module(pat_cells).
--export([make/0, all/0, counts/0, set_run/1, run/0]).
--export_type([counts/0, run/0]).
+-export([make/0, all/0, counts/0, set_run/1, run/0, epoch/0]).
+-export_type([counts/0, run/0, epoch/0]).
 -include("pat_otp.hrl").
 
 -type counts() :: {Posted :: non_neg_integer(), Taken :: non_neg_integer(), Active :: integer()}.
--type run() :: #{place := non_neg_integer(), nodes := tuple(), places := #{node() => pos_integer()}, head := node(),
-                 spread := main | all}.
+-type epoch() :: pos_integer().
+%% `nodes` are those with which the run began, and `left` the places of those that haven't been lost.
+-type run() :: #{epoch := epoch(), place := non_neg_integer(), nodes := tuple(), places := #{node() => pos_integer()},
+                 left := tuple(), head := node(), spread := main | all}.
 
 -spec make() -> ok.
 make() -> persistent_term:put(?MODULE, atomics:new(?CELLS, [{signed, true}])).
@@ -26,3 +29,6 @@ set_run(Run) -> persistent_term:put({?MODULE, run}, Run).
 
 -spec run() -> run().
 run() -> persistent_term:get({?MODULE, run}).
+
+-spec epoch() -> epoch().
+epoch() -> #{epoch := Epoch} = run(), Epoch.

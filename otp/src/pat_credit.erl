@@ -8,13 +8,13 @@
 %% So many are asked for at once.
 -define(CHUNK, 8192).
 
--record(state, {threads = queue:new() :: queue:queue(pid()), asked = false :: boolean()}).
+-record(state, {epoch :: pat_cells:epoch(), threads = queue:new() :: queue:queue(pid()), asked = false :: boolean()}).
 
 -spec start_link() -> {ok, pid()} | ignore | {error, term()}.
 start_link() -> gen_server:start_link({local, ?MODULE}, ?MODULE, [], []).
 
 -spec init([]) -> {ok, #state{}}.
-init([]) -> {ok, #state{}}.
+init([]) -> {ok, #state{epoch = pat_cells:epoch()}}.
 
 -spec handle_call(term(), gen_server:from(), #state{}) -> {reply, ok, #state{}}.
 handle_call(_, _, State) -> {reply, ok, State}.
@@ -22,19 +22,21 @@ handle_call(_, _, State) -> {reply, ok, State}.
 -spec handle_cast(term(), #state{}) -> {noreply, #state{}}.
 handle_cast(_, State) -> {noreply, State}.
 
--spec handle_info({want, pid()} | {grant, pos_integer()} | claim, #state{}) -> {noreply, #state{}}.
+-spec handle_info({want, pid()} | {grant, pat_cells:epoch(), pos_integer()} | {claim, pat_cells:epoch()}, #state{}) ->
+          {noreply, #state{}}.
+handle_info(Message, #state{epoch = Epoch} = State) when element(1, Message) =/= want, element(2, Message) =/= Epoch ->
+    {noreply, State};
 handle_info(Message, State) ->
     Next = take(Message, State),
     atomics:add(pat_cells:all(), ?TAKEN, 1),
     {noreply, Next}.
 
 take({want, Thread}, #state{threads = Threads} = State) -> serve(State#state{threads = queue:in(Thread, Threads)});
-take({grant, Count}, State) ->
+take({grant, _, Count}, State) ->
     atomics:add(pat_cells:all(), ?CREDIT, Count),
     serve(State#state{asked = false});
-take(claim, State) ->
-    #{head := Head} = pat_cells:run(),
-    post({pat_limit, Head}, {returned, atomics:exchange(pat_cells:all(), ?CREDIT, 0)}),
+take({claim, Epoch}, State) ->
+    post_head({returned, Epoch, node(), atomics:exchange(pat_cells:all(), ?CREDIT, 0)}),
     State.
 
 serve(#state{threads = Threads} = State) ->
@@ -49,10 +51,13 @@ serve(#state{threads = Threads} = State) ->
     end.
 
 ask(#state{asked = true} = State) -> State;
-ask(State) ->
-    #{head := Head} = pat_cells:run(),
-    post({pat_limit, Head}, {ask, node(), ?CHUNK}),
+ask(#state{epoch = Epoch} = State) ->
+    post_head({ask, Epoch, node(), ?CHUNK}),
     State#state{asked = true}.
+
+post_head(Message) ->
+    #{head := Head} = pat_cells:run(),
+    post({pat_limit, Head}, Message).
 
 post(To, Message) ->
     atomics:add(pat_cells:all(), ?POSTED, 1),

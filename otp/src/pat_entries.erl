@@ -5,7 +5,7 @@
 %% when all entries of a turn have come. Kept in the process dictionary: `clock`, `steps` (local ones since the last entry),
 %% `thread`, `turn` (or none) and `entries` (newest first; with a turn there is one at least).
 -module(pat_entries).
--export([begin_thread/2, spend/1, note/3, close/0, clock/0]).
+-export([begin_thread/2, spend/1, note/3, note_steps/0, close/0, clock/0]).
 -export_type([stamp/0, thread/0, act/0, entry/0]).
 -include("pat_otp.hrl").
 
@@ -43,6 +43,14 @@ note(After, Steps, Act) ->
     case put(steps, 0) + Steps of
         All when All < ?PORTION -> entry(After, All, Act);
         All -> entry(After, portions(All), Act)
+    end.
+
+%% Those that were counted, where there are any.
+-spec note_steps() -> ok.
+note_steps() ->
+    case get(steps) of
+        0 -> ok;
+        _ -> _ = note(0, 0, none), ok
     end.
 
 entry(After, Steps, Act) ->

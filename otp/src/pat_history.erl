@@ -1,9 +1,10 @@
 %% The history: numbers threads and messages in the order of the final entries, writes an entry a line, and then shows the lines
-%% that these entries print. So nothing is shown that the history doesn't have, whatever is lost afterwards. It ends where the
-%% budget of steps is spent, or the next line would make it longer than it may be.
+%% that these entries print. So nothing is shown that the history doesn't have, whatever is lost afterwards: it stays where an epoch
+%% ends, and the next one goes on behind it. It ends where the budget of steps is spent, or the next line would make it longer than
+%% it may be.
 -module(pat_history).
 -behaviour(gen_server).
--export([start_link/0, begin_run/1, write/2, finish/0]).
+-export([start_link/0, begin_run/1, begin_epoch/3, write/2, finish/0, has_ended/0, places/0]).
 -export([init/1, handle_call/3, handle_cast/2]).
 -export_type([limits/0]).
 -include("pat_otp.hrl").
@@ -11,11 +12,11 @@
 %% No line of a history is longer.
 -define(LONGEST, 64).
 
--type limits() :: #{file := file:filename(), steps := non_neg_integer(), bytes := non_neg_integer(), nodes := [node()]}.
+-type limits() :: #{file := file:filename(), steps := non_neg_integer(), bytes := non_neg_integer()}.
 
 -record(state, {file :: undefined | file:io_device(), nodes = [] :: [node()], steps = 0 :: integer(), bytes = 0 :: integer(),
                 ended = false :: boolean(),
-                threads = #{} :: #{pat_entries:thread() => Front :: binary()},
+                threads = #{} :: #{pat_entries:thread() => {Number :: non_neg_integer(), Front :: binary()}},
                 named = 1 :: pos_integer(), messages = #{} :: #{{pat_entries:thread(), non_neg_integer()} => non_neg_integer()},
                 sends = #{} :: #{pat_entries:thread() => non_neg_integer()}, sent = 0 :: non_neg_integer(),
                 received = 0 :: non_neg_integer(), lines = [] :: iolist(), shown = [] :: iolist()}).
@@ -26,6 +27,10 @@ start_link() -> gen_server:start_link({local, ?MODULE}, ?MODULE, [], [{spawn_opt
 -spec begin_run(limits()) -> ok.
 begin_run(Limits) -> gen_server:call(?MODULE, {begin_run, Limits}).
 
+%% Of the history's threads these are left, with the numbers that they have on the nodes; and these of its messages are pending.
+-spec begin_epoch([node()], [{pat_entries:thread(), non_neg_integer()}], [non_neg_integer()]) -> ok.
+begin_epoch(Nodes, Threads, Messages) -> gen_server:call(?MODULE, {begin_epoch, Nodes, Threads, Messages}, infinity).
+
 %% These are the entries up to the stamp that weren't written before.
 -spec write(pat_entries:stamp(), [pat_entries:entry()]) -> ok.
 write(Stamp, Entries) -> gen_server:cast(?MODULE, {write, Stamp, Entries}).
@@ -34,16 +39,31 @@ write(Stamp, Entries) -> gen_server:cast(?MODULE, {write, Stamp, Entries}).
 -spec finish() -> ok.
 finish() -> gen_server:call(?MODULE, finish, infinity).
 
+-spec has_ended() -> boolean().
+has_ended() -> gen_server:call(?MODULE, has_ended, infinity).
+
+%% Where the threads that are left run.
+-spec places() -> #{non_neg_integer() => pat_place:place()}.
+places() -> gen_server:call(?MODULE, places, infinity).
+
 -spec init([]) -> {ok, #state{}}.
 init([]) -> {ok, #state{}}.
 
--spec handle_call({begin_run, limits()} | finish, gen_server:from(), #state{}) -> {reply, ok, #state{}}.
-handle_call({begin_run, #{file := Name, steps := Steps, bytes := Bytes, nodes := Nodes}}, _, _) ->
+-spec handle_call({begin_run, limits()} | {begin_epoch, [node()], list(), list()} | finish | has_ended | places,
+                  gen_server:from(), #state{}) -> {reply, term(), #state{}}.
+handle_call({begin_run, #{file := Name, steps := Steps, bytes := Bytes}}, _, _) ->
     {ok, File} = file:open(Name, [write, raw, binary]),
     % Lines are bytes, and go out as they are.
     ok = io:setopts(user, [{encoding, latin1}]),
-    {reply, ok, introduce(?MAIN, 0, #state{file = File, nodes = Nodes, steps = Steps, bytes = Bytes})};
-handle_call(finish, _, State) -> {reply, ok, State}.
+    {reply, ok, #state{file = File, steps = Steps, bytes = Bytes}};
+handle_call({begin_epoch, Nodes, Threads, Messages}, _, State) ->
+    Pending = maps:from_list([{{?SENT_BEFORE, Message}, Message} || Message <- Messages]),
+    Empty = State#state{nodes = Nodes, threads = #{}, messages = Pending, sends = #{}},
+    {reply, ok, lists:foldl(fun({Thread, Number}, Next) -> introduce(Thread, Number, Next) end, Empty, Threads)};
+handle_call(finish, _, State) -> {reply, ok, State};
+handle_call(has_ended, _, #state{ended = Ended} = State) -> {reply, Ended, State};
+handle_call(places, _, #state{threads = Threads} = State) ->
+    {reply, maps:from_list([{Number, pat_place:of_thread(Thread)} || {Thread, {Number, _}} <- maps:to_list(Threads)]), State}.
 
 -spec handle_cast({write, pat_entries:stamp(), [pat_entries:entry()]}, #state{}) -> {noreply, #state{}}.
 handle_cast(_, #state{ended = true} = State) -> {noreply, State};
@@ -73,7 +93,7 @@ entry(_, #state{ended = true} = State) -> State;
 entry(_, #state{bytes = Bytes} = State) when Bytes < ?LONGEST -> ended(long, State);
 entry({_, Thread, Steps, Act}, #state{steps = Left, threads = Threads} = State) ->
     case Threads of
-        #{Thread := Front} ->
+        #{Thread := {_, Front}} ->
             case Steps + shared(Act) of
                 Taken when Taken =< Left -> whole(Front, Steps, Act, Thread, State#state{steps = Left - Taken});
                 _ -> ended(budget, last(Front, min(Steps, Left), State))
@@ -122,4 +142,4 @@ act('end', Thread, #state{threads = Threads, sends = Sends} = State) ->
 introduce(Thread, Number, #state{threads = Threads} = State) ->
     Worker = pat_place:of_thread(Thread) - 1,
     Front = iolist_to_binary([integer_to_binary(Worker), $\s, integer_to_binary(Number), $\s]),
-    State#state{threads = Threads#{Thread => Front}}.
+    State#state{threads = Threads#{Thread => {Number, Front}}}.

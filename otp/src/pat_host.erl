@@ -1,7 +1,7 @@
 %% A mailbox in a process of its own, for as long as it isn't known who alone will receive from it. Where a thread is spawned that
 %% alone does, this process becomes that thread (pat_thread:adopt).
 -module(pat_host).
--export([start/2, init/1]).
+-export([start/2, init/2, go_on/1]).
 -include("pat_otp.hrl").
 
 %% The mailbox's number in its process.
@@ -13,12 +13,21 @@
 -spec start(pat_place:place(), pat_entries:stamp()) -> pat_names:name().
 start(Place, Stamp) ->
     case pat_place:node_of(Place) of
-        Node when Node =:= node() -> {spawn(?MODULE, init, [Stamp]), ?NUMBER};
-        Node -> {spawn(Node, ?MODULE, init, [Stamp]), ?NUMBER}
+        Node when Node =:= node() -> {spawn(?MODULE, init, [get(epoch), Stamp]), ?NUMBER};
+        Node -> {spawn(Node, ?MODULE, init, [get(epoch), Stamp]), ?NUMBER}
     end.
 
--spec init(pat_entries:stamp()) -> ok.
-init(Stamp) -> loop(pat_mailbox:new(Stamp), none).
+%% (one that was on its way here when its epoch ended is nobody's)
+-spec init(pat_cells:epoch(), pat_entries:stamp()) -> ok.
+init(Epoch, Stamp) ->
+    case pat_cells:epoch() of
+        Epoch -> loop(pat_mailbox:new(Stamp), none);
+        _ -> ok
+    end.
+
+%% A mailbox that was there when the epoch began.
+-spec go_on(pat_mailbox:mailbox()) -> ok.
+go_on(Mailbox) -> loop(Mailbox, none).
 
 -spec loop(pat_mailbox:mailbox(), guard()) -> ok.
 loop(Mailbox, Guard) ->
@@ -27,8 +36,7 @@ loop(Mailbox, Guard) ->
             serve(pat_mailbox:keep(Message, Weight, Stamp, Mailbox), Guard);
         {weight, ?NUMBER, Weight, Stamp} -> serve(pat_mailbox:give_back(Weight, Stamp, Mailbox), Guard);
         {ask, Thread, Mask, Free, Weight} -> serve(Mailbox, {Thread, Mask, Free, Weight});
-        {adopt, [Thread, Module, Function, Values, Weights, Stamp]} ->
-            pat_thread:adopt(#{?NUMBER => Mailbox}, Thread, Module, Function, Values, Weights, Stamp)
+        {adopt, Life, Work} -> pat_thread:adopt(#{?NUMBER => Mailbox}, Life, Work)
     end.
 
 serve(Mailbox, none) -> taken(), loop(Mailbox, none);

@@ -3,18 +3,16 @@
 %% entry of the history no more messages are pending than may be. Nodes ask for credits when they have none left (pat_credit).
 -module(pat_limit).
 -behaviour(gen_server).
--export([start_link/0, begin_run/2, received/1, is_short/0]).
+-export([start_link/2, received/1, is_short/0]).
 -export([init/1, handle_call/3, handle_cast/2, handle_info/2]).
 -include("pat_otp.hrl").
 
--record(state, {nodes = [] :: [node()], pool = 0 :: integer(), asks = queue:new() :: queue:queue({node(), pos_integer()}),
-                lent = false :: boolean(), claimed = 0 :: non_neg_integer()}).
+-record(state, {epoch :: pat_cells:epoch(), nodes :: [node()], pool :: integer(),
+                asks = queue:new() :: queue:queue({node(), pos_integer()}), lent = false :: boolean(), claimed = 0 :: non_neg_integer()}).
 
--spec start_link() -> {ok, pid()} | ignore | {error, term()}.
-start_link() -> gen_server:start_link({local, ?MODULE}, ?MODULE, [], []).
-
--spec begin_run([node()], pos_integer()) -> ok.
-begin_run(Nodes, Messages) -> gen_server:call(?MODULE, {begin_run, Nodes, Messages}).
+%% For an epoch of these nodes, in which so many messages more may be pending than are at its beginning.
+-spec start_link([node()], integer()) -> {ok, pid()} | ignore | {error, term()}.
+start_link(Nodes, Messages) -> gen_server:start_link({local, ?MODULE}, ?MODULE, {Nodes, Messages}, []).
 
 %% So many receives have become final.
 -spec received(non_neg_integer()) -> ok.
@@ -25,23 +23,23 @@ received(Count) -> gen_server:cast(?MODULE, {received, Count}).
 -spec is_short() -> boolean().
 is_short() -> gen_server:call(?MODULE, is_short).
 
--spec init([]) -> {ok, #state{}}.
-init([]) -> {ok, #state{}}.
+-spec init({[node()], integer()}) -> {ok, #state{}}.
+init({Nodes, Messages}) -> {ok, #state{epoch = pat_cells:epoch(), nodes = Nodes, pool = Messages}}.
 
--spec handle_call({begin_run, [node()], pos_integer()} | is_short, gen_server:from(), #state{}) -> {reply, term(), #state{}}.
-handle_call({begin_run, Nodes, Messages}, _, _) -> {reply, ok, #state{nodes = Nodes, pool = Messages}};
+-spec handle_call(is_short, gen_server:from(), #state{}) -> {reply, term(), #state{}}.
 handle_call(is_short, _, #state{asks = Asks} = State) -> {reply, not queue:is_empty(Asks), State}.
 
 -spec handle_cast({received, pos_integer()}, #state{}) -> {noreply, #state{}}.
 handle_cast({received, Count}, #state{pool = Pool} = State) -> {noreply, serve(State#state{pool = Pool + Count})}.
 
--spec handle_info({ask, node(), pos_integer()} | {returned, integer()}, #state{}) -> {noreply, #state{}}.
-handle_info({ask, Node, Count}, #state{asks = Asks} = State) ->
+-spec handle_info({ask | returned, pat_cells:epoch(), node(), integer()}, #state{}) -> {noreply, #state{}}.
+handle_info({ask, Epoch, Node, Count}, #state{epoch = Epoch, asks = Asks} = State) ->
     Next = serve(State#state{asks = queue:in({Node, Count}, Asks)}),
     {noreply, taken(Next)};
-handle_info({returned, Count}, #state{pool = Pool, claimed = Claimed} = State) ->
+handle_info({returned, Epoch, _, Count}, #state{epoch = Epoch, pool = Pool, claimed = Claimed} = State) ->
     Next = serve(State#state{pool = Pool + Count, claimed = Claimed - 1}),
-    {noreply, taken(Next)}.
+    {noreply, taken(Next)};
+handle_info(_, State) -> {noreply, State}.
 
 taken(State) ->
     atomics:add(pat_cells:all(), ?TAKEN, 1),
@@ -52,18 +50,18 @@ post(Node, Message) ->
     {pat_credit, Node} ! Message,
     ok.
 
-serve(#state{pool = Pool, asks = Asks, nodes = Nodes} = State) ->
+serve(#state{epoch = Epoch, pool = Pool, asks = Asks, nodes = Nodes} = State) ->
     case queue:peek(Asks) of
         {value, {Node, Count}} when Pool > 0 ->
             Share = min(Count, max(1, Pool div (2 * length(Nodes)))),
-            post(Node, {grant, Share}),
+            post(Node, {grant, Epoch, Share}),
             serve(State#state{pool = Pool - Share, asks = queue:drop(Asks), lent = true});
         {value, _} -> claim(State);
         empty -> State
     end.
 
 %% What other nodes have left is asked back.
-claim(#state{lent = true, claimed = 0, nodes = Nodes} = State) ->
-    lists:foreach(fun(Node) -> post(Node, claim) end, Nodes),
+claim(#state{epoch = Epoch, lent = true, claimed = 0, nodes = Nodes} = State) ->
+    lists:foreach(fun(Node) -> post(Node, {claim, Epoch}) end, Nodes),
     State#state{lent = false, claimed = length(Nodes)};
 claim(State) -> State.

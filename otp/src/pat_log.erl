@@ -5,7 +5,7 @@
 %% thread left that has entries at hand, all of theirs have come, and so all up to that floor.
 -module(pat_log).
 -behaviour(gen_server).
--export([start_link/0, begin_run/0, sync/1]).
+-export([start_link/1, sync/1]).
 -export([init/1, handle_call/3, handle_cast/2, handle_info/2]).
 -include("pat_otp.hrl").
 
@@ -15,29 +15,28 @@
 %% So many entries may be reported and not yet be written; then the threads are held back.
 -define(AHEAD, 500000).
 
--record(state, {turn = 0 :: non_neg_integer(), floor = 0 :: pat_entries:stamp(),
+-record(state, {epoch :: pat_cells:epoch(), turn = 0 :: non_neg_integer(), floor :: pat_entries:stamp(),
                 closing = no :: no | {Turn :: non_neg_integer(), pat_entries:stamp()}, waits = false :: boolean(),
                 runs = [] :: [[pat_entries:entry()]], count = 0 :: non_neg_integer(),
-                newest = 0 :: pat_entries:stamp(), wanted = 0 :: pat_entries:stamp(), reports = 0 :: non_neg_integer(),
+                newest :: pat_entries:stamp(), wanted = 0 :: pat_entries:stamp(), reports = 0 :: non_neg_integer(),
                 unwritten = queue:new() :: queue:queue({pat_entries:stamp(), non_neg_integer()}),
                 ahead = 0 :: non_neg_integer()}).
 
--spec start_link() -> {ok, pid()} | ignore | {error, term()}.
-start_link() ->
-    gen_server:start_link({local, ?MODULE}, ?MODULE, [], [{spawn_opt, [{message_queue_data, off_heap}, {priority, high}]}]).
-
--spec begin_run() -> ok.
-begin_run() -> gen_server:call(?MODULE, begin_run).
+%% For an epoch: what is up to the stamp was there before.
+-spec start_link(pat_entries:stamp()) -> {ok, pid()} | ignore | {error, term()}.
+start_link(Cut) ->
+    gen_server:start_link({local, ?MODULE}, ?MODULE, Cut, [{spawn_opt, [{message_queue_data, off_heap}, {priority, high}]}]).
 
 %% Reports what is there; how many reports that makes.
 -spec sync(node()) -> non_neg_integer().
 sync(Node) -> gen_server:call({?MODULE, Node}, sync).
 
--spec init([]) -> {ok, #state{}}.
-init([]) -> {ok, #state{}}.
+-spec init(pat_entries:stamp()) -> {ok, #state{}}.
+init(Cut) ->
+    atomics:put(pat_cells:all(), ?FLOOR, Cut),
+    {ok, #state{epoch = pat_cells:epoch(), floor = Cut, newest = Cut}}.
 
--spec handle_call(begin_run | sync, gen_server:from(), #state{}) -> {reply, term(), #state{}}.
-handle_call(begin_run, _, _) -> {reply, ok, #state{}};
+-spec handle_call(sync, gen_server:from(), #state{}) -> {reply, term(), #state{}}.
 handle_call(sync, _, #state{floor = Floor} = State) ->
     #state{reports = Reports} = Reported = report(Floor, State),
     {reply, Reports, Reported}.
@@ -77,9 +76,9 @@ look(#state{closing = {Turn, Floor}} = State) ->
     end,
     State.
 
-report(Floor, #state{runs = Runs, count = Count, reports = Reports, unwritten = Unwritten, ahead = Ahead} = State) ->
+report(Floor, #state{epoch = Epoch, runs = Runs, count = Count, reports = Reports, unwritten = Unwritten, ahead = Ahead} = State) ->
     #{head := Head, place := Place} = pat_cells:run(),
-    gen_server:cast({pat_merge, Head}, {report, Place, Floor, Runs}),
+    gen_server:cast({pat_merge, Head}, {report, Epoch, Place, Floor, Runs}),
     hold(State#state{floor = Floor, runs = [], count = 0, reports = Reports + 1,
                      unwritten = queue:in({Floor, Count}, Unwritten), ahead = Ahead + Count}).
 

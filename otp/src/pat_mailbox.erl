@@ -1,7 +1,7 @@
 %% A mailbox: its messages, by tag in the order in which they came, and the weight that is home. Data alone: it is kept by the
 %% thread that receives from it, or by a process of its own (pat_host).
 -module(pat_mailbox).
--export([new/1, keep/4, give_back/3, take/2, fits/2, freed_at/2]).
+-export([new/1, filled/3, keep/4, give_back/3, take/2, fits/2, freed_at/2]).
 -export_type([mailbox/0, message/0, mask/0]).
 
 -record(mailbox, {home = 0 :: pat_weight:weight(), released :: pat_entries:stamp(), count = 0 :: non_neg_integer(),
@@ -15,6 +15,11 @@
 
 -spec new(pat_entries:stamp()) -> mailbox().
 new(Stamp) -> #mailbox{released = Stamp}.
+
+%% As it is when an epoch begins: with this weight at home and these messages, in the order in which they were sent.
+-spec filled(pat_weight:weight(), pat_entries:stamp(), [message()]) -> mailbox().
+filled(Home, Stamp, Messages) ->
+    lists:foldl(fun(Message, Mailbox) -> keep(Message, 0, Stamp, Mailbox) end, #mailbox{home = Home, released = Stamp}, Messages).
 
 -spec keep(message(), pat_weight:weight(), pat_entries:stamp(), mailbox()) -> mailbox().
 keep(Message, Weight, Stamp, Mailbox) ->

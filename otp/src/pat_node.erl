@@ -1,17 +1,14 @@
-%% A node of the run: takes the program and the list of nodes from the head, begins the first thread if it is told to, and ends
-%% when the head is lost or none comes. A node that loses another one tells the head: a message may be lost then, and the run
-%% can't go on.
+%% A node of the run: takes each epoch's program and list of nodes from the head, and ends when the head is lost or none comes. A
+%% node that loses another one tells the head: a message may be lost then, and the epoch can't go on.
 -module(pat_node).
 -behaviour(gen_server).
--export([start_link/0, prepare/2, begin_main/2, failed/1]).
+-export([start_link/0, prepare/3, failed/1]).
 -export([init/1, handle_call/3, handle_cast/2, handle_info/2]).
 -export_type([program/0]).
 -include("pat_otp.hrl").
 
 %% Milliseconds that a node waits for the head.
 -define(PATIENCE, 60000).
-%% Milliseconds that the head gives a node to take the program.
--define(PREPARED, 60000).
 
 -type program() :: {module(), Beam :: binary()}.
 -record(state, {head :: undefined | node(), timer :: undefined | reference()}).
@@ -19,13 +16,18 @@
 -spec start_link() -> {ok, pid()} | ignore | {error, term()}.
 start_link() -> gen_server:start_link({local, ?MODULE}, ?MODULE, [], []).
 
--spec prepare(pat_cells:run(), program()) -> ok.
-prepare(#{nodes := Nodes, place := Place} = Run, Program) ->
-    gen_server:call({?MODULE, element(Place, Nodes)}, {prepare, Run, Program}, ?PREPARED).
-
-%% Begins the first thread.
--spec begin_main(node(), module()) -> ok.
-begin_main(Node, Module) -> gen_server:call({?MODULE, Node}, {begin_main, Module}, ?PREPARED).
+%% On each node, before an epoch begins: nothing is left of the one before. The nodes left that can't be reached from here.
+-spec prepare(pat_cells:run(), program(), pat_entries:stamp()) -> [node()].
+prepare(#{head := Head, nodes := Nodes, left := Left, place := Place} = Run, {Module, Beam}, Cut) ->
+    pat_cells:set_run(Run),
+    ok = gen_server:call(?MODULE, {head, Head}),
+    pat_resume:end_all(),
+    pat_cells:make(),
+    pat_otp_sup:begin_epoch([{pat_log, [Cut]}, {pat_credit, []}]),
+    _ = code:purge(Module),
+    {module, Module} = code:load_binary(Module, "program", Beam),
+    Others = [element(Other, Nodes) || Other <- tuple_to_list(Left), Other < Place],
+    [Other || Other <- Others, net_kernel:connect_node(Other) =/= true].
 
 %% The runtime is at fault in a thread.
 -spec failed(term()) -> ok.
@@ -38,20 +40,10 @@ init([]) ->
     ok = net_kernel:monitor_nodes(true),
     {ok, #state{timer = erlang:send_after(?PATIENCE, self(), no_head)}}.
 
--spec handle_call({prepare, pat_cells:run(), program()} | {begin_main, module()}, gen_server:from(), #state{}) ->
-          {reply, ok, #state{}}.
-handle_call({prepare, #{head := Head, nodes := Nodes, place := Place} = Run, {Module, Beam}}, _, #state{timer = Timer}) ->
+-spec handle_call({head, node()}, gen_server:from(), #state{}) -> {reply, ok, #state{}}.
+handle_call({head, Head}, _, #state{timer = Timer}) ->
     _ = is_reference(Timer) andalso erlang:cancel_timer(Timer),
-    pat_cells:set_run(Run),
-    ok = pat_log:begin_run(),
-    {module, Module} = code:load_binary(Module, "program", Beam),
-    Before = lists:sublist(tuple_to_list(Nodes), Place - 1),
-    true = lists:all(fun(Node) -> net_kernel:connect_node(Node) =:= true end, Before),
-    {reply, ok, #state{head = Head}};
-handle_call({begin_main, Module}, _, State) ->
-    atomics:add(pat_cells:all(), ?POSTED, 1),
-    _ = spawn(pat_thread, start, [?MAIN, Module, main, [], [], 0]),
-    {reply, ok, State}.
+    {reply, ok, #state{head = Head}}.
 
 -spec handle_cast(term(), #state{}) -> {noreply, #state{}}.
 handle_cast(_, State) -> {noreply, State}.
@@ -60,6 +52,6 @@ handle_cast(_, State) -> {noreply, State}.
 handle_info({nodedown, Head}, #state{head = Head}) -> halt(1);
 handle_info(no_head, _) -> halt(1);
 handle_info({nodedown, Node}, #state{head = Head} = State) when Head =/= undefined ->
-    pat_run:lost(Head, node(), Node),
+    pat_run:lost(Head, pat_cells:epoch(), node(), Node),
     {noreply, State};
 handle_info(_, State) -> {noreply, State}.

@@ -1,7 +1,8 @@
-%% Where threads and mailboxes go. A place is a node's number in the run, from 1. What the first thread makes is spread over the
-%% places, one after another; what others make stays where they are, or is spread as well, if the run says so.
+%% Where threads and mailboxes go. A place is a node's number in the run, from 1, which it keeps whatever others are lost. What the
+%% first thread makes is spread over the places, one after another; what others make stays where they are, or is spread as well,
+%% if the run says so.
 -module(pat_place).
--export([next/1, node_of/1, of_node/1, number/1, of_thread/1]).
+-export([next/1, node_of/1, of_node/1, number/1, numbered/2, of_thread/1]).
 -export_type([place/0]).
 -include("pat_otp.hrl").
 
@@ -10,9 +11,9 @@
 -spec next(pat_entries:thread()) -> place().
 next(Thread) ->
     case pat_cells:run() of
-        #{nodes := {_}, place := Here} -> Here;
-        #{spread := main, place := Here} when Thread =/= ?MAIN -> Here;
-        #{nodes := Nodes, place := Here} -> (Here + turn()) rem tuple_size(Nodes) + 1
+        #{left := {Only}} -> Only;
+        #{spread := main, place := Here} when Thread >= ?SECOND -> Here;
+        #{left := Left, place := Here} -> element((Here + turn()) rem tuple_size(Left) + 1, Left)
     end.
 
 turn() ->
@@ -32,6 +33,10 @@ number(Place) ->
     #{place := Here} = pat_cells:run(),
     Count = atomics:add_get(pat_cells:all(), ?THREADS, 1),
     ((Count bsl ?PLACE_BITS) bor Here) bsl ?PLACE_BITS bor Place.
+
+%% The number of a thread that an epoch begins with: its number in the history, as the head's own place would give it.
+-spec numbered(non_neg_integer(), place()) -> pat_entries:thread().
+numbered(Number, Place) -> (Number bsl (2 * ?PLACE_BITS)) bor Place.
 
 -spec of_thread(pat_entries:thread()) -> place().
 of_thread(Thread) -> Thread band (1 bsl ?PLACE_BITS - 1).

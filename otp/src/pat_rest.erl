@@ -5,7 +5,7 @@
 %% waited for some time: those that answer each other quickly never touch a shared number.
 -module(pat_rest).
 -behaviour(gen_server).
--export([start_link/0, begin_run/1, look_again/0, counts/1]).
+-export([start_link/1, look_again/0, counts/1]).
 -export([init/1, handle_call/3, handle_cast/2, handle_info/2]).
 
 %% Milliseconds between rounds: at first, and at most.
@@ -14,31 +14,28 @@
 %% So many a node has to answer.
 -define(ANSWER, 5000).
 
--record(state, {nodes = [] :: [node()], wait = ?SOON :: pos_integer(), last = none :: none | pat_cells:counts()}).
+-record(state, {epoch :: pat_cells:epoch(), nodes :: [node()], wait = ?SOON :: pos_integer(), last = none :: none | pat_cells:counts()}).
 
--spec start_link() -> {ok, pid()} | ignore | {error, term()}.
-start_link() -> gen_server:start_link({local, ?MODULE}, ?MODULE, [], []).
-
-%% From now on these nodes are asked, until they are at rest: then pat_run is told.
--spec begin_run([node()]) -> ok.
-begin_run(Nodes) -> gen_server:call(?MODULE, {begin_run, Nodes}).
+%% For an epoch: from now on these nodes are asked, until they are at rest; then pat_run is told.
+-spec start_link([node()]) -> {ok, pid()} | ignore | {error, term()}.
+start_link(Nodes) -> gen_server:start_link({local, ?MODULE}, ?MODULE, Nodes, []).
 
 -spec look_again() -> ok.
 look_again() -> gen_server:cast(?MODULE, look_again).
 
--spec init([]) -> {ok, #state{}}.
-init([]) -> {ok, #state{}}.
+-spec init([node()]) -> {ok, #state{}}.
+init(Nodes) -> {ok, later(#state{epoch = pat_cells:epoch(), nodes = Nodes})}.
 
--spec handle_call({begin_run, [node()]}, gen_server:from(), #state{}) -> {reply, ok, #state{}}.
-handle_call({begin_run, Nodes}, _, _) -> {reply, ok, later(#state{nodes = Nodes})}.
+-spec handle_call(term(), gen_server:from(), #state{}) -> {reply, ok, #state{}}.
+handle_call(_, _, State) -> {reply, ok, State}.
 
 -spec handle_cast(look_again, #state{}) -> {noreply, #state{}}.
 handle_cast(look_again, State) -> {noreply, later(State#state{last = none})}.
 
 -spec handle_info(round, #state{}) -> {noreply, #state{}}.
-handle_info(round, #state{nodes = Nodes, last = Last} = State) ->
+handle_info(round, #state{epoch = Epoch, nodes = Nodes, last = Last} = State) ->
     case counts(Nodes) of
-        {Same, Same, 0} = Last -> pat_run:at_rest(Last), {noreply, State};
+        {Same, Same, 0} = Last -> pat_run:at_rest(Epoch, Last), {noreply, State};
         Counts -> {noreply, later(State#state{last = Counts})}
     end.
 

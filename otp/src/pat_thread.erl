@@ -1,20 +1,23 @@
 %% A thread of the program: a process that runs translated code, which calls the acts below. Its control and frames are Erlang's
-%% own stack. The number that an act takes first is that of the local steps since the last act.
+%% own stack; those frames alone are data with which it began, where it begins in its middle. The number that an act takes first
+%% is that of the local steps since the last act.
 %%
-%% Kept in the process dictionary, besides what pat_entries and pat_names keep: `boxes`, the mailboxes that this process keeps,
-%% by number; `boxes_made`; `sends`, how many there were, and `counted`, how many there had been when the thread last waited for
-%% long; `posted` and `taken`, other messages that it sent and those that it took since then.
+%% Kept in the process dictionary, besides what pat_entries, pat_names and pat_post keep: `epoch`; `boxes`, the mailboxes that this
+%% process keeps, by number; `boxes_made`.
 -module(pat_thread).
 -export([local/1, dup/1, drop/1, drop_now/1, new/2, send/5, spawn/6, print/2, guard/4]).
--export([start/6, adopt/7, post/2]).
--export_type([home/0]).
+-export([start/2, adopt/3]).
+-export_type([home/0, life/0, work/0, control/0, frame/0]).
 -include("pat_otp.hrl").
-
-%% So many milliseconds a thread waits before it hands over what it has noted and counted.
--define(PATIENCE, 2).
 
 %% Where a new mailbox is kept: in this thread, which alone will ever receive from it, or in a process of its own.
 -type home() :: here | apart.
+%% Who a new thread is: its names with their weights, and the stamp that its first entry is behind.
+-type life() :: {pat_cells:epoch(), pat_entries:thread(), [pat_names:weighted()], pat_entries:stamp()}.
+%% What it has to do: its control, and then the frames, each with the value that comes before.
+-type work() :: {module(), control(), [frame()]}.
+-type control() :: {Function :: atom(), Values :: list()} | {value, term()}.
+-type frame() :: {Function :: atom(), Values :: list()}.
 
 %% ---- what the translated code calls
 
@@ -64,9 +67,8 @@ send(Steps, {{Keeper, Number}, _} = Target, Tag, Values, Names) ->
     Weights = pat_names:hand_on(Names),
     Weight = pat_names:hand_over(Target),
     Stamp = pat_entries:note(0, Left, send),
-    Sends = get(sends),
-    put(sends, Sends + 1),
-    transmit(Keeper, {message, Number, {Tag, Values, Weights, get(thread), Sends, Stamp}, Weight}),
+    Sends = pat_post:count_send(),
+    pat_post:transmit(Keeper, {message, Number, {Tag, Values, Weights, get(thread), Sends, Stamp}, Weight}),
     release().
 
 %% With a name of which the new thread alone will ever receive, it runs in the process that keeps that mailbox.
@@ -76,17 +78,17 @@ spawn(Steps, Module, Function, Values, Names, Home) ->
     Thread = pat_place:number(Place),
     Weights = pat_names:hand_on(Names),
     Stamp = pat_entries:note(0, Steps, {spawn, Thread}),
-    begin_at(Home, Place, [Thread, Module, Function, Values, Weights, Stamp]),
+    begin_at(Home, Place, {get(epoch), Thread, Weights, Stamp}, {Module, {Function, Values}, []}),
     release().
 
-begin_at(none, Place, Words) ->
-    put(posted, get(posted) + 1),
+begin_at(none, Place, Life, Work) ->
+    pat_post:count_post(),
     _ = case pat_place:node_of(Place) of
-        Node when Node =:= node() -> erlang:spawn(?MODULE, start, Words);
-        Node -> erlang:spawn_request(Node, ?MODULE, start, Words, [{reply, no}])
+        Node when Node =:= node() -> erlang:spawn(?MODULE, start, [Life, Work]);
+        Node -> erlang:spawn_request(Node, ?MODULE, start, [Life, Work], [{reply, no}])
     end,
     ok;
-begin_at({Keeper, _}, _, Words) -> post(Keeper, {adopt, Words}).
+begin_at({Keeper, _}, _, Life, Work) -> pat_post:post(Keeper, {adopt, Life, Work}).
 
 -spec print(non_neg_integer(), integer() | boolean() | binary()) -> ok.
 print(Steps, Value) ->
@@ -103,70 +105,9 @@ guard(Steps, {Keeper, Number} = Name, Mask, Free) ->
     local(Steps),
     release_noted(),
     case Keeper =:= self() of
-        true -> serve(Number, Mask, Free);
-        false ->
-            post(Keeper, {ask, self(), Mask, Free, pat_names:weight(Name)}),
-            answered(Name)
+        true -> pat_guard:serve(Number, Mask, Free);
+        false -> pat_guard:ask(Name, Mask, Free)
     end.
-
-%% ---- guards
-
-%% At a mailbox that this process keeps.
-serve(Number, Mask, Free) ->
-    #{Number := Mailbox} = Boxes = get(boxes),
-    case pat_mailbox:take(Mask, Mailbox) of
-        {Message, Rest} ->
-            put(boxes, Boxes#{Number := Rest}),
-            received(Message);
-        none -> freed_or_later(Number, Mask, Free, Mailbox, Boxes)
-    end.
-
-freed_or_later(Number, Mask, Free, Mailbox, Boxes) ->
-    Name = {self(), Number},
-    case Free andalso pat_mailbox:freed_at(pat_names:weight(Name), Mailbox) of
-        Stamp when is_integer(Stamp) ->
-            put(boxes, maps:remove(Number, Boxes)),
-            freed(Name, Stamp);
-        _ -> await(Number, Mask, Free)
-    end.
-
-await(Number, Mask, Free) ->
-    case next() of
-        {message, Number, {Tag, _, _, _, _, Stamp} = Message, Weight} when (Mask bsr Tag) band 1 =:= 1 ->
-            #{Number := Mailbox} = Boxes = get(boxes),
-            put(boxes, Boxes#{Number := pat_mailbox:give_back(Weight, Stamp, Mailbox)}),
-            received(Message);
-        {message, _, _, _} = Other -> keep(Other), await(Number, Mask, Free);
-        Weight -> keep(Weight), serve(Number, Mask, Free)
-    end.
-
-%% At a mailbox that another process keeps.
-answered(Name) ->
-    case next() of
-        {given, Message} -> received(Message);
-        {freed, Stamp} -> freed(Name, Stamp);
-        Other -> keep(Other), answered(Name)
-    end.
-
-received({Tag, Values, Weights, From, Sent, Stamp}) ->
-    _ = pat_entries:note(Stamp, 0, {'receive', From, Sent}),
-    pat_names:have(Weights),
-    {Tag, Values}.
-
-freed(Name, Stamp) ->
-    _ = pat_entries:note(Stamp, 0, free),
-    pat_names:forget(Name),
-    freed.
-
-%% What comes for a mailbox of this process while the thread doesn't ask for it.
-keep({message, Number, {_, _, _, _, _, Stamp} = Message, Weight}) ->
-    change(Number, fun(Mailbox) -> pat_mailbox:keep(Message, Weight, Stamp, Mailbox) end);
-keep({weight, Number, Weight, Stamp}) ->
-    change(Number, fun(Mailbox) -> pat_mailbox:give_back(Weight, Stamp, Mailbox) end).
-
-change(Number, Change) ->
-    #{Number := Mailbox} = Boxes = get(boxes),
-    put(boxes, Boxes#{Number := Change(Mailbox)}).
 
 %% ---- weights of names that went
 
@@ -181,47 +122,12 @@ release() ->
 release_noted() ->
     case get(gone) of
         [] -> ok;
-        _ -> note_steps(), release()
+        _ -> pat_entries:note_steps(), release()
     end.
 
-note_steps() ->
-    case get(steps) of
-        0 -> ok;
-        _ -> _ = pat_entries:note(0, 0, none), ok
-    end.
+give_back({Keeper, Number}, Weight) -> pat_post:post(Keeper, {weight, Number, Weight, pat_entries:clock()}).
 
-give_back({Keeper, Number}, Weight) -> post(Keeper, {weight, Number, Weight, pat_entries:clock()}).
-
-%% ---- messages between processes, all of which are counted
-
--spec post(pid() | atom(), term()) -> ok.
-post(To, Message) ->
-    put(posted, get(posted) + 1),
-    transmit(To, Message).
-
-%% What a send transmits is counted with the sends.
-transmit(To, Message) ->
-    To ! Message,
-    ok.
-
-next() ->
-    receive Message -> put(taken, get(taken) + 1), Message
-    after ?PATIENCE ->
-        idle(),
-        receive Message -> active(), put(taken, 1), Message end
-    end.
-
-%% The thread waits for long: all that it has is handed over, local steps as an entry.
-idle() ->
-    note_steps(),
-    pat_entries:close(),
-    Cells = pat_cells:all(),
-    Sends = get(sends),
-    atomics:add(Cells, ?POSTED, put(posted, 0) + Sends - put(counted, Sends)),
-    atomics:add(Cells, ?TAKEN, put(taken, 0)),
-    atomics:sub(Cells, ?ACTIVE, 1).
-
-active() -> atomics:add(pat_cells:all(), ?ACTIVE, 1).
+%% ---- leave to send
 
 %% A send needs leave, since only so many messages may be pending. The steps that are to be noted with it: a thread that may have
 %% to wait counts them before.
@@ -233,40 +139,49 @@ pay(Steps) ->
             atomics:add(Cells, ?CREDIT, 1),
             local(Steps),
             release_noted(),
-            post(pat_credit, {want, self()}),
+            pat_post:post(pat_credit, {want, self()}),
             paid()
     end.
 
 paid() ->
-    case next() of
+    case pat_post:next() of
         credit -> 0;
-        Other -> keep(Other), paid()
+        Other -> pat_guard:keep(Other), paid()
     end.
 
 %% ---- beginning and end
 
--spec start(pat_entries:thread(), module(), atom(), list(), [{pat_names:name(), pat_weight:weight()}], pat_entries:stamp()) -> ok.
-start(Thread, Module, Function, Values, Weights, Stamp) -> adopt(#{}, Thread, Module, Function, Values, Weights, Stamp).
+%% (a thread that was on its way here when its epoch ended is none)
+-spec start(life(), work()) -> ok.
+start({Epoch, _, _, _} = Life, Work) ->
+    case pat_cells:epoch() of
+        Epoch -> adopt(#{}, Life, Work);
+        _ -> ok
+    end.
 
 %% In a process that keeps these mailboxes.
--spec adopt(#{pos_integer() => pat_mailbox:mailbox()}, pat_entries:thread(), module(), atom(), list(),
-            [{pat_names:name(), pat_weight:weight()}], pat_entries:stamp()) -> ok.
-adopt(Boxes, Thread, Module, Function, Values, Weights, Stamp) ->
-    active(),
-    put(boxes, Boxes), put(boxes_made, 1), put(sends, 0), put(counted, 0), put(posted, 0), put(taken, 1),
+-spec adopt(#{pos_integer() => pat_mailbox:mailbox()}, life(), work()) -> ok.
+adopt(Boxes, {Epoch, Thread, Weights, Stamp}, {Module, Control, Frames}) ->
+    put(epoch, Epoch), put(boxes, Boxes), put(boxes_made, max(1, map_size(Boxes))),
+    pat_post:begin_thread(),
     pat_entries:begin_thread(Thread, Stamp),
     pat_names:begin_thread(Weights),
     try
-        _ = apply(Module, Function, Values),
+        _ = go_on(Module, Frames, first(Module, Control)),
         ended()
     catch
         Class:Reason:Stack -> pat_node:failed({Thread, Class, Reason, Stack})
     end.
+
+first(_, {value, Value}) -> Value;
+first(Module, {Function, Values}) -> apply(Module, Function, Values).
+
+go_on(_, [], Value) -> Value;
+go_on(Module, [{Function, Values} | Below], Value) -> go_on(Module, Below, apply(Module, Function, [Value | Values])).
 
 ended() ->
     _ = pat_entries:note(0, 0, 'end'),
     release(),
     {[], Boxes} = {pat_names:all(), get(boxes)},
     0 = map_size(Boxes),
-    idle(),
-    ok.
+    pat_post:idle().

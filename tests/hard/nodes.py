@@ -19,7 +19,7 @@ HELD = "erlang:spawn(fun() -> receive after rand:uniform(4) - 1 -> {} ! Message 
 # Each message is held back by itself for some milliseconds, so that none keeps its place among the others; and a mailbox's weight
 # is 3, so that it has to be split further all the time. Threads are held back as soon as 50 of their entries aren't written.
 DELAYS = [
-    ("pat_thread.erl", "    To ! Message,\n", f"    {HELD.format('To')},\n"),
+    ("pat_post.erl", "    To ! Message,\n", f"    {HELD.format('To')},\n"),
     ("pat_host.erl", "    Thread ! Message,\n", f"    {HELD.format('Thread')},\n"),
     ("pat_weight.erl", "(1 bsl 56)", "3"),
     ("pat_log.erl", "-define(AHEAD, 500000).", "-define(AHEAD, 50)."),
@@ -34,18 +34,18 @@ WRONG = {
     "free not behind where the names went": [
         ("pat_mailbox.erl", "released = max(Released, Stamp)}", "released = min(Released, Stamp)}")],
     "receive not behind its send": [
-        ("pat_thread.erl", "pat_entries:note(Stamp, 0, {'receive'", "pat_entries:note(min(Stamp, 0), 0, {'receive'")],
+        ("pat_guard.erl", "pat_entries:note(Stamp, 0, {'receive'", "pat_entries:note(min(Stamp, 0), 0, {'receive'")],
     "no weight with a message": [
         ("pat_thread.erl", "Sends, Stamp}, Weight}),", "Sends, Stamp}, 0}),\n    give_back(element(1, Target), Weight),")],
     "names that go in local steps given back at once": [
         ("pat_thread.erl", "put(gone, [{Name, Weight} | get(gone)]), ok", "give_back(Name, Weight)")],
     "payloads without weight": [
-        ("pat_thread.erl", "    Weight = pat_resolver_spec:hand_over(Target),\n",
-         "    [give_back(Name, Part) || {Name, Part} <- Weights],\n    Weight = pat_resolver_spec:hand_over(Target),\n"),
+        ("pat_thread.erl", "    Weight = pat_names:hand_over(Target),\n",
+         "    [give_back(Name, Part) || {Name, Part} <- Weights],\n    Weight = pat_names:hand_over(Target),\n"),
         ("pat_thread.erl", "{Tag, Values, Weights, get(thread), Sends, Stamp}",
          "{Tag, Values, [{Name, 0} || {Name, _} <- Weights], get(thread), Sends, Stamp}")],
     "a local step too many": [
-        ("pat_thread.erl", "{'receive', From, Sent}),\n", "{'receive', From, Sent}),\n    put(steps, 1),\n")],
+        ("pat_guard.erl", "{'receive', From, Sent}),\n", "{'receive', From, Sent}),\n    put(steps, 1),\n")],
     "a local step too few": [
         ("pat_entries.erl", "get(thread), Steps, Act}", "get(thread), max(0, Steps - 1), Act}")],
     "lines in another order": [
@@ -63,18 +63,57 @@ WRONG = {
          "{_, _, 0} = Counts -> pat_run:at_rest(Counts), {noreply, State};\n"
          "        Counts -> {noreply, later(State#state{last = Counts})}")],
     "a message twice": [
-        ("pat_thread.erl", "    To ! Message,\n",
+        ("pat_post.erl", "    To ! Message,\n",
          "    case Message of {message, _, _, _} -> To ! Message; _ -> ok end,\n    To ! Message,\n")],
     "lost entries": [
         ("pat_log.erl", "rouse(State#state{runs = [Run | Runs],",
          "rouse(State#state{runs = case rand:uniform(4) of 1 -> Runs; _ -> [Run | Runs] end,")],
 }
 
-# Two nodes lose each other while both keep the head, and find each other again.
-PARTED = [("pat_node.erl", "    {reply, ok, #state{head = Head}};\n", """    _ = Place =:= 2 andalso spawn(fun() ->
-        timer:sleep(PARTED_AFTER), Other = element(tuple_size(Nodes), Nodes),
-        erlang:disconnect_node(Other), timer:sleep(20), net_kernel:connect_node(Other) end),
-    {reply, ok, #state{head = Head}};\n""")]
+# Two nodes lose each other while both keep the head, once for each epoch up to the given one.
+PARTED = [("pat_node.erl", "    [Other || Other <- Others, net_kernel:connect_node(Other) =/= true].\n",
+           """    _ = Place =:= 2 andalso maps:get(epoch, Run) =< PARTED_EPOCHS andalso spawn(fun() ->
+        timer:sleep(PARTED_AFTER), erlang:disconnect_node(element(tuple_size(Nodes), Nodes)) end),
+    [Other || Other <- Others, net_kernel:connect_node(Other) =/= true].\n""")]
+
+# A node falls when it makes an entry with a stamp as high: PAT_FALLS has words PLACE:STAMP.
+FALLS = [("pat_entries.erl", "    put(clock, Stamp),\n    put(entries", """    #{place := Place} = pat_cells:run(),
+    _ = [halt(9, [{flush, false}])
+         || Word <- string:lexemes(os:getenv("PAT_FALLS", ""), " "), [Where, When] <- [string:lexemes(Word, ":")],
+            list_to_integer(Where) =:= Place, list_to_integer(When) =< Stamp],
+    put(clock, Stamp),\n    put(entries""")]
+
+# Runtimes with one thing wrong in each where the run goes on after a loss.
+WRONG_AFTER_LOSS = {
+    "a message is lost": [
+        ("pat_configuration.erl", "Cut, Names, Rest) end, Homes, Messages),",
+         "Cut, Names, Rest) end, Homes, lists:nthtail(min(1, length(Messages)), Messages)),")],
+    "each thread begins twice": [
+        ("pat_resume.erl", "?POSTED, Threads)", "?POSTED, 2 * Threads)"),
+        ("pat_resume.erl", "fun({Pid, Word}) -> Pid ! Word end, Words).",
+         "fun({Pid, Word}) -> Pid ! Word, element(1, Word) =:= thread andalso (spawn(?MODULE, keeper, []) ! Word) end, Words).")],
+    "names without weight": [
+        ("pat_configuration.erl", "{Part, Rest} = pat_weight:share(maps:get(Mailbox, Homes))",
+         "{Part, Rest} = {0, maps:get(Mailbox, Homes)}")],
+    "names with too much weight": [
+        ("pat_configuration.erl", "{Part, Rest} = pat_weight:share(maps:get(Mailbox, Homes))",
+         "{Part, _} = pat_weight:share(maps:get(Mailbox, Homes)), Rest = maps:get(Mailbox, Homes)")],
+    "lines are shown twice": [
+        ("pat_history.erl", "    ok = file:write(user, lists:reverse(Shown)),\n",
+         "    ok = file:write(user, lists:reverse(Shown)),\n    put(last, Shown ++ case get(last) of undefined -> []; L -> L end),\n"),
+        ("pat_history.erl", "handle_call({begin_epoch, Nodes, Threads, Messages}, _, State) ->\n",
+         "handle_call({begin_epoch, Nodes, Threads, Messages}, _, State) ->\n    "
+         "ok = file:write(user, lists:reverse(case get(last) of undefined -> []; Last -> Last end)),\n")],
+    "frames are forgotten": [
+        ("pat_thread.erl", "go_on(_, [], Value) -> Value;", "go_on(_, Frames, Value) when is_list(Frames) -> Value;")],
+    "threads of the epoch before go on": [
+        ("pat_resume.erl", "fun(Pid) -> monitor(process, Pid), exit(Pid, kill) end, Ours),", "fun(_) -> ok end, Ours),"),
+        ("pat_resume.erl", "    lists:foreach(fun(_) -> receive {'DOWN', _, process, _, _} -> ok end end, Ours).", "    ok.")],
+    "entries behind the cut are kept": [
+        ("pat_merge.erl", "    {reply, Cut, State#state{epoch = over}};",
+         "    pat_history:write(Cut, lists:merge([lists:reverse(Run) || Run <- State#state.runs])),\n"
+         "    {reply, Cut, State#state{epoch = over}};")],
+}
 
 
 def runtime(folder, name, edits):
@@ -106,12 +145,14 @@ def compiled(program):
 class Run:
     """What came of a run: `status`, `lines` (the last is the outcome), `said`, `history`, and `left`, processes that it left."""
 
-    def __init__(self, program, file, words=(), ebin=None, disturb=None, seconds=SECONDS):
+    def __init__(self, program, file, words=(), ebin=None, disturb=None, falls=None, seconds=SECONDS):
         self.folder = tempfile.mkdtemp(prefix="pat-otp-test-")
         out = os.path.join(self.folder, "history")
         environment = dict(os.environ, PAT=program, TMPDIR=self.folder)
         if ebin:
             environment["PAT_OTP_RUNTIME"] = ebin
+        if falls:
+            environment["PAT_FALLS"] = " ".join(f"{place}:{stamp}" for place, stamp in falls.items())
         process = subprocess.Popen([COMMAND, *words, "--out", out, file], env=environment,
                                    stdout=subprocess.PIPE, stderr=subprocess.PIPE)
         self.nodes = []
@@ -199,12 +240,13 @@ def send_signal(pid, number):
         pass
 
 
-def kill(which, bytes_written):
-    """Disturbs a run: kills a node (by its place; 0 is the head) when the history has so many bytes."""
+def kill(*when):
+    """Disturbs a run: kills nodes (by their places; 0 is the head), each when the history has so many bytes."""
     def disturb(run):
         pids = run.pids()
-        if pids and run.began(bytes_written):
-            send_signal(pids[which - 1], signal.SIGKILL)
+        for place, bytes_written in sorted(when, key=lambda it: it[1]):
+            if pids and run.began(bytes_written):
+                send_signal(pids[place - 1], signal.SIGKILL)
     return disturb
 
 
