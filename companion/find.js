@@ -5,8 +5,10 @@ import { dirname, join } from 'node:path';
 import { fileURLToPath } from 'node:url';
 
 export function findPat() {
-  const built = join(dirname(fileURLToPath(import.meta.url)), '../crates/pat_cli/out/pat_cli');
-  return process.env.PAT || (existsSync(built) ? built : 'pat');
+  const top = join(dirname(fileURLToPath(import.meta.url)), '..');
+  // The proved one, or the one that ./pat compiled.
+  const built = ['crates/pat_cli/out/pat_cli', 'out/quick/pat'].map((path) => join(top, path)).find((path) => existsSync(path));
+  return process.env.PAT || built || 'pat';
 }
 /** Whether a module is the one that node was asked to run. */
 export function isMain(url) {

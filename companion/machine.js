@@ -18,7 +18,7 @@ const refuse = reason => { throw new Refusal(reason); };
 // ---------------------------------------------------------------------------------------------------------------- values
 
 const bind = (values, name, value) => ({ name, value, up: values });
-function look(values, name) {
+export function look(values, name) {
   for (let one = values; one; one = one.up) if (one.name === name) return one.value;
   throw new Error(`no value for ${name}`);
 }
