@@ -18,6 +18,7 @@ TYPES = [
 ]
 BAD_TEXT = r"bad text at (\d+)"
 RULES = "Shape|Empty|Alias|Use|Drop|Payload|Covers|Cert"
+CHECKS = "Numbers|Kinds|Distinct|Order|Holder|Messages|Balance"
 # The lines that refuse, by command.
 REFUSALS = {
     "print": TEXT,
@@ -26,11 +27,13 @@ REFUSALS = {
     "run": TEXT + TYPES,
     "load": [],
     "verify": TEXT + [BAD_TEXT, rf"rejected at node \d+: (?:{RULES})"],
+    "checkpoint": TEXT + TYPES + [r"unshown at line \d+"],
+    "resume": TEXT + [BAD_TEXT, rf"rejected at node \d+: (?:{RULES})", rf"bad checkpoint: (?:{CHECKS})"],
     "replay": TEXT + [BAD_TEXT, r"refused at entry \d+"],
     "order": TEXT + [BAD_TEXT, r"refused at entry \d+", r"too many entries"],
 }
 # The statuses of a command that isn't refused, with good ports and enough memory.
-STATUSES = {"run": {0, 6, 7, 8}, "load": {0, 6, 7, 8}}
+STATUSES = {"run": {0, 6, 7, 8}, "load": {0, 6, 7, 8}, "resume": {0, 6, 7}}
 ENDS = {0: r"done \d+(?: left \d+)?", 6: r"budget \d+", 7: r"waiting \d+(?: \d+)+", 8: r"full \d+"}
 
 

@@ -238,7 +238,18 @@ def exchange(random, line, pattern, instead):
     return line[:place.start()] + random.choice(instead) + line[place.end():]
 
 
-def change_lines(random, text):
+# The same of a checkpoint.
+VALUES = [b"unit", b"true", b"false", b"0", b"-1", b"9223372036854775807", b"#0", b"#1", b"#2", b'""', b'"a, #0)"']
+CHECKPOINT_SORTS = [
+    (rb"\d+", SMALL), (rb"\d+", SMALL), (rb"\d+", LARGE + [b"4000000000", b"4000000001"]), (rb"(?<=#)\d+", SMALL), (rb"(?<=v)\d+", SMALL),
+    (rb"(?<==)[^,}]+|(?<=value )\S+|(?<=\()[^,)]+|(?<=, )[^,)}]+", VALUES), (rb"(?<=\{)v\d+=[^,}]*,? ?|, v\d+=[^,}]*", [b""]),
+    (rb"(?<=\{)", [b"v0=#0, ", b"v1=1, "]), (rb"^frame (?:v\d+|-)", [b"frame -", b"frame v0", b"frame v1"]),
+    (rb" (?:g\d+|c\(\S*)$|$", [b"", b" g1", b" g2", b" c()", b" c(0:0)", b" c(0:1)", b" c(0:1;1)"]),
+    (rb"^thread (\d+) .*$", [b"thread 0 value unit", b"thread 1 value unit", b"thread 0 node 0 {}"]),
+]
+
+
+def change_lines(random, text, sorts=SORTS):
     """A text of lines with a few changes: lines taken out, doubled, exchanged; numbers, types and acts changed."""
     lines = text.split(b"\n")
     for _ in range(random.choice([1, 1, 2, 4])):
@@ -254,5 +265,5 @@ def change_lines(random, text):
         elif pick == 3:
             lines[at] = change(random, lines[at], [])
         else:
-            lines[at] = exchange(random, lines[at], *random.choice(SORTS))
+            lines[at] = exchange(random, lines[at], *random.choice(sorts))
     return b"\n".join(lines)

@@ -12,7 +12,7 @@ use crate::advancing::advance;
 use crate::answers::{Advance, AdvanceRefused};
 use pat_machine::Machine;
 use pat_reduce::Config;
-use pat_turn::{News, Pass, Turn};
+use pat_turn::{Notify, Pass, Turn};
 use pat_typed_program::Accepted;
 use std::alloc::{AllocError, Global};
 use std::marker::Model;
@@ -81,7 +81,7 @@ impl Board {
         // What is always true of a machine is said beside its history.
         let _history = machine.history();
         let result = advance(&mut machine, number, thread);
-        self.turn.put_back(seat, machine, News::Nothing);
+        self.turn.put_back(seat, machine, Notify::Nobody);
         result
     }
 
@@ -94,7 +94,7 @@ impl Board {
     {
         let machine = self.turn.hold(rt, seat);
         let result = machine.config();
-        self.turn.put_back(seat, machine, News::Nothing);
+        self.turn.put_back(seat, machine, Notify::Nobody);
         result
     }
 

@@ -27,7 +27,8 @@ pub struct Reordered {
 pub fn order(alloc: Global, entries: &[Entry]) -> Result<Reordered, AllocError>
     requires { length entries.now ≤ most_entries }
     ensures ordered { IfOk result (λ r. IsReordered (map entry_view entries.now) (map entry_view r.entries.items) r.places.items) }
-    ensures replays { (p : Program) (c : Config) → replay p (map entry_view entries.now) ≡ Some c → IfOk result (λ r. replay p (map entry_view r.entries.items) ≡ Some c) }
+    ensures replays { (p : Program) (c : Config) → replay p (map entry_view entries.now) ≡ Some c
+        → IfOk result (λ r. replay p (map entry_view r.entries.items) ≡ Some c) }
 {
     let mut ordered = Vec::new(alloc);
     let mut places = Vec::new(alloc);

@@ -1,12 +1,11 @@
 -- Covers are the same however many more tags are compared.
-use Rattle.std.proofs.Common.{◌≡◌, ℕ, zero, suc, ◌+◌, ◌-◌, ◌*◌, ◌≤◌, ◌<◌, Bool, true, false, ◌&&◌, List, [], ◌∷◌, Option, Some, None, length, refl, sym, ap, ap₂, ◌∙◌, subst, arith, mul-zero}
+use Rattle.std.proofs.Common.{◌≡◌, ℕ, zero, suc, ◌+◌, ◌-◌, ◌*◌, ◌≤◌, ◌<◌, true, false, ◌&&◌, List, [], ◌∷◌, Option, Some, None, length, refl, sym, ap, ap₂, ◌∙◌, subst, arith, mul-zero}
 use Rattle.std.specs.Prelude.{slice_get, nat_eq}
 use Rattle.std.specs.List.{AllByRecursion}
-use Rattle.std.proofs.lemmas.Bool.{eq-eqb}
 use Rattle.pat_words_spec.specs.Words.{Word, no_word, plus}
 use Rattle.pat_words_spec.specs.Patterns.{Pat, subst_of}
 use Rattle.pat_words_spec.specs.Tags.{tags_below, HasTagsBelow}
-use Rattle.pat_inclusion_spec.specs.Counts.{same_below, scaled, most_tags}
+use Rattle.pat_inclusion_spec.specs.Counts.{scaled, most_tags}
 use Rattle.pat_inclusion_spec.specs.LinearSets.{LinearSet, combined, SetBelow, SetsBelow}
 use Rattle.pat_inclusion_spec.specs.ClosedForms.{closed_form, sets_of}
 use Rattle.pat_inclusion_spec.specs.Covers.{CoverEntry, makes, makes_from, make_each, entry_covers, is_cover}
@@ -14,25 +13,8 @@ use Rattle.pat_inclusion_spec.specs.Certificates.{covers_forms, cover_shows}
 use Rattle.pat_inclusion_laws.proofs.Forms.{form_below}
 use Rattle.pat_inclusion_laws.proofs.CoverLaws.{form_is}
 use Rattle.pat_inclusion_spec.specs.Values.{Scope, pattern_of, is_formed, values_fit}
-use Rattle.pat_inclusion_laws.proofs.Exact.{tags_are}
+use Rattle.pat_inclusion_laws.proofs.Exact.{same_more, tags_are}
 use Rattle.pat_inclusion_laws.proofs.Shown.{replaced_tags}
-
-same_more : (n : ℕ) (u v : Word) → HasTagsBelow n u → HasTagsBelow n v → (j : ℕ) → same_below (j + n) u v ≡ same_below n u v
-same_more n u v hu hv zero = ap (λ m. same_below m u v) (start n)
-  where
-    start : (n : ℕ) → 0 + n ≡ n
-    start n = omega arith
-same_more n u v hu hv (suc j) =
-    ap (λ m. same_below m u v) (next j n)
-    ∙ ap₂ (λ a b. a && b) (same_more n u v hu hv j) (eq-eqb (u (j + n)) (v (j + n)) (hu (j + n) (omega arith) ∙ sym (hv (j + n) (omega arith))))
-    ∙ and_true (same_below n u v)
-  where
-    next : (j n : ℕ) → suc j + n ≡ suc (j + n)
-    next j n = omega arith
-
-    and_true : (b : Bool) → (b && true) ≡ b
-    and_true true = refl
-    and_true false = refl
 
 combined_below : (n : ℕ) (cs : List ℕ) (ps : List Word) → AllByRecursion (HasTagsBelow n) ps → HasTagsBelow n (combined cs ps)
 combined_below n [] ps h t l = refl

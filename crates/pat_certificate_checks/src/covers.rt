@@ -30,9 +30,14 @@ pub fn cover_shows(
 ) -> Result<bool, AllocError>
     requires well { WellFormed (program_view program.now) }
     requires values { IsTrue (values_fit (scope_of (program_view program.now) (derivation_view derivation.now))) }
-    requires left { IsTrue (is_formed (scope_of (program_view program.now) (derivation_view derivation.now)) interface (pattern_view left.now)) }
-    requires right { IsTrue (is_formed (scope_of (program_view program.now) (derivation_view derivation.now)) interface (pattern_view right.now)) }
-    ensures { let s = scope_of (program_view program.now) (derivation_view derivation.now) in IfOk result (λ yes. yes ≡ cover_shows_of (s.tags interface) (entries_view entries.now) (subst_of (pattern_of s) (pattern_view left.now)) (subst_of (pattern_of s) (pattern_view right.now))) }
+    requires left { IsTrue (is_formed (scope_of (program_view program.now) (derivation_view derivation.now)) interface
+        (pattern_view left.now)) }
+    requires right { IsTrue (is_formed (scope_of (program_view program.now) (derivation_view derivation.now)) interface
+        (pattern_view right.now)) }
+    ensures { let s = scope_of (program_view program.now) (derivation_view derivation.now) in IfOk result
+        (λ yes. yes
+        ≡ cover_shows_of (s.tags interface) (entries_view entries.now) (subst_of (pattern_of s) (pattern_view left.now))
+        (subst_of (pattern_of s) (pattern_view right.now))) }
 {
     tags_are_few(program, interface);
     match form_of(alloc, program, derivation, interface, left)? {

@@ -70,9 +70,12 @@ pub fn grid_shows(
 ) -> Result<bool, AllocError>
     requires well { WellFormed (program_view program.now) }
     requires values { IsTrue (values_fit (scope_of (program_view program.now) (derivation_view derivation.now))) }
-    requires left { IsTrue (is_formed (scope_of (program_view program.now) (derivation_view derivation.now)) interface (pattern_view left.now)) }
-    requires right { IsTrue (is_formed (scope_of (program_view program.now) (derivation_view derivation.now)) interface (pattern_view right.now)) }
-    ensures { let s = scope_of (program_view program.now) (derivation_view derivation.now) in IfOk result (λ yes. yes ≡ grid_shows_of s k (s.tags interface) (pattern_view left.now) (pattern_view right.now)) }
+    requires left { IsTrue (is_formed (scope_of (program_view program.now) (derivation_view derivation.now)) interface
+        (pattern_view left.now)) }
+    requires right { IsTrue (is_formed (scope_of (program_view program.now) (derivation_view derivation.now)) interface
+        (pattern_view right.now)) }
+    ensures { let s = scope_of (program_view program.now) (derivation_view derivation.now) in IfOk result
+        (λ yes. yes ≡ grid_shows_of s k (s.tags interface) (pattern_view left.now) (pattern_view right.now)) }
 {
     tags_are_few(program, interface);
     let tags = tag_count(program, interface) as u8;

@@ -37,9 +37,13 @@ pub fn cert_shows(
 ) -> Result<bool, AllocError>
     requires well { WellFormed (program_view program.now) }
     requires values { IsTrue (values_fit (scope_of (program_view program.now) (derivation_view derivation.now))) }
-    requires left { IsTrue (is_formed_of (scope_of (program_view program.now) (derivation_view derivation.now)) interface (pattern_view left.now)) }
-    requires right { IsTrue (is_formed_of (scope_of (program_view program.now) (derivation_view derivation.now)) interface (pattern_view right.now)) }
-    ensures { IfOk result (λ yes. yes ≡ cert_shows_of (scope_of (program_view program.now) (derivation_view derivation.now)) interface (pattern_view left.now) (pattern_view right.now) (cert_view cert.now)) }
+    requires left { IsTrue (is_formed_of (scope_of (program_view program.now) (derivation_view derivation.now)) interface
+        (pattern_view left.now)) }
+    requires right { IsTrue (is_formed_of (scope_of (program_view program.now) (derivation_view derivation.now)) interface
+        (pattern_view right.now)) }
+    ensures { IfOk result (λ yes. yes
+        ≡ cert_shows_of (scope_of (program_view program.now) (derivation_view derivation.now)) interface (pattern_view left.now)
+        (pattern_view right.now) (cert_view cert.now)) }
 {
     match cert {
         Cert::Cover(entries) => cover_shows(
@@ -220,7 +224,9 @@ pub fn are_shown(
     requires well { WellFormed (program_view program.now) }
     requires values { IsTrue (values_fit (scope_of (program_view program.now) (derivation_view derivation.now))) }
     requires plain { patterns_view plain.now ≡ all_plain (derivation_view derivation.now).vars }
-    ensures { IfOk result (λ yes. yes ≡ are_shown_of (scope_of (program_view program.now) (derivation_view derivation.now)) (flat_map inclusions_of (demands_view demands.now)) (certs_view certs.now)) }
+    ensures { IfOk result (λ yes. yes
+        ≡ are_shown_of (scope_of (program_view program.now) (derivation_view derivation.now))
+        (flat_map inclusions_of (demands_view demands.now)) (certs_view certs.now)) }
 {
     let mut rest = certs;
     for demand in demands {

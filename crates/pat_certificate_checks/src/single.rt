@@ -31,9 +31,13 @@ pub fn included(
     requires well { WellFormed (program_view program.now) }
     requires values { IsTrue (values_fit (scope_of (program_view program.now) (derivation_view derivation.now))) }
     requires plain { patterns_view plain.now ≡ all_plain (derivation_view derivation.now).vars }
-    requires left { IsTrue (is_formed (scope_of (program_view program.now) (derivation_view derivation.now)) interface (pattern_view left.now)) }
-    requires right { IsTrue (is_formed (scope_of (program_view program.now) (derivation_view derivation.now)) interface (pattern_view right.now)) }
-    ensures { IfOk result (λ yes. yes ≡ shows (scope_of (program_view program.now) (derivation_view derivation.now)) interface (pattern_view left.now) (pattern_view right.now) (option_map cert_view (option_copied cert.entry))) }
+    requires left { IsTrue (is_formed (scope_of (program_view program.now) (derivation_view derivation.now)) interface
+        (pattern_view left.now)) }
+    requires right { IsTrue (is_formed (scope_of (program_view program.now) (derivation_view derivation.now)) interface
+        (pattern_view right.now)) }
+    ensures { IfOk result (λ yes. yes
+        ≡ shows (scope_of (program_view program.now) (derivation_view derivation.now)) interface (pattern_view left.now)
+        (pattern_view right.now) (option_map cert_view (option_copied cert.entry))) }
 {
     let trivially = is_trivial(alloc, plain, left, right)?;
     match cert {

@@ -99,7 +99,9 @@ pub fn is_trivial(
 ) -> Result<bool, AllocError>
     requires left { IsTrue (has_values (length plain.now) (pattern_view left.now)) }
     requires right { IsTrue (has_values (length plain.now) (pattern_view right.now)) }
-    ensures { IfOk result (λ yes. (s : Scope) (i : ℕ) → patterns_view plain.now ≡ all_plain s.vars → IsTrue (is_formed s i (pattern_view left.now)) → IsTrue (is_formed s i (pattern_view right.now)) → yes ≡ is_trivial_of s (pattern_view left.now) (pattern_view right.now)) }
+    ensures { IfOk result (λ yes. (s : Scope) (i : ℕ) → patterns_view plain.now ≡ all_plain s.vars
+        → IsTrue (is_formed s i (pattern_view left.now)) → IsTrue (is_formed s i (pattern_view right.now))
+        → yes ≡ is_trivial_of s (pattern_view left.now) (pattern_view right.now)) }
 {
     if is_arm(left, right) && !is_zero_with(left, plain) {
         return Ok(true);

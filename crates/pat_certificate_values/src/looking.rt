@@ -66,7 +66,8 @@ pub fn is_formed(
     interface: u32,
     pattern: &Pattern,
 ) -> bool
-    ensures { result ≡ is_formed_of (scope_of (program_view program.now) (derivation_view derivation.now)) interface (pattern_view pattern.now) }
+    ensures { result
+        ≡ is_formed_of (scope_of (program_view program.now) (derivation_view derivation.now)) interface (pattern_view pattern.now) }
 {
     match pattern {
         Pattern::One => true,

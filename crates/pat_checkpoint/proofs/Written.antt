@@ -58,6 +58,7 @@ module _ (p : Program) (d : Derivation) (c : Config) (interfaces : List ℕ) (x 
         checked = certified.checked;
         shown = is;
         read = subst (λ t. ReadsAs p t x) (sym is) (reads p q resolved x (readable p x own));
+        showable = certified.showable;
       }
 
 -- what follows from two things that hold of a result

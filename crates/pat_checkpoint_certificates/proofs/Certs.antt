@@ -25,7 +25,7 @@ use Rattle.pat_checkpoint_laws.specs.Laws.{LinesFormed, NoneIsBroken}
 use Rattle.pat_checkpoint_laws.specs.resuming.Laws.{TypedCanBeWritten}
 use Rattle.pat_checkpoint_laws.proofs.LineCerts.{to_balances}
 use Rattle.pat_checkpoint_certificates.specs.Bounds.{bound_in}
-use Rattle.pat_checkpoint_certificates.specs.Certified.{IsCertified, IsUnshown}
+use Rattle.pat_checkpoint_certificates.specs.Certified.{AllCanBeShown, IsCertified, IsUnshown}
 use Rattle.pat_checkpoint_certificates.specs.Found.{IsUnshownFrom}
 use Rattle.pat_checkpoint_certificates.specs.Balances.{balances_need, AreCertsOf}
 use Rattle.pat_checkpoint_certificates.specs.declared.error.CertifyError.{CertifyError}
@@ -39,6 +39,10 @@ all_left P (x ∷ xs) ys a = (a.0, all_left P xs ys a.1)
 all_right : {A : Type 0} (P : A → Type 0) (xs ys : List A) → AllByRecursion P (xs ++ ys) → AllByRecursion P ys
 all_right P [] ys a = a
 all_right P (x ∷ xs) ys a = all_right P xs ys a.1
+
+all_both : {A : Type 0} (P : A → Type 0) (xs ys : List A) → AllByRecursion P xs → AllByRecursion P ys → AllByRecursion P (xs ++ ys)
+all_both P [] ys a b = b
+all_both P (x ∷ xs) ys a b = (a.0, all_both P xs ys a.1 b)
 
 nothing_shown : {A : Type 0} (s : Scope) (bound : ℕ → Option ℕ) (xs : List A) → AllByRecursion (CanBeShown s bound) (map (λ x. None) xs)
 nothing_shown s bound [] = tt
@@ -114,6 +118,12 @@ module _ (p : Program) (d : Derivation) (x : Checkpoint) where
         let middle = unshown_later s bound 3 next balances (messages_need ++ parts_need) e before a last in
         unshown_later s bound 1 3 (None ∷ None ∷ []) (balances ++ (messages_need ++ parts_need)) e refl (tt, (tt, tt)) middle
 
+    -- where balances and parts can be shown all lines can
+    pub lines_shown : AllByRecursion (CanBeShown (scope_of p d) bound) (balances_need p d x x.config.live) → AllByRecursion (CanBeShown (scope_of p d) bound) parts_need → AllByRecursion (CanBeShown (scope_of p d) bound) (lines_need p (written_typing p d) (interfaces_of x) x.config)
+    lines_shown balances parts =
+        let s = scope_of p d in
+        (tt, (tt, all_both (CanBeShown s bound) (balances_need p d x x.config.live) (messages_need ++ parts_need) balances (all_both (CanBeShown s bound) messages_need parts_need (nothing_shown s bound x.config.messages) parts)))
+
   -- ---- certificates
 
   pub certs_are : (ms : List (Option Cert)) (ks : List PartCerts) → length x.interfaces ≡ length x.config.live → each_certified (scope_of p d) (balances_need p d x x.config.live) ms ≡ true → parts_shown p d (record x { part_certs = ks }) ≡ true → AreCertsOf p d x ms ks
@@ -124,8 +134,8 @@ module _ (p : Program) (d : Derivation) (x : Checkpoint) where
       }
 
 module _ (p : Program) (d : Derivation) (c : Config) (interfaces : List ℕ) where
-  base : TypedCanBeWritten → NoneIsBroken → WellFormed p → IsValid p d → IsTyped p (typing_of p d) (interface_at c.live interfaces) c → (ms : List (Option Cert)) (ks : List PartCerts) → AreCertsOf p d (silent_checkpoint c interfaces [] []) ms ks → IsCertified p d c interfaces (silent_checkpoint c interfaces ms ks)
-  base written broken w v typed ms ks h =
+  base : TypedCanBeWritten → NoneIsBroken → WellFormed p → IsValid p d → IsTyped p (typing_of p d) (interface_at c.live interfaces) c → (ms : List (Option Cert)) (ks : List PartCerts) → AreCertsOf p d (silent_checkpoint c interfaces [] []) ms ks → AllCanBeShown p d (silent c) interfaces → IsCertified p d c interfaces (silent_checkpoint c interfaces ms ks)
+  base written broken w v typed ms ks h showable =
       let x = silent_checkpoint c interfaces ms ks in
       record {
         is = refl;
@@ -134,13 +144,14 @@ module _ (p : Program) (d : Derivation) (c : Config) (interfaces : List ℕ) whe
               valid = v;
               none = (broken p d x).1 (and_from (stands_typed p d x) (parts_shown p d x && balances_hold p d x) (written p d c interfaces ms ks w typed) (and_from (parts_shown p d x) (balances_hold p d x) h.threads h.balances));
             };
+        showable = showable;
       }
 
   -- a checkpoint without certificates, with certificates that show its inclusions
-  pub is_certified : TypedCanBeWritten → NoneIsBroken → WellFormed p → IsValid p d → IsTyped p (typing_of p d) (interface_at c.live interfaces) c → (x : Checkpoint) (ms : List (Option Cert)) (ks : List PartCerts) → x ≡ silent_checkpoint c interfaces [] [] → AreCertsOf p d x ms ks → IsCertified p d c interfaces (record { config = x.config; interfaces = x.interfaces; mailbox_certs = ms; part_certs = ks })
-  is_certified written broken w v typed x ms ks is h =
+  pub is_certified : TypedCanBeWritten → NoneIsBroken → WellFormed p → IsValid p d → IsTyped p (typing_of p d) (interface_at c.live interfaces) c → (x : Checkpoint) (ms : List (Option Cert)) (ks : List PartCerts) → x ≡ silent_checkpoint c interfaces [] [] → AreCertsOf p d x ms ks → AllCanBeShown p d x.config x.interfaces → IsCertified p d c interfaces (record { config = x.config; interfaces = x.interfaces; mailbox_certs = ms; part_certs = ks })
+  is_certified written broken w v typed x ms ks is h showable =
       subst (λ (z : Checkpoint). IsCertified p d c interfaces (record { config = z.config; interfaces = z.interfaces; mailbox_certs = ms; part_certs = ks })) (sym is)
-      (base written broken w v typed ms ks (subst (λ z. AreCertsOf p d z ms ks) is h))
+      (base written broken w v typed ms ks (subst (λ z. AreCertsOf p d z ms ks) is h) (subst (λ (z : Checkpoint). AllCanBeShown p d z.config z.interfaces) is showable))
 
   first_line : (e : CertifyError) → IsUnshownFrom (scope_of p d) (bound_in p) 1 (lines_need p (written_typing p d) (interface_at c.live interfaces) (silent c)) e → IsUnshown p d c interfaces e
   first_line NoMemory h = tt

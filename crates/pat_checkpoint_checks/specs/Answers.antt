@@ -2,8 +2,8 @@
 use Rattle.std.specs.Prelude.{◌≡◌, Option, Some, None, Result}
 use Rattle.std.specs.declared.result.Result.TheVariants.{Ok, Err}
 use Rattle.pat_checkpoint_spec.specs.Checked.{CheckRule, NumbersRule, KindsRule, DistinctRule, OrderRule, HolderRule, MessagesRule, BalanceRule}
-use Rattle.pat_checkpoint_checks.specs.declared.rules.CheckRule.{CheckRule as CodeRule}
-use Rattle.pat_checkpoint_checks.specs.declared.rules.CheckRule.TheVariants as rule
+use Rattle.pat_checkpoint_rules.specs.declared.CheckRule.{CheckRule as CodeRule}
+use Rattle.pat_checkpoint_rules.specs.declared.CheckRule.TheVariants as rule
 use Rattle.pat_checkpoint_checks.specs.declared.rules.CheckError.{CheckError}
 use Rattle.pat_checkpoint_checks.specs.declared.rules.CheckError.TheVariants as error
 

@@ -7,12 +7,13 @@ ghost use Rattle.pat_derivations.specs.Views.{derivation_view};
 ghost use Rattle.pat_checkpoint_data.specs.Views.{checkpoint_view};
 ghost use Rattle.pat_checkpoint_checks.specs.Answers.{Examined};
 
-use crate::rules::{CheckError, CheckRule};
+use crate::rules::CheckError;
 use pat_certificate_checks::plain_values;
 use pat_checkpoint_balances::{balances_hold, holders_hold, messages_hold, sides_of};
 use pat_checkpoint_data::Checkpoint;
 use pat_checkpoint_numbers::{mailboxes_differ, numbers_hold};
 use pat_checkpoint_parts::{kinds_hold, order_holds};
+use pat_checkpoint_rules::CheckRule;
 use pat_core::Program;
 use pat_derivations::Derivation;
 use std::alloc::Global;

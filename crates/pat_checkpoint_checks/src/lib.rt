@@ -5,4 +5,4 @@ mod examining;
 mod rules;
 
 pub use examining::examine;
-pub use rules::{CheckError, CheckRule};
+pub use rules::CheckError;

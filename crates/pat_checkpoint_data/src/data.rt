@@ -46,6 +46,7 @@ impl Checkpoint {
     }
 }
 
+// By hand, field by field: a derived drop is proved anew in each crate that may drop the value.
 impl Drop for Checkpoint {
     fn drop(self) {
         let Checkpoint {

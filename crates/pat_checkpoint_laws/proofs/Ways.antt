@@ -1,117 +1,53 @@
 -- A reader goes one way along a text, up to its end or up to a line that isn't read.
 use Rattle.std.proofs.Common.{◌≡◌, ℕ, zero, suc, ◌+◌, ◌-◌, ◌<◌, ◌≤◌, ◌⊎◌, inl, inr, Bool, true, false, List, [], ◌∷◌, length, refl, sym, ap, ◌∙◌, subst, arith}
-use Rattle.std.specs.Prelude.{Option, Some, None, option_map, option_and_then, nat_lt, bytes_eq}
-use Rattle.std.proofs.lemmas.Bool.{ltb-true, ltb-false}
+use Rattle.std.specs.Prelude.{Option, Some, None, option_map, option_and_then, bytes_eq}
 use Rattle.std.proofs.lemmas.List.{length-append}
 use Rattle.std.proofs.lemmas.Slice.Eq.{bytes_eq-Decides}
 use Rattle.pat_semantics_spec.specs.Programs.{Program}
-use Rattle.pat_texts_spec.proofs.Choices.{made, made_next}
 use Rattle.pat_texts_spec.specs.Joined.{cut}
-use Rattle.pat_texts_spec.proofs.Cutting.{CutInPieces, cut_pieces}
+use Rattle.pat_texts_spec.proofs.Ways.{cut_shorter, with_rest, on_line, step, after, least_left, same_end}
 use Rattle.pat_checkpoint_spec.specs.text.Lines.{Lines}
 use Rattle.pat_checkpoint_spec.specs.text.CheckpointText.{marker, lines_text}
 use Rattle.pat_checkpoint_spec.specs.text.LineReading.{read_next, with_line}
 use Rattle.pat_checkpoint_spec.specs.text.Reading.{ReadsTo, first, another, NoMarker, NoNext, NoLine, Unread, no_marker, no_next, no_line}
 use Rattle.pat_checkpoint_laws.proofs.TextSpelled.{reads_text}
 
-cut_shorter : (c : ℕ) (bs : List ℕ) (r : List ℕ × List ℕ) → cut c bs ≡ Some r → length r.1 < length bs
-cut_shorter c bs r e = (subst (CutInPieces c bs) e (cut_pieces c bs)).1
-
--- what is read, and what is left
-abbrev with_rest : List ℕ → Lines → Lines × List ℕ
-with_rest rest x = (x, rest)
-
--- a line more, and where the first two lines are behind
-abbrev on_line : Program → Lines → List ℕ × List ℕ → Option (Lines × List ℕ)
-on_line p x r = option_map (with_rest r.1) (with_line p x r.0)
-
-abbrev step : Program → Lines × List ℕ → Option (Lines × List ℕ)
-step p s = option_and_then (on_line p s.0) (cut 10 s.1)
-
+-- what the second line reads as
 abbrev on_next : List ℕ × List ℕ → Option (Lines × List ℕ)
 on_next r = option_map (with_rest r.1) (read_next r.0)
 
-abbrev begun : List ℕ × List ℕ → Option (Lines × List ℕ)
-begun r = option_and_then on_next (cut 10 r.1)
+abbrev behind_first : List ℕ × List ℕ → Option (Lines × List ℕ)
+behind_first r = option_and_then on_next (cut 10 r.1)
 
--- what is read and what is left after so many lines
-abbrev after : Program → List ℕ → ℕ → Option (Lines × List ℕ)
-after p text zero = option_and_then begun (cut 10 text)
-after p text (suc m) = option_and_then (step p) (after p text m)
+-- where the first two lines are behind
+abbrev begun : List ℕ → Option (Lines × List ℕ)
+begun text = option_and_then behind_first (cut 10 text)
 
 record Stands (p : Program) (text : List ℕ) (x : Lines) (rest : List ℕ) : Type 0 where
   at : ℕ
-  is : after p text at ≡ Some (x, rest)
+  is : after (with_line p) (begun text) at ≡ Some (x, rest)
 
 stands : (p : Program) (text : List ℕ) (x : Lines) (rest : List ℕ) → ReadsTo p text x rest → Stands p text x rest
-stands p text _ _ (first {body = body} {line = own} {rest = rest} {x = x} c d e) = record { at = zero; is = ap (option_and_then begun) c ∙ ap (option_and_then on_next) d ∙ ap (option_map (with_rest rest)) e }
+stands p text _ _ (first {body = body} {line = own} {rest = rest} {x = x} c d e) = record { at = zero; is = ap (option_and_then behind_first) c ∙ ap (option_and_then on_next) d ∙ ap (option_map (with_rest rest)) e }
 stands p text _ _ (another {x = x} {y = y} {rest = rest} {line = own} {more = more} r c h) =
     let s = stands p text x rest r in
     record {
       at = suc s.at;
-      is = ap (option_and_then (step p)) s.is ∙ ap (option_and_then (on_line p x)) c ∙ ap (option_map (with_rest more)) h;
+      is = ap (option_and_then (step (with_line p))) s.is ∙ ap (option_and_then (on_line (with_line p) x)) c ∙ ap (option_map (with_rest more)) h;
     }
 
--- where it ends, it stays ended
-ended : (p : Program) (text : List ℕ) (m : ℕ) → after p text m ≡ None → (k : ℕ) → after p text (k + m) ≡ None
-ended p text m e zero = let same : 0 + m ≡ m = omega arith in ap (after p text) same ∙ e
-ended p text m e (suc k) = let same : suc k + m ≡ suc (k + m) = omega arith in ap (after p text) same ∙ ap (option_and_then (step p)) (ended p text m e k)
-
--- what is left gets less
-shorter : (p : Program) (x : Lines × List ℕ) (y : Lines) (s : List ℕ) → step p x ≡ Some (y, s) → length s ≤ length x.1
-shorter p x y s h =
-    let m = made_next (on_line p x.0) (cut 10 x.1) (y, s) h in
-    let n = made (with_rest m.from.1) (with_line p x.0 m.from.0) (y, s) m.is in
-    let less : length m.from.1 < length x.1 = cut_shorter 10 x.1 m.from m.there in
-    let same : m.from.1 ≡ s = ap (λ y. y.1) n.is in
-    omega (arith, less, ap length same)
-
-shrinks : (p : Program) (text : List ℕ) (m : ℕ) (x : Lines) (r : List ℕ) → after p text m ≡ Some (x, r) → (k : ℕ) (y : Lines × List ℕ) → after p text (k + m) ≡ Some y → length y.1 ≤ length r
-shrinks p text m x r a zero y b =
-    let same : 0 + m ≡ m = omega arith in
-    let own : Lines × List ℕ = with_rest r x in
-    let both : Some own ≡ Some y = sym a ∙ ap (after p text) (sym same) ∙ b in
-    let one : own ≡ y = cc in
-    omega (arith, ap (λ y. length y.1) one)
-shrinks p text m x r a (suc k) y b =
-    let same : suc k + m ≡ suc (k + m) = omega arith in
-    let n = made_next (step p) (after p text (k + m)) y (ap (after p text) (sym same) ∙ b) in
-    let deeper = shrinks p text m x r a k n.from n.there in
-    omega (arith, deeper, shorter p n.from y.0 y.1 n.is)
-
--- nothing is read behind the end
-past : (p : Program) (text : List ℕ) (j k : ℕ) → j < k → (s x : Lines × List ℕ) → after p text j ≡ Some s → step p s ≡ None → after p text k ≡ Some x → ⊥
-past p text j k l s x a none b =
-    let same : (k - suc j) + suc j ≡ k = omega (arith, l) in
-    let e : after p text (suc j) ≡ None = ap (option_and_then (step p)) a ∙ none in
-    let gone : after p text k ≡ None = ap (after p text) (sym same) ∙ ended p text (suc j) e (k - suc j) in
-    let both : None ≡ Some x = sym gone ∙ b in
-    absurd cc
-
 -- two places where nothing more is read are one
-same_end : (p : Program) (text : List ℕ) (x y : Lines) (r s : List ℕ) → ReadsTo p text x r → ReadsTo p text y s → step p (x, r) ≡ None → step p (y, s) ≡ None → with_rest r x ≡ with_rest s y
-same_end p text x y r s a b no_more no_other = by (stands p text x r a) (stands p text y s b)
+one_end : (p : Program) (text : List ℕ) (x y : Lines) (r s : List ℕ) → ReadsTo p text x r → ReadsTo p text y s → step (with_line p) (x, r) ≡ None → step (with_line p) (y, s) ≡ None → with_rest r x ≡ with_rest s y
+one_end p text x y r s a b no_more no_other = by (stands p text x r a) (stands p text y s b)
   where
     by : Stands p text x r → Stands p text y s → with_rest r x ≡ with_rest s y
-    by j k = first_test (nat_lt j.at k.at) refl
-      where
-        second_test : (t : Bool) → k.at ≤ j.at → nat_lt k.at j.at ≡ t → with_rest r x ≡ with_rest s y
-        second_test true l t = absurd (past p text k.at j.at (ltb-true k.at j.at t) (y, s) (x, r) k.is no_other j.is)
-        second_test false l t =
-            let m = ltb-false k.at j.at t in
-            let same : j.at ≡ k.at = omega (arith, l, m) in
-            let both : Some (with_rest r x) ≡ Some (with_rest s y) = sym j.is ∙ ap (after p text) same ∙ k.is in
-            cc
-
-        first_test : (t : Bool) → nat_lt j.at k.at ≡ t → with_rest r x ≡ with_rest s y
-        first_test true t = absurd (past p text j.at k.at (ltb-true j.at k.at t) (x, r) (y, s) j.is no_more k.is)
-        first_test false t = second_test (nat_lt k.at j.at) (ltb-false j.at k.at t) refl
+    by j k = same_end (with_line p) (begun text) j.at k.at (x, r) (y, s) j.is no_more k.is no_other
 
 -- a text is read as the same lines at most
 pub reads_one : (p : Program) (text : List ℕ) (x y : Lines) → ReadsTo p text x [] → ReadsTo p text y [] → x ≡ y
-reads_one p text x y a b = ap (λ z. z.0) (same_end p text x y [] [] a b refl refl)
+reads_one p text x y a b = ap (λ z. z.0) (one_end p text x y [] [] a b refl refl)
 
-no_step : (p : Program) (x : Lines) (o : Option (List ℕ × List ℕ)) → NoLine p x o → option_and_then (on_line p x) o ≡ None
+no_step : (p : Program) (x : Lines) (o : Option (List ℕ × List ℕ)) → NoLine p x o → option_and_then (on_line (with_line p) x) o ≡ None
 no_step p x None h = refl
 no_step p x (Some r) h = ap (option_map (with_rest r.1)) h
 
@@ -159,14 +95,14 @@ unread_is_one p text _ _ (no_next {body = body} c k none) (no_line {x = x} {b = 
 unread_is_one p text _ _ (no_line {x = x} {b = b} {rest = rest} r k none) (no_marker h) = let g = began p text x (b ∷ rest) r in absurd (not_marked text h g.body g.marked)
 unread_is_one p text _ _ (no_line {x = x} {b = b} {rest = rest} r k none) (no_next {body = body} c l others) = absurd (not_begun text body c others (began p text x (b ∷ rest) r))
 unread_is_one p text _ _ (no_line {x = x} {b = b} {rest = rest} {offset = at} r k none) (no_line {x = y} {b = c} {rest = left} {offset = other} s l others) =
-    let same = same_end p text x y (b ∷ rest) (c ∷ left) r s (no_step p x (cut 10 (b ∷ rest)) none) (no_step p y (cut 10 (c ∷ left)) others) in
+    let same = one_end p text x y (b ∷ rest) (c ∷ left) r s (no_step p x (cut 10 (b ∷ rest)) none) (no_step p y (cut 10 (c ∷ left)) others) in
     omega (arith, ap (λ z. length z.1) same, k, l)
 
 pub unread_is_not_read : (p : Program) (text : List ℕ) (offset : ℕ) (y : Lines) → Unread p text offset → ReadsTo p text y [] → ⊥
 unread_is_not_read p text _ y (no_marker h) s = let g = began p text y [] s in not_marked text h g.body g.marked
 unread_is_not_read p text _ y (no_next {body = body} c k none) s = not_begun text body c none (began p text y [] s)
 unread_is_not_read p text _ y (no_line {x = x} {b = b} {rest = rest} r k none) s =
-    let same = same_end p text x y (b ∷ rest) [] r s (no_step p x (cut 10 (b ∷ rest)) none) refl in
+    let same = one_end p text x y (b ∷ rest) [] r s (no_step p x (cut 10 (b ∷ rest)) none) refl in
     omega (arith, ap (λ z. length z.1) same)
 
 -- what is read of a text ends where the first line that isn't read begins, or before it
@@ -176,16 +112,10 @@ reads_before p text _ (no_next {body = body} c k none) y rest s = absurd (not_be
 reads_before p text _ (no_line {x = x} {b = b} {rest = left} {offset = offset} r at none) y rest s = by (stands p text x (b ∷ left) r) (stands p text y rest s)
   where
     by : Stands p text x (b ∷ left) → Stands p text y rest → length (lines_text p y) ≤ offset
-    by j k = test (nat_lt j.at k.at) refl
-      where
-        test : (t : Bool) → nat_lt j.at k.at ≡ t → length (lines_text p y) ≤ offset
-        test true t = absurd (past p text j.at k.at (ltb-true j.at k.at t) (x, b ∷ left) (y, rest) j.is (no_step p x (cut 10 (b ∷ left)) none) k.is)
-        test false t =
-            let l = ltb-false j.at k.at t in
-            let same : (j.at - k.at) + k.at ≡ j.at = omega (arith, l) in
-            let less = shrinks p text k.at y rest k.is (j.at - k.at) (x, b ∷ left) (ap (after p text) same ∙ j.is) in
-            let whole : length text ≡ length (lines_text p y) + length rest = ap length (reads_text p text y rest s).0 ∙ length-append (lines_text p y) rest in
-            omega (arith, less, whole, at)
+    by j k =
+        let less = least_left (with_line p) (begun text) j.at k.at (x, b ∷ left) (y, rest) j.is (no_step p x (cut 10 (b ∷ left)) none) k.is in
+        let whole : length text ≡ length (lines_text p y) + length rest = ap length (reads_text p text y rest s).0 ∙ length-append (lines_text p y) rest in
+        omega (arith, less, whole, at)
 
 -- ---- each text is read up to its end, or up to a line that isn't read
 

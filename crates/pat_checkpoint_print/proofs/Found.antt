@@ -9,6 +9,7 @@ use Rattle.pat_semantics_spec.specs.Orders.{AscendsFrom}
 use Rattle.pat_checkpoint_spec.specs.text.Lines.{mailbox_lines}
 use Rattle.pat_checkpoint_spec.specs.text.CheckpointText.{interface_in}
 
+-- the same two lemmas are in `pat_machine_indexes`, of threads; neither crate stands on the other
 above : (n : ℕ) (live : List ℕ) (i d : ℕ) → AscendsFrom n live → i < length live → n ≤ get_or live i d
 above n [] i d a h = omega arith
 above n (x ∷ xs) zero d a h = a.0

@@ -1,4 +1,3 @@
-mod Places
 mod Turns
 mod Courses
 mod Nexts

@@ -16,7 +16,7 @@ use Rattle.pat_reduce.specs.threads.ThreadViews.{thread_view}
 use Rattle.pat_reduce.specs.Views.{config_view, threads_view}
 use Rattle.pat_checkpoint_run.specs.declared.next.Turn.{Turn}
 use Rattle.pat_checkpoint_run.specs.Courses.{TakesLocals}
-use Rattle.pat_checkpoint_run.proofs.Places.{Threads, stands_there}
+use Rattle.pat_reduce.proofs.Ascending.{Threads, stands_there}
 
 module _ (old : CodeConfig) (turn : Turn) (e : ℕ × ThreadState) (s : ThreadState) (place : IsPlace old.threads turn.thread turn.place) (there : slice_get old.threads turn.place ≡ Some e) where
   abbrev after : Threads

@@ -49,6 +49,7 @@ impl Resumed {
     }
 }
 
+// By hand, field by field: a derived drop is proved anew in each crate that may drop the value.
 impl Drop for Resumed {
     fn drop(self) {
         let Resumed {

@@ -15,6 +15,7 @@ use pat_derivation_lines::Unread;
 use pat_texts::{TextError, cut};
 use std::alloc::Global;
 
+// The marker stands as a literal, since the contract spells it; so each kind of text has a function for its own.
 /// What stands behind the first line, if it is the one that checkpoints begin with.
 fn behind_marker(text: &[u8]) -> Option<&[u8]>
     ensures { FirstGives result text.now }

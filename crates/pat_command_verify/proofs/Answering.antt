@@ -57,6 +57,8 @@ judged_answered p from text d (Done a) read h = go a.status h
     by_verdict (verdict.BadText o) k = absurd k
     by_verdict (verdict.RefusedAt i) k = absurd k
     by_verdict verdict.TooManyEntries k = absurd k
+    by_verdict (verdict.Unshown line) k = absurd k
+    by_verdict (verdict.BadCheckpoint rule) k = absurd k
     by_verdict (verdict.Unaccepted reason) k = absurd k
 
     go : (s : Status) → AnswersJudged p d a.text.items s → AnswersText p from text a.text.items s

@@ -1,5 +1,4 @@
 mod Answering
 mod Once
-mod ReadingOnce
 -- for the crates above
 pub mod Statuses

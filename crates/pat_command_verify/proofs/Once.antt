@@ -17,7 +17,7 @@ use Rattle.pat_front.specs.declared.verdict.Verdict.{Verdict}
 use Rattle.pat_front.specs.declared.verdict.Verdict.TheVariants as verdict
 use Rattle.pat_command_verify.specs.Allowed.{IsVerified, IsVerifyRefusal, RefusesText, Unaccepted}
 use Rattle.pat_command_verify.specs.Answers.{HasValidDerivation, OneAnswer}
-use Rattle.pat_command_verify.proofs.ReadingOnce.{read_or_not, one_unread}
+use Rattle.pat_deriv.proofs.ReadingOnce.{read_or_not, one_unread}
 
 rule_back : validity.Rule → Rule
 rule_back validity.ShapeRule = rule.Shape
@@ -64,6 +64,8 @@ module _ (none_bad : ValidIsNoneBad) (one_reading : ReadingIsOne) (bytes : List 
   not_accepted p from text (verdict.Resolve k s) d read valid u = absurd u
   not_accepted p from text (verdict.RefusedAt i) d read valid u = absurd u
   not_accepted p from text verdict.TooManyEntries d read valid u = absurd u
+  not_accepted p from text (verdict.Unshown line) d read valid u = absurd u
+  not_accepted p from text (verdict.BadCheckpoint r) d read valid u = absurd u
   not_accepted p from text (verdict.Unaccepted reason) d read valid u = absurd u
 
   -- what isn't accepted is a line that isn't read, or a derivation that is bad
@@ -81,6 +83,8 @@ module _ (none_bad : ValidIsNoneBad) (one_reading : ReadingIsOne) (bytes : List 
   why p from text (verdict.Resolve k s) u = absurd u
   why p from text (verdict.RefusedAt i) u = absurd u
   why p from text verdict.TooManyEntries u = absurd u
+  why p from text (verdict.Unshown line) u = absurd u
+  why p from text (verdict.BadCheckpoint r) u = absurd u
   why p from text (verdict.Unaccepted reason) u = absurd u
 
   one_why : (p : Program) (from : ℕ) (text : List ℕ) (v w : Verdict) → Why p from text v → Why p from text w → v ≡ w

@@ -19,10 +19,11 @@ use Rattle.pat_inclusion_spec.specs.bounds.Numbers.{points_in, number_of, point_
 use Rattle.pat_inclusion_spec.specs.bounds.Searches.{Search, InsideAnswer, FoundAnswer, LargeAnswer, Refutes, IsAnswer}
 use Rattle.pat_inclusion_laws.specs.bounds.Laws.{SearchLaw}
 use Rattle.pat_inclusion_laws.proofs.NumberLaws.{number_small, point_number, point_fits}
-use Rattle.pat_inclusion_laws.proofs.LayoutLaws.{laid_stands, laid_goes, goes_both, kept_in, all_stand, symbols_fit, all_fit, laid_fit}
+use Rattle.pat_inclusion_laws.proofs.LayoutLaws.{Goes, laid_stands, laid_goes, goes_both, kept_in, all_stand, symbols_fit, all_fit, laid_fit}
 use Rattle.pat_inclusion_laws.proofs.CutSetLaws.{in_by_cut}
 use Rattle.pat_inclusion_laws.proofs.TableLaws.{shown_point, entry_least}
-use Rattle.pat_inclusion_laws.proofs.ClosedLaws.{flat_closed, known_right}
+use Rattle.pat_words_laws.proofs.ClosedPatterns.{flat_closed}
+use Rattle.pat_inclusion_laws.proofs.ClosedLaws.{known_right}
 use Rattle.pat_inclusion_laws.proofs.SearchLaws.{flat_tree, tree_flat}
 use Rattle.pat_grid_points.specs.symbols.Views.{symbols_view}
 use Rattle.pat_grid.specs.declared.tables.board.Board.{Board}
@@ -155,20 +156,34 @@ search_board b system left right fits tags tl tr points limit given symbols = re
   given = subst (AreGrids b.k b.tags) (sym given) (λ j grid e. absurd (cc));
 }
 
-pub search_right : (b : Board) (system : List Pat) (left right : Pat) (entries slice : List ℕ) (s r : ℕ) (a : Search) → SearchLaw → IsDone (setting_of b) (table_of (setting_of b) entries) → is_flat right ≡ true → degree_of right < b.k → symbols_view b.symbols.now ≡ with_both system left right → b.roots.now ≡ roots_all [] system → s ≡ last_of (with_left system left) → r ≡ last_of (with_both system left right) → IsReading b slice s r a → slice ≡ entries → IsAnswer b.limit (bounds_of system) left right a
-search_right b system left right entries slice s r a law done fr dr symbols roots is_s is_r reading same =
-    let g = setting_of b in
-    let lower = bounds_of system in
-    let both = with_both system left right in
-    let more = laid_goes LowerSymbol (with_left system left) right in
-    let goes = goes_both (laid_all [] system) (with_left system left) both (laid_goes LowerSymbol (laid_all [] system) left) more in
-    let flat : IsFlatOf lower g.flat =
-    λ k. subst (λ ys. RootStands ys (lower k) (slice_get b.roots.now k)) (sym symbols)
-    (subst (λ rs. RootStands both (lower k) (slice_get rs k)) (sym roots) (all_stand [] system both goes k)) in
-    let sl : Stands g.flat.symbols LowerSymbol left s =
-    subst (λ ys. Stands ys LowerSymbol left s) (sym symbols)
-    (subst (Stands both LowerSymbol left) (sym is_s) (kept_in (with_left system left) both LowerSymbol left (last_of (with_left system left)) more (laid_stands LowerSymbol (laid_all [] system) left))) in
-    let sr : Stands g.flat.symbols LowerSymbol right r =
-    subst (λ ys. Stands ys LowerSymbol right r) (sym symbols)
-    (subst (Stands both LowerSymbol right) (sym is_r) (laid_stands LowerSymbol (with_left system left) right)) in
-    read_right g entries lower left right s r law done flat sl sr fr dr a (subst (λ es. IsRead g es s r a) same reading.read)
+module _ (b : Board) (system : List Pat) (left right : Pat) (entries slice : List ℕ) (s r : ℕ) (a : Search) (law : SearchLaw) (done : IsDone (setting_of b) (table_of (setting_of b) entries)) (fr : is_flat right ≡ true) (dr : degree_of right < b.k) (symbols : symbols_view b.symbols.now ≡ with_both system left right) (roots : b.roots.now ≡ roots_all [] system) (is_s : s ≡ last_of (with_left system left)) (is_r : r ≡ last_of (with_both system left right)) (reading : IsReading b slice s r a) (same : slice ≡ entries) where
+  abbrev both : List Symbol
+  both = with_both system left right
+
+  more : Goes (with_left system left) both
+  more = laid_goes LowerSymbol (with_left system left) right
+
+  laid_flat : IsFlatOf (bounds_of system) (setting_of b).flat
+  laid_flat k =
+      subst (λ ys. RootStands ys (bounds_of system k) (slice_get b.roots.now k)) (sym symbols)
+      (subst (λ rs. RootStands both (bounds_of system k) (slice_get rs k)) (sym roots)
+      (all_stand [] system both (goes_both (laid_all [] system) (with_left system left) both (laid_goes LowerSymbol (laid_all [] system) left) more) k))
+
+  left_stands : Stands (setting_of b).flat.symbols LowerSymbol left s
+  left_stands =
+      subst (λ ys. Stands ys LowerSymbol left s) (sym symbols)
+      (subst (Stands both LowerSymbol left) (sym is_s) (kept_in (with_left system left) both LowerSymbol left (last_of (with_left system left)) more (laid_stands LowerSymbol (laid_all [] system) left)))
+
+  right_stands : Stands (setting_of b).flat.symbols LowerSymbol right r
+  right_stands =
+      subst (λ ys. Stands ys LowerSymbol right r) (sym symbols)
+      (subst (Stands both LowerSymbol right) (sym is_r) (laid_stands LowerSymbol (with_left system left) right))
+
+  read : IsRead (setting_of b) entries s r a
+  read = subst (λ es. IsRead (setting_of b) es s r a) same reading.read
+
+  pub search_right : IsAnswer b.limit (bounds_of system) left right a
+  search_right = read_right (setting_of b) entries (bounds_of system) left right s r law done laid_flat left_stands right_stands fr dr a read
+
+  pub search_least : IsLeastAnswer (bounds_of system) left right a
+  search_least = read_least (setting_of b) entries (bounds_of system) left right s r law done laid_flat left_stands right_stands fr dr a read

@@ -8,6 +8,7 @@ ghost use Rattle.pat_inclusion_spec.specs.Points.{grid_fits};
 ghost use Rattle.pat_inclusion_spec.specs.bounds.Trees.{bounds_of};
 ghost use Rattle.pat_inclusion_spec.specs.bounds.Searches.{IsAnswer};
 ghost use Rattle.pat_witnesses.specs.Views.{search_view};
+ghost use Rattle.pat_counterexample_search.specs.Least.{IsLeastAnswer};
 ghost use Rattle.pat_limits.specs.Limits.{most_tree_nodes};
 
 use crate::reading::read_answer;
@@ -24,7 +25,7 @@ use std::alloc::{AllocError, Global};
 /// the system: those past its end have none. The right pattern is flat with a degree below `k`, and the tags of all patterns are
 /// among the first `tags`; there are 65,536 points at most. The answer is `Inside` exactly where each derivable word of the
 /// left is one of the right, `Large` exactly where each tree that refutes has more than 4,096 nodes, and else a refutation
-/// of 4,096 nodes at most.
+/// of 4,096 nodes at most; no tree that refutes, whichever word it shows, has fewer (`least`).
 pub fn refute(
     alloc: Global,
     system: &[Pattern],
@@ -39,7 +40,8 @@ pub fn refute(
     requires right { IsTrue (tags_below tags (pattern_view right.now)) }
     requires flat { IsTrue (is_flat (pattern_view right.now)) }
     requires degree { degree_of (pattern_view right.now) < k }
-    ensures { IfOk result (λ answer. IsAnswer most_tree_nodes (bounds_of (patterns_view system.now)) (pattern_view left.now) (pattern_view right.now) (search_view answer)) }
+    ensures answer { IfOk result (λ answer. IsAnswer most_tree_nodes (bounds_of (patterns_view system.now)) (pattern_view left.now) (pattern_view right.now) (search_view answer)) }
+    ensures least { IfOk result (λ answer. IsLeastAnswer (bounds_of (patterns_view system.now)) (pattern_view left.now) (pattern_view right.now) (search_view answer)) }
 {
     closed_laws();
     let mut symbols = Sequence::new(alloc);

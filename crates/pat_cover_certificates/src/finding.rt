@@ -24,7 +24,8 @@ pub fn find_cover(
 ) -> Result<Option<Sequence<CoverEntry>>, AllocError>
     requires { length right.now < 2 ^ 32 }
     ensures exact { IfOk result (λ found. IsSome found ↔ IsDirectlyCovered (sets_view left.now) (sets_view right.now)) }
-    ensures checks { IfOk result (λ found. IfSome found (λ cover. is_cover most_tags (sets_view left.now) (sets_view right.now) (entries_view cover) ≡ true)) }
+    ensures checks { IfOk result (λ found. IfSome found (λ cover. is_cover most_tags (sets_view left.now) (sets_view right.now)
+        (entries_view cover) ≡ true)) }
     ensures first { IfOk result (λ found. FindsCover most_tags (sets_view left.now) (sets_view right.now) (cover_if found)) }
 {
     sets_are_few(left);

@@ -16,7 +16,8 @@ use Rattle.pat_derivation_spec.specs.Demands.{Demand}
 use Rattle.pat_derivation_spec.specs.Conditions.{then_others, but_not, passes, clause_demands, free_demands, bodies_demand, guard_demands}
 use Rattle.pat_derivation_spec.specs.Rules.{gives, gives_too, has_mailbox_payload, names_only, clause_keeps_apart}
 use Rattle.pat_derivation_spec.specs.Truth.{HoldsAt, HoldsThroughout}
-use Rattle.pat_derivation_laws.proofs.Filled.{filled_closed, residual_closed}
+use Rattle.pat_words_laws.proofs.ClosedPatterns.{residual_closed}
+use Rattle.pat_derivation_laws.proofs.Filled.{filled_closed}
 use Rattle.pat_derivation_laws.proofs.DemandsMet.{put_in, Met}
 use Rattle.pat_derivation_laws.proofs.Unbroken.{shaped}
 use Rattle.pat_derivation_laws.proofs.Names.{not_but, not_named, pass_all, without_none, clause_none, put_all, put_type, put_without, put_payloads}

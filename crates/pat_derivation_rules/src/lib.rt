@@ -4,6 +4,7 @@
 ghost use Rattle.std.specs.Prelude.{◌≡◌};
 ghost use Rattle.pat_derivation_rules.specs.Names.{rule_name};
 
+// Rules of checkpoints are an enumeration of their own: each text breaks the one or the other.
 /// A rule of derivations. `Shape` is looked at first, and `Cert` last.
 #[derive(Clone, Copy, Debug, PartialEq, Eq)]
 pub enum Rule {

@@ -11,7 +11,7 @@ use Rattle.pat_infer_spec.specs.Constraints.{Constraint}
 use Rattle.pat_infer_spec.specs.Walk.{inferred}
 use Rattle.pat_infer_spec.specs.Solutions.{MeetsUnder, SendersHaveWords, typing_found}
 use Rattle.pat_infer_spec.specs.Laws.{SolutionTypes}
-use Rattle.pat_infer_laws.proofs.Replaced.{values_of}
+use Rattle.pat_inclusion_laws.proofs.Replaced.{values_of}
 use Rattle.pat_infer_laws.proofs.Gathering.{all_map}
 use Rattle.pat_infer_laws.proofs.BothLaws.{Holds}
 use Rattle.pat_infer_laws.proofs.Lossless.{holds_meets}

@@ -30,7 +30,8 @@ pub fn refused_derivations()
     ensures one_message_cert { RejectedAt one_message (with_line one_message_derived 3 (line unit (sends 0 0 One ∷ []) [])) 2 CertRule }
     ensures one_line_more { RejectedAt one_message (with_more one_message_derived (line unit [] [])) 7 ShapeRule }
     ensures variable_of_nothing { RejectedAt one_message (with_value one_message_derived Zero) 1 CertRule }
-    ensures second_class { RejectedAt one_message (with_line one_message_derived 4 (line unit (receives_second 0 0 (Tag 0) ∷ []) [])) 4 UseRule }
+    ensures second_class { RejectedAt one_message
+        (with_line one_message_derived 4 (line unit (receives_second 0 0 (Tag 0) ∷ []) [])) 4 UseRule }
     ensures pairs_wrong { RejectedAt (handing_on pairs apart) (handed_on apart wrong_cover) 0 CertRule }
     ensures pairs_left_over { RejectedAt (handing_on pairs pairs) pairs_again 0 CertRule }
     ensures grid_one { RejectedAt (one_tag any some_or_none) (handed_on some_or_none (GridCert 1)) 0 CertRule }
@@ -45,20 +46,24 @@ pub fn refused_derivations()
     ensures sends_nothing { RejectedAt sends_on (sends_on_derived Zero) 0 EmptyRule }
     ensures no_value { RejectedAt one_message (derivation [] one_message_derived.lines) 1 ShapeRule }
     ensures missing_line { RejectedAt one_message (derivation one_message_derived.vars []) 0 ShapeRule }
-    ensures payload_returnable { RejectedAt delegation (with_line delegation_derived 4 (line unit (receives 1 0 any ∷ receives 2 1 One ∷ []) [])) 3 UseRule }
+    ensures payload_returnable { RejectedAt delegation
+        (with_line delegation_derived 4 (line unit (receives 1 0 any ∷ receives 2 1 One ∷ []) [])) 3 UseRule }
     ensures foreign_tag { RejectedAt one_message (with_line one_message_derived 3 (line unit (sends 0 0 (Tag 1) ∷ []) [])) 2 CertRule }
     ensures cut_off { RejectedAt sends_twice (sends_twice_cut (sends 0 0 (Prod (Tag 0) (Tag 0)) ∷ [])) 2 ShapeRule }
     ensures cut_off_unnamed { RejectedAt sends_twice (sends_twice_cut []) 0 UseRule }
-    ensures name_in_bound_part { RejectedAt one_message (with_line one_message_derived 1 (line (gives_receiving 0 (Var 1)) (sends 0 0 One ∷ []) [])) 1 ShapeRule }
+    ensures name_in_bound_part { RejectedAt one_message
+        (with_line one_message_derived 1 (line (gives_receiving 0 (Var 1)) (sends 0 0 One ∷ []) [])) 1 ShapeRule }
     ensures variable_of_another_interface { RejectedAt delegation (with_second delegation_derived (variable 0 (Tag 0))) 3 CertRule }
-    ensures out_of_order { RejectedAt delegation (with_line delegation_derived 4 (line unit (receives 2 1 One ∷ receives_second 1 0 any ∷ []) [])) 4 ShapeRule }
+    ensures out_of_order { RejectedAt delegation
+        (with_line delegation_derived 4 (line unit (receives 2 1 One ∷ receives_second 1 0 any ∷ []) [])) 4 ShapeRule }
 {}
 
 /// Closed forms, cut words, and covers that show nothing.
 pub fn forms_and_cuts()
     ensures period_left_out { is_cover 1 (sets_of 1 (Star (Tag 0))) (sets_of 1 One) (entry 0 [] ([] ∷ []) ∷ []) ≡ false }
     ensures large_number { is_cover 1 (sets_of 1 One) (sets_of 1 (Prod (Tag 0) (Star (Tag 0)))) (entry 0 (4294967295 ∷ []) [] ∷ []) ≡ false }
-    ensures form_of_star { HasForm 2 (Star (Sum (Tag 0) (Prod (Tag 0) (Star (Tag 1))))) ((0 ∷ 0 ∷ [], (1 ∷ 0 ∷ []) ∷ []) ∷ (1 ∷ 0 ∷ [], (1 ∷ 0 ∷ []) ∷ (0 ∷ 1 ∷ []) ∷ []) ∷ []) }
+    ensures form_of_star { HasForm 2 (Star (Sum (Tag 0) (Prod (Tag 0) (Star (Tag 1)))))
+        ((0 ∷ 0 ∷ [], (1 ∷ 0 ∷ []) ∷ []) ∷ (1 ∷ 0 ∷ [], (1 ∷ 0 ∷ []) ∷ (0 ∷ 1 ∷ []) ∷ []) ∷ []) }
     ensures two_in_any { cuts_lie 1 1 (Prod (Tag 0) (Tag 0)) any ≡ true }
     ensures two_in_one { cuts_lie 2 1 (Prod (Tag 0) (Tag 0)) (Tag 0) ≡ false }
     ensures cuts_of_put { HasCuts 2 2 (Prod (Tag 0) (Star (Tag 1))) ((1 ∷ 2 ∷ []) ∷ (1 ∷ 1 ∷ []) ∷ (1 ∷ 0 ∷ []) ∷ []) }

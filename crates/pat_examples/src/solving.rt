@@ -22,12 +22,17 @@ pub fn steps()
 /// Assignments, and what is made on the way.
 pub fn assignments()
     ensures alone { assigned alone (1 ∷ []) ≡ (1, Star (Tag 0)) ∷ [] }
-    ensures made_alone { made alone (1 ∷ []) ≡ Sum One (Prod (Var 1) (Tag 0)) ∷ One ∷ Tag 0 ∷ Tag 0 ∷ Star (Tag 0) ∷ One ∷ Star (Tag 0) ∷ Prod (Star (Tag 0)) (Tag 0) ∷ Star (Tag 0) ∷ [] }
-    ensures ring { assigned in_a_ring (1 ∷ 2 ∷ []) ≡ (1, Sum One (Prod (Prod (Star (Prod (Tag 0) (Tag 1))) (Tag 1)) (Tag 0))) ∷ (2, Prod (Star (Prod (Tag 0) (Tag 1))) (Tag 1)) ∷ [] }
+    ensures made_alone { made alone (1 ∷ [])
+        ≡ Sum One (Prod (Var 1) (Tag 0)) ∷ One ∷ Tag 0 ∷ Tag 0 ∷ Star (Tag 0) ∷ One ∷ Star (Tag 0) ∷ Prod (Star (Tag 0)) (Tag 0)
+        ∷ Star (Tag 0) ∷ [] }
+    ensures ring { assigned in_a_ring (1 ∷ 2 ∷ [])
+        ≡ (1, Sum One (Prod (Prod (Star (Prod (Tag 0) (Tag 1))) (Tag 1)) (Tag 0))) ∷ (2, Prod (Star (Prod (Tag 0) (Tag 1))) (Tag 1))
+        ∷ [] }
     ensures ring_fits { assignment_fits 2 in_a_ring (1 ∷ 2 ∷ []) ≡ true }
     ensures first_of_row { first_round in_a_row [] (1 ∷ 2 ∷ 3 ∷ []) ≡ (1, Var 2) ∷ (2, Prod (Var 3) (Tag 0)) ∷ (3, Tag 1) ∷ [] }
     ensures row { assigned in_a_row (1 ∷ 2 ∷ 3 ∷ []) ≡ (1, Prod (Tag 1) (Tag 0)) ∷ (2, Prod (Tag 1) (Tag 0)) ∷ (3, Tag 1) ∷ [] }
-    ensures by_way { first_round by_way_of_the_second [] (1 ∷ 2 ∷ 3 ∷ []) ≡ (1, Prod (Var 2) (Tag 0)) ∷ (2, Tag 1) ∷ (3, Prod (Tag 1) (Tag 0)) ∷ [] }
+    ensures by_way { first_round by_way_of_the_second [] (1 ∷ 2 ∷ 3 ∷ [])
+        ≡ (1, Prod (Var 2) (Tag 0)) ∷ (2, Tag 1) ∷ (3, Prod (Tag 1) (Tag 0)) ∷ [] }
     ensures without_constraints { assigned [] (1 ∷ []) ≡ (1, Zero) ∷ [] }
 {}
 

@@ -1,5 +1,5 @@
 mod Fewness
-mod Resolved
 mod OneVerdict
 -- for the crates above
+pub mod Resolved
 pub mod Refusals

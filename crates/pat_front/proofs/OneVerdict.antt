@@ -163,6 +163,8 @@ comes bytes (verdict.BadText o) h = absurd h
 comes bytes (verdict.Rejected n r) h = absurd h
 comes bytes (verdict.RefusedAt i) h = absurd h
 comes bytes verdict.TooManyEntries h = absurd h
+comes bytes (verdict.Unshown line) h = absurd h
+comes bytes (verdict.BadCheckpoint r) h = absurd h
 comes bytes (verdict.Unaccepted reason) h = absurd h
 
 whole : (bytes : List ℕ) (t : Tree) (p : Program) → IsProgramText bytes t p → IsRead bytes (Whole t)

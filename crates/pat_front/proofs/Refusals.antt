@@ -17,4 +17,6 @@ small bytes (verdict.BadText o) r other = absurd r
 small bytes (verdict.Rejected n rule) r other = absurd r
 small bytes (verdict.RefusedAt i) r other = absurd r
 small bytes verdict.TooManyEntries r other = absurd r
+small bytes (verdict.Unshown line) r other = absurd r
+small bytes (verdict.BadCheckpoint rule) r other = absurd r
 small bytes (verdict.Unaccepted reason) r other = absurd r

@@ -4,6 +4,8 @@ use Rattle.std.specs.Fmt.{decimal}
 use Rattle.pat_syntax.specs.declared.span.Span.{Span}
 use Rattle.pat_derivation_rules.specs.declared.Rule.{Rule}
 use Rattle.pat_derivation_rules.specs.Names.{rule_name}
+use Rattle.pat_checkpoint_rules.specs.declared.CheckRule.{CheckRule}
+use Rattle.pat_checkpoint_rules.specs.Names.{rule_name as check_rule_name}
 use Rattle.pat_resolver_heads.specs.declared.results.error.ResolveKind.{ResolveKind}
 use Rattle.pat_resolver_heads.specs.declared.results.error.ResolveKind.TheVariants as kind
 use Rattle.pat_infer_problems.specs.declared.error.Rule as typing
@@ -29,6 +31,10 @@ place_words s = (codes " at " ++ decimal s.from) ++ (codes "-" ++ decimal s.to)
 -- a node, and the rule that a derivation breaks there
 abbrev pub rejected_words : ℕ → Rule → List ℕ
 rejected_words n r = (codes "rejected at node " ++ decimal n) ++ (codes ": " ++ rule_name r)
+
+-- the rule that a checkpoint breaks
+abbrev pub bad_checkpoint_words : CheckRule → List ℕ
+bad_checkpoint_words r = codes "bad checkpoint: " ++ check_rule_name r
 
 -- a rule of backward typing
 abbrev pub typing_rule_name : typing.Rule → List ℕ
@@ -63,6 +69,8 @@ verdict_text (verdict.BadText o) = codes "bad text at " ++ decimal o
 verdict_text (verdict.Rejected n r) = rejected_words n r
 verdict_text (verdict.RefusedAt i) = codes "refused at entry " ++ decimal i
 verdict_text verdict.TooManyEntries = codes "too many entries"
+verdict_text (verdict.Unshown n) = codes "unshown at line " ++ decimal n
+verdict_text (verdict.BadCheckpoint r) = bad_checkpoint_words r
 verdict_text (verdict.Unaccepted r) = reason_text r
 
 -- the line, with its end

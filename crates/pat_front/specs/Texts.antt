@@ -42,6 +42,8 @@ IsRefusal bytes (verdict.BadText o) = ⊥
 IsRefusal bytes (verdict.Rejected n r) = ⊥
 IsRefusal bytes (verdict.RefusedAt i) = ⊥
 IsRefusal bytes verdict.TooManyEntries = ⊥
+IsRefusal bytes (verdict.Unshown line) = ⊥
+IsRefusal bytes (verdict.BadCheckpoint rule) = ⊥
 IsRefusal bytes (verdict.Unaccepted reason) = ⊥
 
 -- what an error says of the bytes; want of memory says nothing

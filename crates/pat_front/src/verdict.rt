@@ -1,9 +1,10 @@
 // Verdicts on a text, and the lines that say them.
 ghost use Rattle.std.specs.Prelude.{◌≡◌, ◌++◌, ◌∷◌, [], IfOk, OnOk};
-ghost use Rattle.pat_front.specs.Lines.{rule_words, place_words, rejected_words, verdict_text, line_of_verdict, line_with};
+ghost use Rattle.pat_front.specs.Lines.{rule_words, place_words, rejected_words, bad_checkpoint_words, verdict_text, line_of_verdict, line_with};
 
 use crate::pieces::{push_at, push_span, push_words};
 use crate::reason::{Reason, push_reason};
+use pat_checkpoint_rules::CheckRule;
 use pat_derivation_rules::Rule;
 use pat_resolver_heads::ResolveKind;
 use pat_syntax::Span;
@@ -30,6 +31,10 @@ pub enum Verdict {
     RefusedAt(u32),
     /// A history that replays has more entries than are brought into order.
     TooManyEntries,
+    /// The first line of a checkpoint, counted from 1, that needs an inclusion for which no certificate is found.
+    Unshown(u32),
+    /// The first rule that a checkpoint breaks.
+    BadCheckpoint(CheckRule),
     /// It is the text of a program that isn't accepted.
     Unaccepted(Reason),
 }
@@ -69,6 +74,8 @@ fn push_verdict(text: &mut Vec<u8>, verdict: Verdict) -> Result<(), AllocError>
         Verdict::Rejected(node, rule) => push_rejected(text, node, rule),
         Verdict::RefusedAt(entry) => push_at(text, b"refused at entry ", entry),
         Verdict::TooManyEntries => push_words(text, b"too many entries"),
+        Verdict::Unshown(line) => push_at(text, b"unshown at line ", line),
+        Verdict::BadCheckpoint(rule) => push_bad_checkpoint(text, rule),
         Verdict::Unaccepted(reason) => push_reason(text, reason),
     }
 }
@@ -87,6 +94,14 @@ fn push_rejected(text: &mut Vec<u8>, node: u32, rule: Rule) -> Result<(), AllocE
 {
     push_at(text, b"rejected at node ", node)?;
     push_words(text, b": ")?;
+    push_words(text, rule.name())
+}
+
+// A broken rule of checkpoints.
+fn push_bad_checkpoint(text: &mut Vec<u8>, rule: CheckRule) -> Result<(), AllocError>
+    ensures { OnOk result (text.new.items ≡ text.old.items ++ bad_checkpoint_words rule) }
+{
+    push_words(text, b"bad checkpoint: ")?;
     push_words(text, rule.name())
 }
 

@@ -28,7 +28,8 @@ pub fn eval(alloc: Global, p: &Pattern, env: &[Grid], k: u32, tags: u8) -> Resul
     requires tags { IsTrue (tags_below tags (pattern_view p.now)) }
     requires grids { AreGrids k tags env.now }
     ensures like { IfOk result (λ g. (g.k ≡ k) × (g.tags ≡ tags)) }
-    ensures points { IfOk result (λ g. (u : Word) → IsPoint k tags u → HasPoint g u ↔ CutOf k (InUnder (λ j. MemberOf (given_words env.now j)) (pattern_view p.now)) u) }
+    ensures points { IfOk result (λ g. (u : Word) → IsPoint k tags u
+        → HasPoint g u ↔ CutOf k (InUnder (λ j. MemberOf (given_words env.now j)) (pattern_view p.now)) u) }
 {
     let mut symbols = Sequence::new(alloc);
     let root = lay_out(alloc, p, Role::Given, &mut symbols)?;
@@ -57,7 +58,8 @@ pub fn least(
     requires tags { AllByRecursion (λ e. IsTrue (tags_below tags e)) (patterns_view system.now) }
     ensures count { IfOk result (λ grids. length grids ≡ length system.now) }
     ensures like { IfOk result (λ grids. AreGrids k tags grids) }
-    ensures points { IfOk result (λ grids. (j : ℕ) (g : GridValue) (u : Word) → slice_get grids j ≡ Some g → IsPoint k tags u → HasPoint g u ↔ CutOf k (derivable (bounds_of (patterns_view system.now)) j) u) }
+    ensures points { IfOk result (λ grids. (j : ℕ) (g : GridValue) (u : Word) → slice_get grids j ≡ Some g → IsPoint k tags u
+        → HasPoint g u ↔ CutOf k (derivable (bounds_of (patterns_view system.now)) j) u) }
 {
     let mut symbols = Sequence::new(alloc);
     let mut roots = Sequence::new(alloc);

@@ -7,6 +7,8 @@ use pat_sequences::Sequence;
 use std::alloc::{AllocError, Global};
 use std::marker::Model;
 
+// `BlockList` is this over a plain list of starts. Starts are read at each look at an item, so each of the two calls its own kind of them,
+// and no trait stands between; what holds of both is in `InBlocks`.
 /// A list most of whose items are the same: memory and time go to the blocks that have others, and to one number for each block of
 /// blocks. Contracts see the list.
 #[derive(Drop)]

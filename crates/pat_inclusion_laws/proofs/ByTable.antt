@@ -10,7 +10,8 @@ use Rattle.pat_inclusion_spec.specs.bounds.Symbols.{LowerSymbol, Stands, IsFlatO
 use Rattle.pat_inclusion_spec.specs.bounds.Tables.{Setting, Table, IsKnown, IsDone}
 use Rattle.pat_inclusion_spec.specs.bounds.Searches.{InsideAnswer, FoundAnswer, LargeAnswer, IsAnswer}
 use Rattle.pat_inclusion_laws.proofs.SearchLaws.{table_inside, table_large}
-use Rattle.pat_inclusion_laws.proofs.ClosedLaws.{flat_closed, known_right, right_known}
+use Rattle.pat_words_laws.proofs.ClosedPatterns.{flat_closed}
+use Rattle.pat_inclusion_laws.proofs.ClosedLaws.{known_right, right_known}
 
 module _ (g : Setting) (table : Table) (lower : ℕ → Pat) (left right : Pat) (s r : ℕ) (done : IsDone g table) (flat : IsFlatOf lower g.flat) (sl : Stands g.flat.symbols LowerSymbol left s) (sr : Stands g.flat.symbols LowerSymbol right r) (fr : is_flat right ≡ true) (dr : degree_of right < g.bound) where
   to_cut : (u : Word) → IsPoint g.bound g.tags u → IsKnown g.limit (table r u) → CutOf g.bound (In right) u

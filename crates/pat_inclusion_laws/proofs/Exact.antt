@@ -82,7 +82,7 @@ direct_cover n (s ∷ ss) right d =
 -- ---- the closed form by more tags
 
 -- words of n tags are compared the same however many more tags are looked at
-same_more : (n : ℕ) (u v : Word) → HasTagsBelow n u → HasTagsBelow n v → (j : ℕ) → same_below (j + n) u v ≡ same_below n u v
+pub same_more : (n : ℕ) (u v : Word) → HasTagsBelow n u → HasTagsBelow n v → (j : ℕ) → same_below (j + n) u v ≡ same_below n u v
 same_more n u v hu hv zero = ap (λ m. same_below m u v) (start n)
   where
     start : (n : ℕ) → 0 + n ≡ n

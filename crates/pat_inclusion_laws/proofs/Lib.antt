@@ -6,6 +6,7 @@ mod Pumping
 pub mod CutLaws
 pub mod PointLaws
 pub mod Shown
+pub mod Replaced
 pub mod Exact
 pub mod LawParts
 pub mod Taking

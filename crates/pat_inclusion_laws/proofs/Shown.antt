@@ -2,13 +2,14 @@
 use Rattle.std.proofs.Common.{◌≡◌, ℕ, zero, suc, ◌≤◌, true, not, ◌&&◌, ◌||◌, List, [], ◌∷◌, Option, Some, None, inl, inr, ⊎_elim, refl, sym, ap, ◌∙◌, subst}
 use Rattle.std.specs.Prelude.{slice_get, nat_lt, nat_le, ◌^◌, ◌+◌}
 use Rattle.std.specs.List.{list_all}
-use Rattle.std.proofs.lemmas.Bool.{and_parts, and_from, or_cases, eqb-true, ltb-true, leb-true}
+use Rattle.std.proofs.lemmas.Bool.{and_parts, or_cases, eqb-true, ltb-true, leb-true}
 use Rattle.pat_words_spec.specs.Words.{Word}
 use Rattle.pat_words_spec.specs.Patterns.{Pat, Zero, One, Tag, Sum, Prod, Star, Var, Language, InUnder, In, Included, no_values, pat_eq, is_closed, subst_of}
-use Rattle.pat_words_spec.specs.Flats.{is_flat, degree_of, is_choice}
+use Rattle.pat_words_spec.specs.Flats.{is_flat, degree_of}
 use Rattle.pat_words_spec.specs.Cuts.{cut_at}
 use Rattle.pat_words_laws.proofs.PatternLaws.{pat_eq_same}
-use Rattle.pat_words_laws.proofs.FormLaws.{times_mono, subst_to, subst_from}
+use Rattle.pat_words_laws.proofs.FormLaws.{subst_to, subst_from}
+use Rattle.pat_words_laws.proofs.ClosedPatterns.{under_mono, under_closed, flat_closed}
 use Rattle.pat_words_spec.specs.Tags.{tags_below}
 use Rattle.pat_inclusion_spec.specs.Points.{grid_fits, points_pattern}
 use Rattle.pat_inclusion_spec.specs.CutWords.{cuts_lie}
@@ -37,29 +38,6 @@ value_fits_at s zero v h at = cc
 value_fits_at s (suc k) v h at = value_at_place s.tags s.vars k v h at
 
 -- ---- words under values
-
-under_mono : (ls ms : ℕ → Language) → ((k : ℕ) (w : Word) → ls k w → ms k w) → (e : Pat) (w : Word) → InUnder ls e w → InUnder ms e w
-under_mono ls ms f Zero w h = h
-under_mono ls ms f One w h = h
-under_mono ls ms f (Tag m) w h = h
-under_mono ls ms f (Sum a b) w h = ⊎_elim (λ l. inl (under_mono ls ms f a w l)) (λ r. inr (under_mono ls ms f b w r)) h
-under_mono ls ms f (Prod a b) w h = (h.0, h.1, under_mono ls ms f a h.0 h.2, under_mono ls ms f b h.1 h.3, h.4)
-under_mono ls ms f (Star a) w h = (h.0, times_mono (InUnder ls a) (InUnder ms a) (under_mono ls ms f a) h.0 w h.1)
-under_mono ls ms f (Var k) w h = f k w h
-
--- the words of a pattern without variables are the same under all values
-pub under_closed : (ls ms : ℕ → Language) (e : Pat) → is_closed e ≡ true → (w : Word) → InUnder ls e w → InUnder ms e w
-under_closed ls ms Zero c w h = h
-under_closed ls ms One c w h = h
-under_closed ls ms (Tag m) c w h = h
-under_closed ls ms (Sum a b) c w h =
-    let both = and_parts (is_closed a) (is_closed b) c in
-    ⊎_elim (λ l. inl (under_closed ls ms a both.0 w l)) (λ r. inr (under_closed ls ms b both.1 w r)) h
-under_closed ls ms (Prod a b) c w h =
-    let both = and_parts (is_closed a) (is_closed b) c in
-    (h.0, h.1, under_closed ls ms a both.0 h.0 h.2, under_closed ls ms b both.1 h.1 h.3, h.4)
-under_closed ls ms (Star a) c w h = (h.0, times_mono (InUnder ls a) (InUnder ms a) (under_closed ls ms a c) h.0 w h.1)
-under_closed ls ms (Var k) c w h = cc
 
 -- replacing does nothing to the words of a pattern without variables
 pub closed_to : (s : Scope) (e : Pat) → is_closed e ≡ true → (w : Word) → In (subst_of (pattern_of s) e) w → In e w
@@ -150,24 +128,6 @@ replaced_tags s i (Var k) fit h = go (var_at s.vars k) refl h
         (value_tags (s.tags v.interface) v.value (value_fits_at s k v fit at)))
 
 -- ---- grids
-
-flat_closed : (e : Pat) → is_flat e ≡ true → is_closed e ≡ true
-flat_closed Zero h = refl
-flat_closed One h = refl
-flat_closed (Tag m) h = refl
-flat_closed (Sum a b) h = let p = and_parts (is_flat a) (is_flat b) h in and_from (is_closed a) (is_closed b) (flat_closed a p.0) (flat_closed b p.1)
-flat_closed (Prod a b) h = let p = and_parts (is_flat a) (is_flat b) h in and_from (is_closed a) (is_closed b) (flat_closed a p.0) (flat_closed b p.1)
-flat_closed (Star a) h = choice_closed a h
-  where
-    choice_closed : (c : Pat) → is_choice c ≡ true → is_closed c ≡ true
-    choice_closed Zero q = refl
-    choice_closed One q = refl
-    choice_closed (Tag m) q = refl
-    choice_closed (Sum a b) q = let p = and_parts (is_choice a) (is_choice b) q in and_from (is_closed a) (is_closed b) (choice_closed a p.0) (choice_closed b p.1)
-    choice_closed (Prod a b) q = cc
-    choice_closed (Star a) q = cc
-    choice_closed (Var k) q = cc
-flat_closed (Var k) h = cc
 
 -- words with the same cut at k are both in the pattern, or neither
 abbrev ByCut : ℕ → Pat → Type 0

@@ -21,7 +21,7 @@ use Rattle.pat_infer_spec.specs.BothParts.{new_var}
 use Rattle.pat_infer_spec.specs.Branches.{Branch, Arm, own_names, outer_needs, arm_names, arm_needs, some_receive, all_receive, receives_need, branches_agree, branch_usage, pattern_or_one, sum_on, sum_of_needs, all_by, each_receives, first_need, received_in, branches_with, branches_by, branches}
 use Rattle.pat_infer_spec.specs.Walk.{Part, Arms, walk_arms, arms_gathered, arms_findings, if_from, two_branches, clause_branch, branches_of, keeps_own, arm_binders, guard_binders, guard_found, var_interface}
 use Rattle.pat_infer_spec.specs.Shapes.{is_simple, IsNumber, PatternFits, ShapeFits, ConstraintFits, NodeTypeFits}
-use Rattle.pat_infer_laws.proofs.Replaced.{closed_residual}
+use Rattle.pat_words_laws.proofs.ClosedPatterns.{residual_closed}
 use Rattle.pat_infer_laws.proofs.Lookups.{need_put}
 use Rattle.pat_infer_laws.proofs.Gathering.{all_map, all_with, none_each, all_each, each_with, each_map, Each, EachNeed, gather_needs, gather_holds, EachHolds}
 use Rattle.pat_infer_laws.proofs.BranchLaws.{first_all, all_receives, first_receives}
@@ -193,6 +193,7 @@ if_shaped p wf vars part n d at e a b is inside_a inside_b shapes_a shapes_b ask
     let own = arms_gathered n j all.arms in
     let rules = nil_parts all.findings (arms_findings n all.arms) clean in
     let q = numbered_parts (IsNumber vars) k all.vars own.vars numbers in
+    -- both branches with what is known of their shapes; `ArmsTyped` has them with types
     let fits : AllByRecursion (BranchShapes p vars part n d asked) bs = (
       record {
         shapes = shapes_a;
@@ -263,7 +264,7 @@ record GuardShapes (p : Program) (vars : List Variable) (part : Part) (n : ℕ) 
 clause_shapes : (p : Program) (wf : WellFormed p) (vars : List Variable) (n : ℕ) (d : Node) (at : node_at p n ≡ Some d) (i : ℕ) (e : Pat) (r : Clause) (needs : Needs) → IsPatternOf p i e → ClauseKinds p (wf.nodes n d at).function.vars i d.kind r → IsPartOf p n d r.body → NeedsFit p (ShapeFits p vars) r.body needs → AllByRecursion (NameShaped p vars) (arm_binders p i e needs (Some r))
 clause_shapes p wf vars n d at i e r needs pattern kinds inside fits =
     let faces = clause_faces p wf (ShapeFits p vars) n d at i e r needs kinds inside fits in
-    let closed : is_closed (residual e r.tag) ≡ true = closed_residual e r.tag pattern.closed in (
+    let closed : is_closed (residual e r.tag) ≡ true = residual_closed e r.tag pattern.closed in (
       record {
         type = record {
           shape = record { pattern = fits_residual p vars i e r.tag (written_fits p vars i e pattern); simple = λ q. closed_simple (residual e r.tag) closed };

@@ -21,7 +21,8 @@ use Rattle.pat_infer_spec.specs.Binders.{names_bound}
 use Rattle.pat_infer_spec.specs.Branches.{Branch, Arm, own_names, outer_needs, arm_names, arm_needs, branches_agree, branches}
 use Rattle.pat_infer_spec.specs.Walk.{Part, Arms, walk_arms, arms_gathered, arms_findings, if_from, two_branches, has_mailbox, clause_keeps, arm_binders}
 use Rattle.pat_infer_spec.specs.Solutions.{GivesFrom}
-use Rattle.pat_infer_laws.proofs.Replaced.{closed_same, closed_residual}
+use Rattle.pat_words_laws.proofs.ClosedPatterns.{residual_closed}
+use Rattle.pat_inclusion_laws.proofs.Replaced.{closed_same}
 use Rattle.pat_infer_laws.proofs.Lookups.{need_but, among_add_all, no_key}
 use Rattle.pat_infer_laws.proofs.Gathering.{gives_parts, each_none, nil_join, all_map, Each, each_map, each_all, EachGives, gather_gives, EachHolds, gather_holds, EachNeed, gather_needs}
 use Rattle.pat_infer_laws.proofs.BothLaws.{Holds}
@@ -230,7 +231,7 @@ receive_clause p wf y s g t x i e r needs closed distinct fresh named typed h =
           (λ has. keys_none (λ z. not (is_among z (clause_binders r))) needs
           (λ z a is. ap not (typed.own_names (some_payload decl has) z (some_passed s (y.envs r.body z) (need_of needs z) (h z) (ap is_some is))))));
       names = (
-        subst (λ f. PassesTo (Some (mailbox_type i Receiving f Returnable)) (env_at s needs r.from)) (sym (closed_same s (residual e r.tag) (closed_residual e r.tag closed)))
+        subst (λ f. PassesTo (Some (mailbox_type i Receiving f Returnable)) (env_at s needs r.from)) (sym (closed_same s (residual e r.tag) (residual_closed e r.tag closed)))
             (subst (λ o. PassesTo o (env_at s needs r.from)) (clause_from g x i e decl r) (here r.from)),
         subst (λ o. AllByRecursion (NamePassed s) (names_bound (declared_types o) 0 r.vars needs)) (sym typed.declared)
             (names_all (NamePassed s) (payload_type decl) 0 r.vars needs

@@ -16,7 +16,7 @@ use Rattle.pat_infer_spec.specs.Needs.{just, Combined, vars_with, constraints_wi
 use Rattle.pat_infer_spec.specs.Branches.{receives_need, some_receive, all_receive, branches_agree, returns_need, some_return, branch_usage, pattern_or_one, sum_on, sum_of_needs, all_by, each_receives, first_need, received_in, branches_with, branches_by, branches}
 use Rattle.pat_infer_spec.specs.Solutions.{GivesFrom, type_pattern}
 use Rattle.pat_infer_spec.specs.BothParts.{new_var}
-use Rattle.pat_infer_laws.proofs.Replaced.{sum_to, sum_from}
+use Rattle.pat_inclusion_laws.proofs.Replaced.{sum_to, sum_from}
 use Rattle.pat_infer_laws.proofs.Gathering.{need_with, all_map, all_with}
 use Rattle.pat_infer_laws.proofs.BothLaws.{Holds}
 

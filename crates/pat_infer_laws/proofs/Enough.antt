@@ -19,7 +19,7 @@ use Rattle.pat_infer_spec.specs.Walk.{inferred}
 use Rattle.pat_infer_spec.specs.Solutions.{MeetsUnder, IsPatternSolution, SendersHaveWords, typing_found}
 use Rattle.pat_infer_spec.specs.Shapes.{EachNodeOnce}
 use Rattle.pat_infer_spec.specs.Laws.{SolutionTypes, TypableExactly}
-use Rattle.pat_infer_laws.proofs.Replaced.{values_of, closed_same}
+use Rattle.pat_inclusion_laws.proofs.Replaced.{values_of, closed_same}
 use Rattle.pat_infer_laws.proofs.Gathering.{all_map}
 use Rattle.pat_infer_laws.proofs.BothLaws.{Holds}
 use Rattle.pat_infer_laws.proofs.SignatureLaws.{SignaturesAgree, written_closed}

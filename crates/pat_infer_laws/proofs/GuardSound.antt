@@ -17,7 +17,7 @@ use Rattle.pat_infer_spec.specs.Binders.{binder_findings, binder_constraints}
 use Rattle.pat_infer_spec.specs.Branches.{Branch, outer_needs}
 use Rattle.pat_infer_spec.specs.Walk.{Part, Arms, walk_arms, arms_gathered, arms_findings, clause_branch, branches_of, keeps_own, arm_binders, guard_binders, guard_found}
 use Rattle.pat_infer_spec.specs.Solutions.{GivesFrom}
-use Rattle.pat_infer_laws.proofs.Replaced.{closed_same}
+use Rattle.pat_inclusion_laws.proofs.Replaced.{closed_same}
 use Rattle.pat_infer_laws.proofs.Lookups.{need_put}
 use Rattle.pat_infer_laws.proofs.Gathering.{gives_parts, unless_none, each_none, nil_join, all_map, all_with}
 use Rattle.pat_infer_laws.proofs.BothLaws.{Holds}

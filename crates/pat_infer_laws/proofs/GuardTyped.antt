@@ -23,7 +23,8 @@ use Rattle.pat_infer_spec.specs.Needs.{put, needs_but}
 use Rattle.pat_infer_spec.specs.Binders.{Binder, binder_findings, binder_constraints, names_bound}
 use Rattle.pat_infer_spec.specs.Branches.{Branch, Arm, own_names, outer_needs}
 use Rattle.pat_infer_spec.specs.Walk.{Part, Arms, walk_arms, arms_gathered, arms_findings, clause_branch, branches_of, has_mailbox, clause_keeps, keeps_own, arm_binders, guard_binders, guard_found, var_interface}
-use Rattle.pat_infer_laws.proofs.Replaced.{closed_same, closed_residual}
+use Rattle.pat_words_laws.proofs.ClosedPatterns.{residual_closed}
+use Rattle.pat_inclusion_laws.proofs.Replaced.{closed_same}
 use Rattle.pat_infer_laws.proofs.Lookups.{need_put, need_but}
 use Rattle.pat_infer_laws.proofs.Gathering.{all_parts, all_map, all_with, none_each, none_unless}
 use Rattle.pat_infer_laws.proofs.BothLaws.{Holds, fits_same}
@@ -217,7 +218,7 @@ module _ (p : Program) (wf : WellFormed p) (y : Typing) (s : ℕ → Pat) (n : �
       let same : r.from ≡ z = eqb-true r.from z from in
       subst (λ w. PassesTo (clause_env g x i e decl r w) (env_at s needs w)) same
       (subst (λ o. PassesTo o (env_at s needs r.from)) (sym (clause_from g x i e decl r))
-      (subst (λ f. PassesTo (Some (mailbox_type i Receiving f Returnable)) (env_at s needs r.from)) (closed_same s (residual e r.tag) (closed_residual e r.tag closed)) b.names.0)))
+      (subst (λ f. PassesTo (Some (mailbox_type i Receiving f Returnable)) (env_at s needs r.from)) (closed_same s (residual e r.tag) (residual_closed e r.tag closed)) b.names.0)))
       (λ apart.
       let among : is_among z r.vars ≡ true =
       ⊎_elim (λ l. l) (λ l. absurd (clash (⊎_elim (λ q. eq-eqb r.from z (sym (eqb-true z r.from q))) (λ q. absurd (no_false q)) (or_cases (nat_eq z r.from) false l)) apart)) (append_among z r.vars (r.from ∷ []) on) in

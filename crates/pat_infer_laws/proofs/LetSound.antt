@@ -18,7 +18,8 @@ use Rattle.pat_infer_spec.specs.Walk.{Part, asked_as, asked_of, name_need, spawn
 use Rattle.pat_infer_spec.specs.Solutions.{GivesFrom}
 use Rattle.pat_infer_laws.proofs.Lookups.{eq_turn, need_but, as_second, need_second, no_name}
 use Rattle.pat_infer_laws.proofs.Gathering.{each_all, gives_parts, each_none, nil_join, Each, each_map, EachGives, gather_gives, EachHolds, gather_holds, EachNeed, gather_needs}
-use Rattle.pat_infer_laws.proofs.BothLaws.{Holds, PartsPass, parts_pass, second_any}
+use Rattle.pat_type_system_laws.proofs.Splitting.{second_any}
+use Rattle.pat_infer_laws.proofs.BothLaws.{Holds, PartsPass, parts_pass}
 use Rattle.pat_infer_laws.proofs.TermSound.{env_at, Sound}
 
 -- a part, whatever it is asked for that its type fits

@@ -17,7 +17,7 @@ use Rattle.pat_infer_spec.specs.Constraints.{AtNode, OrderRule, DoubleRule, each
 use Rattle.pat_infer_spec.specs.Needs.{needs_but, needs_second, names_of_two, Combined}
 use Rattle.pat_infer_spec.specs.BothParts.{in_order, one_receives, parts_joined, both_parts}
 use Rattle.pat_infer_spec.specs.Walk.{Part, asked_as, asked_of, name_need, spawn_found, body_needs, let_gathered, let_findings, bound_found}
-use Rattle.pat_infer_laws.proofs.Replaced.{prod_from}
+use Rattle.pat_inclusion_laws.proofs.Replaced.{prod_from}
 use Rattle.pat_infer_laws.proofs.Lookups.{eq_turn, need_but, as_second, need_second, no_name}
 use Rattle.pat_infer_laws.proofs.Gathering.{all_parts, none_each, all_each, each_with, each_any, need_with, Each, EachHolds, holds_gather, EachNeed, gather_needs}
 use Rattle.pat_infer_laws.proofs.BothLaws.{Holds, parts_split}

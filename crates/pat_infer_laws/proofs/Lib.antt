@@ -1,5 +1,4 @@
--- for others: the words of patterns whose variables are replaced, what holds of all members of a list, numbers and shapes
-pub mod Replaced
+-- for others: what holds of all members of a list, numbers and shapes
 pub mod Gathering
 pub mod BothLaws
 pub mod Lossless
@@ -8,7 +7,6 @@ pub mod Blocks
 pub mod SignatureLaws
 pub mod Numbering
 pub mod ShapeLaws
-pub mod Least
 pub mod Shown
 pub mod TermTyped
 -- what each term needs, by look-ups
@@ -33,5 +31,7 @@ mod ArmsShaped
 mod WalkShaped
 mod Order
 mod Merging
+-- what need only be met from below
+mod Least
 -- inclusions are shown
 mod ShownWalk

@@ -14,7 +14,7 @@ use Rattle.pat_infer_spec.specs.Constraints.{Constraint}
 use Rattle.pat_infer_spec.specs.Walk.{inferred, all_vars}
 use Rattle.pat_infer_spec.specs.Solutions.{MeetsUnder, IsPatternSolution, SendersHaveWords, pattern_by, GivesFrom}
 use Rattle.pat_infer_spec.specs.Laws.{BrokenIsUntypable, TypingSolves, TypableIsSolved}
-use Rattle.pat_infer_laws.proofs.Replaced.{values_of, in_to, in_from}
+use Rattle.pat_inclusion_laws.proofs.Replaced.{values_of, in_to, in_from}
 use Rattle.pat_infer_laws.proofs.Gathering.{gives_parts, all_map}
 use Rattle.pat_infer_laws.proofs.BothLaws.{Holds}
 use Rattle.pat_infer_laws.proofs.SignatureLaws.{signatures_agree}

@@ -19,10 +19,10 @@ use Rattle.pat_infer_spec.specs.Binders.{polarity_as, name_constraints}
 use Rattle.pat_infer_spec.specs.BothParts.{new_var, one_receives, parts_joined, both_parts}
 use Rattle.pat_infer_spec.specs.Branches.{receives_need, some_receive, all_receive, branches_agree, branch_usage, pattern_or_one, sum_on, sum_of_needs, all_by, each_receives, first_need, received_in, branches_with, branches_by, branches}
 use Rattle.pat_infer_spec.specs.Inclusions.{IsShown, PatternShown, PassShown, JoinShown, SplitShown, ValuesCover}
-use Rattle.pat_infer_laws.proofs.Replaced.{values_of, in_to}
+use Rattle.pat_inclusion_laws.proofs.Replaced.{values_of, in_to}
 use Rattle.pat_infer_laws.proofs.Gathering.{all_map, all_with, need_with}
 use Rattle.pat_infer_laws.proofs.BranchLaws.{none_all, all_receives, first_receives, none_receives, same_patterns}
-use Rattle.pat_infer_laws.proofs.Least.{grows}
+use Rattle.pat_words_laws.proofs.ClosedPatterns.{under_mono}
 
 -- ---- the simplifying forms and values
 
@@ -134,7 +134,7 @@ module _ (s v : ℕ → Pat) (cover : ValuesCover s v) where
   -- a pattern that has a word isn't 0 under the values
   word_not_zero : (e : Pat) (w : Word) → In (replaced s e) w → is_zero (subst_of v e) ≡ false
   word_not_zero e w i =
-      let under : InUnder (λ k. InUnder (values_of s) (v k)) e w = grows (values_of s) (λ k. InUnder (values_of s) (v k)) (λ k u h. in_to s (v k) u (cover k u h)) e w (in_to s e w i) in
+      let under : InUnder (λ k. InUnder (values_of s) (v k)) e w = under_mono (values_of s) (λ k. InUnder (values_of s) (v k)) (λ k u h. in_to s (v k) u (cover k u h)) e w (in_to s e w i) in
       let there : InUnder (values_of s) (subst_of v e) w = subst_from v (values_of s) e w under in
       go (is_zero (subst_of v e)) refl there
     where

@@ -11,7 +11,7 @@ use Rattle.pat_type_system_spec.specs.Typings.{Typing, param_usage, sort_type, p
 use Rattle.pat_type_schemes_spec.specs.NodeTypes.{need_under, result_under}
 use Rattle.pat_type_schemes_spec.specs.Signatures.{Origin, OfParameter, OfResult, Variable, omitted, signature_vars, number_at, result_number, first_number, open_param, open_result}
 use Rattle.pat_infer_spec.specs.Solutions.{GivesFrom, pattern_by}
-use Rattle.pat_infer_laws.proofs.Replaced.{closed_same}
+use Rattle.pat_inclusion_laws.proofs.Replaced.{closed_same}
 use Rattle.pat_infer_laws.proofs.Numbering.{Numbered, signature_numbered}
 
 -- the variable has the typing's pattern

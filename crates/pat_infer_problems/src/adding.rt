@@ -32,7 +32,8 @@ pub fn add_constraint(
     right: Pattern,
     span: Span,
 ) -> Result<(), AllocError>
-    ensures { OnOk result (Grows problem.old problem.new [] (placed_constraint_of interface (pattern_view left) (right_form (pattern_view right)) span ∷ []) []) }
+    ensures { OnOk result (Grows problem.old problem.new []
+        (placed_constraint_of interface (pattern_view left) (right_form (pattern_view right)) span ∷ []) []) }
 {
     problem.constraints.push(Constraint {
         interface,

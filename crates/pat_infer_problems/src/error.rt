@@ -36,6 +36,7 @@ pub enum InferError {
     NoMemory,
 }
 
+// Written out for each error type: the gate takes no `impl` that a macro of the repository wrote.
 impl From<AllocError> for InferError {
     ghost from_gives = { λ _ e. e ≡ NoMemory };
 

@@ -158,7 +158,8 @@ pub fn constrain_names(
     binders: &[Binder],
     problem: &mut Problem,
 ) -> Result<(), AllocError>
-    ensures { OnOk result (Grows problem.old problem.new [] (map (placed_constraint program.now) (binder_constraints function (map binder_view binders.now))) []) }
+    ensures { OnOk result (Grows problem.old problem.new []
+        (map (placed_constraint program.now) (binder_constraints function (map binder_view binders.now))) []) }
 {
     for binder in binders {
         constrain_name(program, function, binder, problem)?;
@@ -200,7 +201,9 @@ pub fn bind_all(
     needs: &[(u32, MailboxType)],
     binders: &mut Sequence<Binder>,
 ) -> Result<(), AllocError>
-    ensures { OnOk result (map binder_view binders.new ≡ map binder_view binders.old ++ names_bound (types_at (map (option_map type_view) types.now)) 0 names.now (needs_view needs.now)) }
+    ensures { OnOk result (map binder_view binders.new
+        ≡ map binder_view binders.old
+        ++ names_bound (types_at (map (option_map type_view) types.now)) 0 names.now (needs_view needs.now)) }
 {
     for (place, name) in names.iter().enumerate() {
         bind_at(types, place, *name as usize, needs, binders)?;
@@ -216,7 +219,9 @@ pub fn bind_at(
     needs: &[(u32, MailboxType)],
     binders: &mut Sequence<Binder>,
 ) -> Result<(), AllocError>
-    ensures { OnOk result (map binder_view binders.new ≡ map binder_view binders.old ++ name_before name (types_at (map (option_map type_view) types.now) place) (need_of (needs_view needs.now) name) []) }
+    ensures { OnOk result (map binder_view binders.new
+        ≡ map binder_view binders.old
+        ++ name_before name (types_at (map (option_map type_view) types.now) place) (need_of (needs_view needs.now) name) []) }
 {
     match type_at(types, place) {
         None => Ok(()),

@@ -73,7 +73,8 @@ pub fn constrain_new(
     asked: &TypeOf,
     problem: &mut Problem,
 ) -> Result<(), InferError>
-    ensures { Adds program.now problem.old problem.new result (new_found node interface (result_view asked.now)).constraints (new_found node interface (result_view asked.now)).findings }
+    ensures { Adds program.now problem.old problem.new result (new_found node interface (result_view asked.now)).constraints
+        (new_found node interface (result_view asked.now)).findings }
 {
     match asked {
         TypeOf::Mailbox {
@@ -105,8 +106,11 @@ pub fn call_needs(
     asked: &TypeOf,
     problem: &mut Problem,
 ) -> Result<Sequence<(u32, MailboxType)>, InferError>
-    ensures found { Adds program.now problem.old problem.new result (signed_call node (result_view asked.now) (signature_view signature.now) (map expr_view args.now)).constraints (signed_call node (result_view asked.now) (signature_view signature.now) (map expr_view args.now)).findings }
-    ensures needs { IfOk result (λ needs. needs_view needs ≡ (signed_call node (result_view asked.now) (signature_view signature.now) (map expr_view args.now)).needs) }
+    ensures found { Adds program.now problem.old problem.new result
+        (signed_call node (result_view asked.now) (signature_view signature.now) (map expr_view args.now)).constraints
+        (signed_call node (result_view asked.now) (signature_view signature.now) (map expr_view args.now)).findings }
+    ensures needs { IfOk result (λ needs. needs_view needs
+        ≡ (signed_call node (result_view asked.now) (signature_view signature.now) (map expr_view args.now)).needs) }
 {
     let all = args_needs(alloc, signature.params.as_slice(), args)?;
     check_node(program, !all.has_twice, Rule::Alias, node)?;
@@ -205,8 +209,11 @@ pub fn send_needs(
     tag: u8,
     args: &[Expr],
 ) -> Result<Sequence<(u32, MailboxType)>, InferError>
-    ensures found { Meets program.now result (send_found node (declared_types (tag_at (program_view program.now) interface tag)) interface target tag (map expr_view args.now)).findings }
-    ensures needs { IfOk result (λ needs. needs_view needs ≡ (send_found node (declared_types (tag_at (program_view program.now) interface tag)) interface target tag (map expr_view args.now)).needs) }
+    ensures found { Meets program.now result (send_found node (declared_types (tag_at (program_view program.now) interface tag))
+        interface target tag (map expr_view args.now)).findings }
+    ensures needs { IfOk result (λ needs. needs_view needs
+        ≡ (send_found node (declared_types (tag_at (program_view program.now) interface tag)) interface target tag
+        (map expr_view args.now)).needs) }
 {
     let mut all = send_args(alloc, program, interface, tag, args)?;
     check_node(program, !stands_twice(target, &all), Rule::Alias, node)?;
@@ -239,7 +246,8 @@ pub fn types_of_tag(
     alloc: Global,
     tag: Option<&TagDecl>,
 ) -> Result<Sequence<Option<MailboxType>>, AllocError>
-    ensures { IfOk result (λ types. map (option_map type_view) types ≡ map payload_sort (payloads_of (option_map (λ t. tag_view t.now) tag.entry))) }
+    ensures { IfOk result (λ types. map (option_map type_view) types
+        ≡ map payload_sort (payloads_of (option_map (λ t. tag_view t.now) tag.entry))) }
 {
     match tag {
         Some(tag) => payload_types(alloc, tag.payloads.as_slice()),

@@ -10,6 +10,7 @@ use Rattle.pat_front.specs.declared.verdict.Verdict.{Verdict}
 use Rattle.pat_front.specs.declared.verdict.Verdict.TheVariants as verdict
 use Rattle.pat_input_split.specs.program_with_text.MarkedPrograms.{HasProgram, RefusesBytes, RefusesFront, IsMarkedRefusal}
 use Rattle.pat_input_split.specs.program_with_text.OneProgram.{OneProgram}
+use Rattle.pat_input_split.proofs.Small.{not_marked}
 
 module _ (mark bytes : List ℕ) (split : OneSplit mark bytes) (one : (front_bytes : List ℕ) → front.OneAnswer front_bytes) where
   same_parts : (f g t u : List ℕ) (p q : Program) → HasProgram mark bytes f t p → HasProgram mark bytes g u q → (f ≡ g) × (t ≡ u) × (p ≡ q)
@@ -26,22 +27,8 @@ module _ (mark bytes : List ℕ) (split : OneSplit mark bytes) (one : (front_byt
       let there = h.has in
       (one f).not_both v there.0 p (subst (λ x. IsRefusal x v) both.0 r.refused) there.1
 
-  -- the bytes are too many, or have no mark: then they are in no parts that are few enough
   bytes_alone : (A : Type 0) (f t : List ℕ) (v : Verdict) → RefusesBytes mark bytes v → length bytes ≤ whole_limit → IsMarked mark bytes f t → A
-  bytes_alone A f t verdict.TooLong r small m =
-      ⊎_elim
-      (λ (long : whole_limit < length bytes). absurd (omega (arith, long, small)))
-      (λ (u : IsUnmarked mark bytes × (limit < length bytes)). absurd (split.not_both f t m u.0))
-      r
-  bytes_alone A f t (verdict.BadText o) r small m = absurd (split.not_both f t m r.0)
-  bytes_alone A f t (verdict.Syntax o) r small m = absurd r
-  bytes_alone A f t (verdict.NumberTooWide o) r small m = absurd r
-  bytes_alone A f t (verdict.TooDeep o) r small m = absurd r
-  bytes_alone A f t (verdict.Resolve k s) r small m = absurd r
-  bytes_alone A f t (verdict.Rejected n q) r small m = absurd r
-  bytes_alone A f t (verdict.RefusedAt i) r small m = absurd r
-  bytes_alone A f t verdict.TooManyEntries r small m = absurd r
-  bytes_alone A f t (verdict.Unaccepted reason) r small m = absurd r
+  bytes_alone A f t v r small m = absurd (not_marked mark bytes split f t v r small m)
 
   -- they are too many for what they are, or a program alone
   data Bare : Verdict → Type 0 where
@@ -59,6 +46,8 @@ module _ (mark bytes : List ℕ) (split : OneSplit mark bytes) (one : (front_byt
   bare (verdict.Rejected n q) r = absurd r
   bare (verdict.RefusedAt i) r = absurd r
   bare verdict.TooManyEntries r = absurd r
+  bare (verdict.Unshown line) r = absurd r
+  bare (verdict.BadCheckpoint rule) r = absurd r
   bare (verdict.Unaccepted reason) r = absurd r
 
   one_bare : (v w : Verdict) → Bare v → Bare w → v ≡ w

@@ -16,6 +16,7 @@ pub enum LexError {
     NoMemory,
 }
 
+// Written out for each error type: the gate takes no `impl` that a macro of the repository wrote.
 impl From<AllocError> for LexError {
     ghost use Rattle.std.specs.Prelude.{◌≡◌};
     ghost use Rattle.pat_lexer.specs.declared.error.LexError.TheVariants.{NoMemory};

@@ -97,6 +97,7 @@ word_front BoolWord = record { front = _; tail = _; is = refl; kind = refl }
 word_front IntWord = record { front = _; tail = _; is = refl; kind = refl }
 word_front StringWord = record { front = _; tail = _; is = refl; kind = refl }
 
+-- a case for each word and each mark, since each computes with its own bytes
 pub mark_front : (m : MarkKind) → Fronts (mark_bytes m) Marks
 mark_front RoundOpen = record { front = _; tail = _; is = refl; kind = refl }
 mark_front RoundClose = record { front = _; tail = _; is = refl; kind = refl }

@@ -34,6 +34,7 @@ word_at_there StringWord = refl
 pub one_word : (v w : Reserved) → word_bytes v ≡ word_bytes w → v ≡ w
 one_word v w e = same_Some v w (sym (word_at_there v) ∙ ap word_at e ∙ word_at_there w)
 
+-- words and marks are two enumerations, and what bytes are is computed case by case in each
 abbrev mark_at : List ℕ → Option Mark
 mark_at own = if bytes_eq own (mark_bytes RoundOpen) then Some RoundOpen else if bytes_eq own (mark_bytes RoundClose) then Some RoundClose else if bytes_eq own (mark_bytes CurlyOpen) then Some CurlyOpen else if bytes_eq own (mark_bytes CurlyClose) then Some CurlyClose else if bytes_eq own (mark_bytes SquareOpen) then Some SquareOpen else if bytes_eq own (mark_bytes SquareClose) then Some SquareClose else if bytes_eq own (mark_bytes Comma) then Some Comma else if bytes_eq own (mark_bytes Semicolon) then Some Semicolon else if bytes_eq own (mark_bytes Colon) then Some Colon else if bytes_eq own (mark_bytes Dot) then Some Dot else if bytes_eq own (mark_bytes Plus) then Some Plus else if bytes_eq own (mark_bytes Minus) then Some Minus else if bytes_eq own (mark_bytes Star) then Some Star else if bytes_eq own (mark_bytes Less) then Some Less else if bytes_eq own (mark_bytes Bang) then Some Bang else if bytes_eq own (mark_bytes Question) then Some Question else if bytes_eq own (mark_bytes Equals) then Some Equals else if bytes_eq own (mark_bytes DoubleEquals) then Some DoubleEquals else if bytes_eq own (mark_bytes Arrow) then Some Arrow else None
 

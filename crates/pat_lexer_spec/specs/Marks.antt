@@ -1,4 +1,4 @@
--- The marks.
+-- The marks. They are an enumeration apart from the reserved words, since a token is the one or the other.
 use Rattle.std.specs.Prelude.{ℕ, List, codes}
 
 -- a mark

@@ -103,7 +103,8 @@ impl Lists {
     pub fn multiply_each(&mut self, alloc: Global, a: &LinearSet) -> Result<(), AllocError>
         requires there { 1 ≤ length self.old }
         requires room { HasRoom (set_view a.now) (sets_view (top_of self.old)) }
-        ensures { OnOk result (forms_view self.new ≡ map (set_product_of most_tags (set_view a.now)) (sets_view (top_of self.old)) ∷ forms_view (drop 1 self.old)) }
+        ensures { OnOk result (forms_view self.new
+            ≡ map (set_product_of most_tags (set_view a.now)) (sets_view (top_of self.old)) ∷ forms_view (drop 1 self.old)) }
     {
         match self.starts.top() {
             None => unreachable!(),

@@ -55,7 +55,8 @@ pub fn multiply_from(
 ) -> Result<(), AllocError>
     requires room { HasRoom (set_view a.now) (sets_view (drop start sets.old)) }
     ensures length { length sets.new ≡ length sets.old }
-    ensures products { OnOk result (sets_view sets.new ≡ sets_view (take start sets.old) ++ map (set_product_of most_tags (set_view a.now)) (sets_view (drop start sets.old))) }
+    ensures products { OnOk result (sets_view sets.new
+        ≡ sets_view (take start sets.old) ++ map (set_product_of most_tags (set_view a.now)) (sets_view (drop start sets.old))) }
 {
     for place in start..sets.len() {
         multiply_onto(alloc, a, &mut sets.items[place])?;

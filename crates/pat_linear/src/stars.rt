@@ -82,7 +82,8 @@ pub fn star_of_words(alloc: Global, sets: &[LinearSet]) -> Result<LinearSet, All
 pub fn star(alloc: Global, sets: &[LinearSet]) -> Result<Sequence<LinearSet>, FormError>
     requires within { SetsWithin (2 ^ 27) (2 ^ 27) (sets_view sets.now) }
     requires clean { SetsClean most_tags (sets_view sets.now) }
-    ensures { GivesSets result (stars_are_short most_tags (only_empty_set ∷ []) (sets_view sets.now)) (times_stars_of most_tags (only_empty_set ∷ []) (sets_view sets.now)) }
+    ensures { GivesSets result (stars_are_short most_tags (only_empty_set ∷ []) (sets_view sets.now))
+        (times_stars_of most_tags (only_empty_set ∷ []) (sets_view sets.now)) }
 {
     let mut made = list_of(alloc, only_empty(alloc))?;
     for set in sets {

@@ -39,6 +39,7 @@ pub ended : (p : Program) (c : Config) (t : ℕ) (s : Thread) (d : Config) → E
 ended p c t s d (end_value e env at none is) = is
 ended p c t s d (end_return v at none is) = is
 
+-- act by act, since what a step keeps is read off its own result
 act_moves : (p : Program) (c : Config) (t : ℕ) (a : Act) (d : Config) → step p c (record { thread = t; act = a }) ≡ Some d → Moves c t a d
 act_moves p c t ActLocal d h =
     let o = step_of p c (record { thread = t; act = ActLocal }) d h in

@@ -62,7 +62,8 @@ pub fn push_arguments(
     arguments: &[Expr],
     out: &mut Sequence<(u32, MailboxType)>,
 ) -> Result<(), AllocError>
-    ensures { OnOk result (needs_view out.new ≡ needs_view out.old ++ asked_args (map (option_map type_view) types.now) (map expr_view arguments.now)) }
+    ensures { OnOk result (needs_view out.new
+        ≡ needs_view out.old ++ asked_args (map (option_map type_view) types.now) (map expr_view arguments.now)) }
 {
     let mut rest = types;
     for argument in arguments {
@@ -129,7 +130,9 @@ pub fn clause_given(
     declared: &TagDecl,
     clause: &Clause,
 ) -> Result<Sequence<(u32, MailboxType)>, AllocError>
-    ensures { IfOk result (λ given. needs_view given ≡ clause_entries (needs_view env.now) guarded interface (pattern_view pattern.now) (tag_view declared.now) (clause_view clause.now)) }
+    ensures { IfOk result (λ given. needs_view given
+        ≡ clause_entries (needs_view env.now) guarded interface (pattern_view pattern.now) (tag_view declared.now)
+        (clause_view clause.now)) }
 {
     let mut given = Sequence::new(alloc);
     let pattern = residual(alloc, pattern, clause.tag)?;

@@ -124,7 +124,8 @@ pub fn divide_names<'a>(
     body: &'a [(u32, MailboxType)],
     out: &mut Sequence<Demand<'a>>,
 ) -> Result<(), AllocError>
-    ensures { OnOk result (demands_view out.new ≡ demands_view out.old ++ divides_in names.now but (needs_view given.now) (needs_view bound.now) (needs_view body.now)) }
+    ensures { OnOk result (demands_view out.new
+        ≡ demands_view out.old ++ divides_in names.now but (needs_view given.now) (needs_view bound.now) (needs_view body.now)) }
 {
     out.items.reserve(names.len() + 1)?;
     put_divided(names, but, given, bound, body, &mut out.items);
@@ -215,7 +216,8 @@ pub fn pass_to_part(
     part: u32,
     out: &mut Sequence<Demand>,
 ) -> Result<(), AllocError>
-    ensures { OnOk result (demands_view out.new ≡ demands_view out.old ++ passes_to names.now (needs_view given.now) (line_at (derivation_view derivation.now) part)) }
+    ensures { OnOk result (demands_view out.new
+        ≡ demands_view out.old ++ passes_to names.now (needs_view given.now) (line_at (derivation_view derivation.now) part)) }
 {
     match line_of(derivation, part) {
         None => Ok(()),

@@ -114,7 +114,8 @@ fn whole_text(alloc: Global, tokens: Vec<Token>, end: u32) -> Result<Tree, Parse
 /// refused.
 pub fn parse(alloc: Global, tokens: Vec<Token>, end: u32) -> Result<Tree, ParseError>
     // A tree is the one that the tokens spell within the limits, and an error says where they first can't.
-    ensures answers { MatchResult result (λ t. SpellsTree limits (map token_view tokens.items) (tree_view t)) (λ e. Explains end (map token_view tokens.items) e) }
+    ensures answers { MatchResult result (λ t. SpellsTree limits (map token_view tokens.items) (tree_view t))
+        (λ e. Explains end (map token_view tokens.items) e) }
     // What the tokens spell is answered, unless memory runs out.
     ensures tree { (t : trees.Tree) → SpellsTree limits (map token_view tokens.items) t → GivesAt tree_view result (Ok t) }
     // So is a token that is unexpected, and the end of the text.

@@ -16,7 +16,8 @@ use std::alloc::{AllocError, Global};
 pub fn subst(alloc: Global, p: &Pattern, values: &[Pattern]) -> Result<Pattern, AllocError>
     requires { IsTrue (has_values (length values.now) (pattern_view p.now)) }
     ensures value { IfOk result (λ q. pattern_view q ≡ subst_of (value_at (patterns_view values.now)) (pattern_view p.now)) }
-    ensures words { IfOk result (λ q. (w : Word) → In (pattern_view q) w ↔ InWith (value_at (patterns_view values.now)) (pattern_view p.now) w) }
+    ensures words { IfOk result (λ q. (w : Word)
+        → In (pattern_view q) w ↔ InWith (value_at (patterns_view values.now)) (pattern_view p.now) w) }
 {
     let mut done = Stack::new(alloc);
     subst_onto(alloc, p, values, &mut done)?;

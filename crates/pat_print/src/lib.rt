@@ -24,7 +24,8 @@ use std::alloc::{AllocError, Global};
 /// limits, the text printed is read as that tree, places aside, within the same limits.
 pub fn print(alloc: Global, tree: &Tree) -> Result<Vec<u8>, AllocError>
     ensures canonical { IfOk result (λ text. text.items ≡ canonical_text (tree_view tree.now)) }
-    ensures read_again { (lim : Limits) → CanBeSpelled lim (tree_view tree.now) → IfOk result (λ text. ReadsAs lim text.items (tree_view tree.now)) }
+    ensures read_again { (lim : Limits) → CanBeSpelled lim (tree_view tree.now)
+        → IfOk result (λ text. ReadsAs lim text.items (tree_view tree.now)) }
 {
     tree_lines(alloc, tree)
 }

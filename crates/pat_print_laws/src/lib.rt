@@ -17,7 +17,8 @@ ghost use Rattle.pat_print_laws.specs.ReadAgain.{IsWritable, DividesInto, CanBeS
 /// The tokens of the canonical text of a tree that was read are read as the same tree, places aside, within the same
 /// limits: none of them is too deep.
 pub fn round_trip_law()
-    ensures { (lim : Limits) (ts us : List Spanned) (m : Tree) → SpellsTree lim ts m → kinds us ≡ tokens_of (canonical m) → SpelledAgain lim m us }
+    ensures { (lim : Limits) (ts us : List Spanned) (m : Tree) → SpellsTree lim ts m → kinds us ≡ tokens_of (canonical m)
+        → SpelledAgain lim m us }
 {}
 
 /// The canonical text of two trees, by computation: brackets, braces, spaces, escapes and types of payloads.
@@ -40,7 +41,8 @@ pub fn writable_law()
 /// The canonical text of the tree of a text is read as that tree, places aside, within the same limits: no token of it
 /// is too deep.
 pub fn text_round_trip_law()
-    ensures { (lim : Limits) (text : List ℕ) (ts : List Spanned) (m : Tree) → Divides text ts → SpellsTree lim ts m → ReadsAs lim (canonical_text m) m }
+    ensures { (lim : Limits) (text : List ℕ) (ts : List Spanned) (m : Tree) → Divides text ts → SpellsTree lim ts m
+        → ReadsAs lim (canonical_text m) m }
 {}
 
 /// The canonical text of any tree that is, places aside, the tree of tokens that bytes spell, is read as that tree, places

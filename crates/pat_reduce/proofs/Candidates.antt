@@ -99,7 +99,7 @@ no_receive p c t frames free cs env None o h = refl
 no_receive p c t frames free cs env (Some (Const k)) o h = refl
 no_receive p c t frames free cs env (Some (Mailbox a)) o h = absurd cc
 
--- no other act is enabled where no guard stands on a mailbox
+-- no other act is enabled where no guard stands on a mailbox: each form with each act, since a case computes only where both are known
 no_other : (p : Program) (c : Config) (t : ℕ) (frames : List Frame) (r : Redex) (a : Act) → guard_at r ≡ None → (acted p c t frames r a ≡ None) ⊎ ((candidate p r frames).1 ≡ a)
 no_other p c t [] (At (Val e) env) ActLocal h = inl refl
 no_other p c t (f ∷ frames) (At (Val e) env) ActLocal h = inr refl

@@ -2,6 +2,7 @@ mod Places
 mod Taken
 -- for the crates above
 pub mod Shared
+pub mod Ascending
 pub mod Candidates
 pub mod LeastActs
 pub mod StepNumbers

@@ -27,7 +27,8 @@ impl Config {
     pub fn enabled_act(&self, code: &Executable, thread: u32) -> Option<Act>
         ensures enabled { EnabledAct (program_view code.now.program) (config_view self.now) thread (option_map act_view result) }
         ensures first { IsFirst (program_view code.now.program) (config_view self.now) thread (option_map act_view result) }
-        ensures least { IsOrdered (config_view self.now) → IsLeast (program_view code.now.program) (config_view self.now) thread (option_map act_view result) }
+        ensures least { IsOrdered (config_view self.now)
+            → IsLeast (program_view code.now.program) (config_view self.now) thread (option_map act_view result) }
     {
         match place_of(self.threads.as_slice(), thread) {
             Some(place) => self.act_at_place(code, thread, place),
@@ -49,7 +50,8 @@ impl Config {
     /// The first thread that has an enabled step, if one has: the one of the least number where the configuration is in order.
     pub fn ready_thread(&self, code: &Executable) -> Option<u32>
         ensures some { IfSome result (λ t. IsTrue (can_step_thread (program_view code.now.program) (config_view self.now) t)) }
-        ensures least { IfSome result (λ t. IsOrdered (config_view self.now) → IsLeastReady (program_view code.now.program) (config_view self.now) t) }
+        ensures least { IfSome result (λ t. IsOrdered (config_view self.now)
+            → IsLeastReady (program_view code.now.program) (config_view self.now) t) }
         ensures step { IfSome result (λ t. IsTrue (can_step (program_view code.now.program) (config_view self.now))) }
         ensures none { IfNone result (IsFalse (can_step (program_view code.now.program) (config_view self.now))) }
     {
@@ -91,7 +93,9 @@ impl Config {
 
 /// The act of a thread that stands at no guard, where it is enabled.
 pub fn plain_act(code: &Executable, state: &ThreadState) -> Option<Act>
-    ensures { option_map act_view result ≡ plain_act (program_view code.now.program) (redex (program_view code.now.program) (control_view state.now.control)) (map frame_view state.now.frames) }
+    ensures { option_map act_view result
+        ≡ plain_act (program_view code.now.program) (redex (program_view code.now.program) (control_view state.now.control))
+        (map frame_view state.now.frames) }
 {
     let is_last = state.frames.is_empty();
     match &state.control {

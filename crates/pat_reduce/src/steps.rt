@@ -61,7 +61,8 @@ impl Config {
         requires mailboxes { step.now.act ≡ New → self.old.next_mailbox < most_number }
         requires messages { step.now.act ≡ Send → self.old.next_message < most_number }
         requires threads { step.now.act ≡ Spawn → self.old.next_thread < most_number }
-        ensures { StepGives config_view (after_step (program_view code.now.program) (config_view self.old) (step_view step.now)) self.old self.new result }
+        ensures { StepGives config_view (after_step (program_view code.now.program) (config_view self.old) (step_view step.now))
+            self.old self.new result }
     {
         match place_of(self.threads.as_slice(), step.thread) {
             Some(place) => self.step_at_place(alloc, code, step, place),
@@ -81,7 +82,8 @@ impl Config {
         requires mailboxes { step.now.act ≡ New → self.old.next_mailbox < most_number }
         requires messages { step.now.act ≡ Send → self.old.next_message < most_number }
         requires threads { step.now.act ≡ Spawn → self.old.next_thread < most_number }
-        ensures { StepGives config_view (after_step (program_view code.now.program) (config_view self.old) (step_view step.now)) self.old self.new result }
+        ensures { StepGives config_view (after_step (program_view code.now.program) (config_view self.old) (step_view step.now))
+            self.old self.new result }
     {
         match step.act {
             Act::Local => self.step_locally(alloc, code, step.thread, place),

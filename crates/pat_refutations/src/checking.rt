@@ -22,7 +22,9 @@ pub fn check_refutation(
     right: &Pattern,
     refutation: &Refutation,
 ) -> Result<bool, AllocError>
-    ensures { IfOk result (λ yes. IsTrue yes ↔ Refutes (bounds_of (patterns_view system.now)) (pattern_view left.now) (pattern_view right.now) (word_of refutation.now.word) (bound_view refutation.now.tree)) }
+    ensures { IfOk result (λ yes. IsTrue yes
+        ↔ Refutes (bounds_of (patterns_view system.now)) (pattern_view left.now) (pattern_view right.now)
+        (word_of refutation.now.word) (bound_view refutation.now.tree)) }
 {
     derivable_laws();
     if !shows(alloc, system, &refutation.tree, left, &refutation.word)? {

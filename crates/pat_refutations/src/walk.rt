@@ -35,7 +35,8 @@ pub fn shows(
     p: &Pattern,
     word: &Bag,
 ) -> Result<bool, AllocError>
-    ensures { IfOk result (λ yes. IsTrue yes ↔ (tree_word (bounds_of (patterns_view system.now)) (bound_view tree.now) (pattern_view p.now) ≡ Some (word_of word.now))) }
+    ensures { IfOk result (λ yes. IsTrue yes
+        ↔ (tree_word (bounds_of (patterns_view system.now)) (bound_view tree.now) (pattern_view p.now) ≡ Some (word_of word.now))) }
 {
     let mut tasks = Stack::new(alloc);
     let mut left = *word;

@@ -53,6 +53,8 @@ module _ (p : Program) (from : ℕ) (text part : List ℕ) (own : IsHistoryPart 
   of_refusal (verdict.Resolve k s) why = absurd why
   of_refusal (verdict.Rejected n rule) why = absurd why
   of_refusal verdict.TooManyEntries why = absurd why
+  of_refusal (verdict.Unshown line) why = absurd why
+  of_refusal (verdict.BadCheckpoint rule) why = absurd why
   of_refusal (verdict.Unaccepted reason) why = absurd why
 
   pub text_gives : (q : Program) (r : Result Replayed FrontError) → q ≡ p → PartGives q from part r → TextGives p from text r

@@ -69,6 +69,8 @@ module _ (refused_law : NoReplayIsRefused) (once_law : OneEntryIsRefused) (one_r
   not_replayed from es c (verdict.Resolve k s) h u = absurd u
   not_replayed from es c (verdict.Rejected n r) h u = absurd u
   not_replayed from es c verdict.TooManyEntries h u = absurd u
+  not_replayed from es c (verdict.Unshown line) h u = absurd u
+  not_replayed from es c (verdict.BadCheckpoint rule) h u = absurd u
   not_replayed from es c (verdict.Unaccepted reason) h u = absurd u
 
   -- what isn't replayed has a bad line, or a bad entry
@@ -86,6 +88,8 @@ module _ (refused_law : NoReplayIsRefused) (once_law : OneEntryIsRefused) (one_r
   why from (verdict.Resolve k s) u = absurd u
   why from (verdict.Rejected n r) u = absurd u
   why from verdict.TooManyEntries u = absurd u
+  why from (verdict.Unshown line) u = absurd u
+  why from (verdict.BadCheckpoint rule) u = absurd u
   why from (verdict.Unaccepted reason) u = absurd u
 
   one_why : (from : ℕ) (v w : Verdict) → Why from v → Why from w → v ≡ w

@@ -186,11 +186,16 @@ pub fn resolve_functions<'a>(
     decls: &'a [Decl],
 ) -> Result<Resolution<'a>, ResolveError>
     requires { tree_size (map decl_view decls.now) < most_number }
-    ensures found { Meets result (bodies_findings (names_view heads.now.names) (heads_view heads.now) (definitions_of (map decl_view decls.now))) }
-    ensures functions { IfOk result (λ r. map function_view r.functions ≡ functions_from (names_view heads.now.names) (heads_view heads.now) 0 (definitions_of (map decl_view decls.now))) }
-    ensures function_places { IfOk result (λ r. map function_places r.functions ≡ map written_places (definitions_of (map decl_view decls.now))) }
-    ensures nodes { IfOk result (λ r. map node_view r.numbering.nodes ≡ nodes_from (names_view heads.now.names) (heads_view heads.now) 0 0 (definitions_of (map decl_view decls.now))) }
-    ensures node_places { IfOk result (λ r. map (λ d. span_view d.span) r.numbering.nodes ≡ flat_map (λ d. node_places d.body) (definitions_of (map decl_view decls.now))) }
+    ensures found { Meets result (bodies_findings (names_view heads.now.names) (heads_view heads.now)
+        (definitions_of (map decl_view decls.now))) }
+    ensures functions { IfOk result (λ r. map function_view r.functions
+        ≡ functions_from (names_view heads.now.names) (heads_view heads.now) 0 (definitions_of (map decl_view decls.now))) }
+    ensures function_places { IfOk result (λ r. map function_places r.functions
+        ≡ map written_places (definitions_of (map decl_view decls.now))) }
+    ensures nodes { IfOk result (λ r. map node_view r.numbering.nodes
+        ≡ nodes_from (names_view heads.now.names) (heads_view heads.now) 0 0 (definitions_of (map decl_view decls.now))) }
+    ensures node_places { IfOk result (λ r. map (λ d. span_view d.span) r.numbering.nodes
+        ≡ flat_map (λ d. node_places d.body) (definitions_of (map decl_view decls.now))) }
 {
     let mut made = Resolution {
         functions: Sequence::new(alloc),

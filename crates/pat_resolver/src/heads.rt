@@ -33,7 +33,8 @@ pub fn number_head(
     params: &[Param],
     outcome: &TreeType,
 ) -> Result<Head, AllocError>
-    ensures params { IfOk result (λ h. map sort_view h.params ≡ map (λ p. sort_of (names_view heads.now.names) p.type) (map param_view params.now)) }
+    ensures params { IfOk result (λ h. map sort_view h.params
+        ≡ map (λ p. sort_of (names_view heads.now.names) p.type) (map param_view params.now)) }
     ensures result { IfOk result (λ h. sort_view h.result ≡ sort_of (names_view heads.now.names) (type_view outcome.now)) }
     ensures param_places { IfOk result (λ h. map sort_place h.params ≡ map (λ p. type_place p.type) (map param_view params.now)) }
     ensures result_place { IfOk result (λ h. sort_place h.result ≡ type_place (type_view outcome.now)) }

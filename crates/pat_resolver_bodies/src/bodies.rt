@@ -36,8 +36,11 @@ pub fn check_body<'a>(
     body: &'a Term,
 ) -> Result<(), ResolveError>
     requires { length variables.old.kinds + binders_in (term_view body.now) < number_count }
-    ensures found { Meets result (term_findings (heads_view heads.now) (scope_view scope.old) (length variables.old.kinds) (kind_view need) (term_view body.now)) }
-    ensures kinds { OnOk result (map kind_view variables.new.kinds ≡ map kind_view variables.old.kinds ++ vars_of (heads_view heads.now) (scope_view scope.old) (length variables.old.kinds) (term_view body.now)) }
+    ensures found { Meets result (term_findings (heads_view heads.now) (scope_view scope.old) (length variables.old.kinds)
+        (kind_view need) (term_view body.now)) }
+    ensures kinds { OnOk result (map kind_view variables.new.kinds
+        ≡ map kind_view variables.old.kinds
+        ++ vars_of (heads_view heads.now) (scope_view scope.old) (length variables.old.kinds) (term_view body.now)) }
     ensures spans { OnOk result (map span_view variables.new.spans ≡ map span_view variables.old.spans ++ var_places (term_view body.now)) }
     ensures scope { OnOk result (scope.new ≡ scope.old) }
 {

@@ -33,8 +33,13 @@ pub fn open_guard(
     pattern: &TreePattern,
     span: Span,
 ) -> Result<u32, ResolveError>
-    ensures refused { IfErr result (λ e. (then : ℕ → List Finding) → Refuses e (on_mailbox (span_view span) (name_view name.now) (variable_of (scope_view scope.now) name.now.text) (λ i. pattern_findings (tag_names (heads_view heads.now) i) (pattern_view pattern.now) ++ then i))) }
-    ensures goes_on { IfOk result (λ i. (then : ℕ → List Finding) → first_of (on_mailbox (span_view span) (name_view name.now) (variable_of (scope_view scope.now) name.now.text) (λ j. pattern_findings (tag_names (heads_view heads.now) j) (pattern_view pattern.now) ++ then j)) ≡ first_of (then i)) }
+    ensures refused { IfErr result (λ e. (then : ℕ → List Finding)
+        → Refuses e (on_mailbox (span_view span) (name_view name.now) (variable_of (scope_view scope.now) name.now.text)
+        (λ i. pattern_findings (tag_names (heads_view heads.now) i) (pattern_view pattern.now) ++ then i))) }
+    ensures goes_on { IfOk result (λ i. (then : ℕ → List Finding)
+        → first_of (on_mailbox (span_view span) (name_view name.now) (variable_of (scope_view scope.now) name.now.text)
+        (λ j. pattern_findings (tag_names (heads_view heads.now) j) (pattern_view pattern.now) ++ then j))
+        ≡ first_of (then i)) }
     ensures interface { IfOk result (λ i. guarded (scope_view scope.now) name.now.text ≡ i) }
 {
     let interface = mailbox_named(scope, name, span)?;
@@ -71,11 +76,19 @@ pub fn open_receive<'a>(
     from: &'a Name,
 ) -> Result<(), ResolveError>
     requires { length variables.old.kinds + length names.now + 1 < number_count }
-    ensures found { Meets result (tag_findings (name_view tag.now) (length (map name_view names.now)) (tag_named (heads_view heads.now) interface tag.now.text) ++ names_findings [] ((map name_view names.now) ++ name_view from.now ∷ [])) }
-    ensures scope { OnOk result (scope_view scope.new ≡ clause_scope (heads_view heads.now) interface (scope_view scope.old) (length variables.old.kinds) (name_view tag.now) (map name_view names.now) (name_view from.now)) }
+    ensures found { Meets result (tag_findings (name_view tag.now) (length (map name_view names.now))
+        (tag_named (heads_view heads.now) interface tag.now.text)
+        ++ names_findings [] ((map name_view names.now) ++ name_view from.now ∷ [])) }
+    ensures scope { OnOk result (scope_view scope.new
+        ≡ clause_scope (heads_view heads.now) interface (scope_view scope.old) (length variables.old.kinds) (name_view tag.now)
+        (map name_view names.now) (name_view from.now)) }
     ensures above { OnOk result (IsAbove scope.old scope.new) }
-    ensures kinds { OnOk result (map kind_view variables.new.kinds ≡ map kind_view variables.old.kinds ++ (kinds_for (map name_view names.now) (payload_kinds (tag_named (heads_view heads.now) interface tag.now.text)) ++ MailboxOf interface ∷ [])) }
-    ensures spans { OnOk result (map span_view variables.new.spans ≡ map span_view variables.old.spans ++ (map (λ x. x.span) (map name_view names.now) ++ span_view from.now.span ∷ [])) }
+    ensures kinds { OnOk result (map kind_view variables.new.kinds
+        ≡ map kind_view variables.old.kinds
+        ++ (kinds_for (map name_view names.now) (payload_kinds (tag_named (heads_view heads.now) interface tag.now.text))
+        ++ MailboxOf interface ∷ [])) }
+    ensures spans { OnOk result (map span_view variables.new.spans
+        ≡ map span_view variables.old.spans ++ (map (λ x. x.span) (map name_view names.now) ++ span_view from.now.span ∷ [])) }
     ensures count { OnOk result (length variables.new.kinds ≡ suc (length variables.old.kinds + length (map name_view names.now))) }
 {
     let declared = check_tag(heads, interface, tag, names.len())?;

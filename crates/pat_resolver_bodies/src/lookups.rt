@@ -20,8 +20,10 @@ use pat_tree::{Name, TreeExpr, TreePattern};
 
 /// The interface of the mailbox that a name stands for. A variable of another kind is answered with the place of the term.
 pub fn mailbox_named(scope: &ScopeTable, name: &Name, span: Span) -> Result<u32, ResolveError>
-    ensures refused { IfErr result (λ e. (then : ℕ → List Finding) → Refuses e (on_mailbox (span_view span) (name_view name.now) (variable_of (scope_view scope.now) name.now.text) then)) }
-    ensures goes_on { IfOk result (λ i. (then : ℕ → List Finding) → on_mailbox (span_view span) (name_view name.now) (variable_of (scope_view scope.now) name.now.text) then ≡ then i) }
+    ensures refused { IfErr result (λ e. (then : ℕ → List Finding)
+        → Refuses e (on_mailbox (span_view span) (name_view name.now) (variable_of (scope_view scope.now) name.now.text) then)) }
+    ensures goes_on { IfOk result (λ i. (then : ℕ → List Finding)
+        → on_mailbox (span_view span) (name_view name.now) (variable_of (scope_view scope.now) name.now.text) then ≡ then i) }
     ensures interface { IfOk result (λ i. guarded (scope_view scope.now) name.now.text ≡ i) }
 {
     match scope.find(&name.text) {
@@ -41,7 +43,8 @@ pub fn check_tag<'a>(
     count: usize,
 ) -> Result<&'a TagDecl, ResolveError>
     ensures found { Meets result (tag_findings (name_view tag.now) count (tag_named (heads_view heads.now) interface tag.now.text)) }
-    ensures kinds { IfOk result (λ d. payload_kinds (tag_named (heads_view heads.now) interface tag.now.text) ≡ map kind_of (map sort_view d.now.payloads)) }
+    ensures kinds { IfOk result (λ d. payload_kinds (tag_named (heads_view heads.now) interface tag.now.text)
+        ≡ map kind_of (map sort_view d.now.payloads)) }
     ensures count { IfOk result (λ d. length d.now.payloads ≡ count) }
 {
     match heads.tag_named(interface, &tag.text) {
@@ -66,8 +69,11 @@ pub fn check_call(
     args: &[TreeExpr],
     span: Span,
 ) -> Result<Kind, ResolveError>
-    ensures found { Meets result (call_findings (scope_view scope.now) (needed (option_map kind_view need) (call_kind (function_named (heads_view heads.now) name.now.text))) (name_view name.now) (map expr_view args.now) (span_view span) (function_named (heads_view heads.now) name.now.text)) }
-    ensures kind { IfOk result (λ k. kind_view k ≡ needed (option_map kind_view need) (call_kind (function_named (heads_view heads.now) name.now.text))) }
+    ensures found { Meets result (call_findings (scope_view scope.now)
+        (needed (option_map kind_view need) (call_kind (function_named (heads_view heads.now) name.now.text))) (name_view name.now)
+        (map expr_view args.now) (span_view span) (function_named (heads_view heads.now) name.now.text)) }
+    ensures kind { IfOk result (λ k. kind_view k
+        ≡ needed (option_map kind_view need) (call_kind (function_named (heads_view heads.now) name.now.text))) }
 {
     match heads.function_named(&name.text) {
         None => Err(broken(ResolveKind::UnknownName, name.span)),
@@ -88,8 +94,11 @@ pub fn check_new(
     name: &Name,
     span: Span,
 ) -> Result<Kind, ResolveError>
-    ensures found { Meets result (new_findings (needed (option_map kind_view need) (new_kind (interface_called (heads_view heads.now) name.now.text))) (name_view name.now) (span_view span) (interface_called (heads_view heads.now) name.now.text)) }
-    ensures kind { IfOk result (λ k. kind_view k ≡ needed (option_map kind_view need) (new_kind (interface_called (heads_view heads.now) name.now.text))) }
+    ensures found { Meets result (new_findings
+        (needed (option_map kind_view need) (new_kind (interface_called (heads_view heads.now) name.now.text))) (name_view name.now)
+        (span_view span) (interface_called (heads_view heads.now) name.now.text)) }
+    ensures kind { IfOk result (λ k. kind_view k
+        ≡ needed (option_map kind_view need) (new_kind (interface_called (heads_view heads.now) name.now.text))) }
 {
     match heads.interface_called(&name.text) {
         None => Err(broken(ResolveKind::UnknownName, name.span)),
@@ -107,7 +116,10 @@ pub fn check_send(
     args: &[TreeExpr],
     span: Span,
 ) -> Result<(), ResolveError>
-    ensures { Meets result (on_mailbox (span_view span) (name_view name.now) (variable_of (scope_view scope.now) name.now.text) (λ i. tag_findings (name_view tag.now) (length (map expr_view args.now)) (tag_named (heads_view heads.now) i tag.now.text) ++ args_findings (scope_view scope.now) (payload_kinds (tag_named (heads_view heads.now) i tag.now.text)) (map expr_view args.now))) }
+    ensures { Meets result (on_mailbox (span_view span) (name_view name.now) (variable_of (scope_view scope.now) name.now.text)
+        (λ i. tag_findings (name_view tag.now) (length (map expr_view args.now)) (tag_named (heads_view heads.now) i tag.now.text)
+        ++ args_findings (scope_view scope.now) (payload_kinds (tag_named (heads_view heads.now) i tag.now.text))
+        (map expr_view args.now))) }
 {
     let interface = mailbox_named(scope, name, span)?;
     let declared = check_tag(heads, interface, tag, args.len())?;

@@ -49,11 +49,15 @@ pub fn bind_names<'a>(
 ) -> Result<(), AllocError>
     requires same { length names.now ≡ length sorts.now }
     requires fits { length variables.old.kinds + length names.now < number_count }
-    ensures scope { OnOk result (scope_view scope.new ≡ names_bound (length variables.old.kinds) (map name_view names.now) (map kind_of (map sort_view sorts.now)) (scope_view scope.old)) }
+    ensures scope { OnOk result (scope_view scope.new
+        ≡ names_bound (length variables.old.kinds) (map name_view names.now) (map kind_of (map sort_view sorts.now))
+        (scope_view scope.old)) }
     ensures behind { OnOk result (drop (length names.now) scope.new ≡ scope.old) }
     ensures more { OnOk result (length scope.new ≡ length scope.old + length names.now) }
-    ensures kinds { OnOk result (map kind_view variables.new.kinds ≡ map kind_view variables.old.kinds ++ kinds_for (map name_view names.now) (map kind_of (map sort_view sorts.now))) }
-    ensures spans { OnOk result (map span_view variables.new.spans ≡ map span_view variables.old.spans ++ map (λ x. x.span) (map name_view names.now)) }
+    ensures kinds { OnOk result (map kind_view variables.new.kinds
+        ≡ map kind_view variables.old.kinds ++ kinds_for (map name_view names.now) (map kind_of (map sort_view sorts.now))) }
+    ensures spans { OnOk result (map span_view variables.new.spans
+        ≡ map span_view variables.old.spans ++ map (λ x. x.span) (map name_view names.now)) }
     ensures count { OnOk result (length variables.new.kinds ≡ length variables.old.kinds + length names.now) }
 {
     for (place, name) in names.iter().enumerate() {

@@ -84,7 +84,8 @@ pub fn number_signatures<'a>(
     decls: &'a [Decl],
 ) -> Result<Sequence<Signature<'a>>, AllocError>
     requires { All (λ t. length t.tags ≤ 32) names.now.interfaces }
-    ensures numbers { IfOk result (λ ss. map signature_view ss ≡ map (signature_of (names_view names.now)) (definitions_of (map decl_view decls.now))) }
+    ensures numbers { IfOk result (λ ss. map signature_view ss
+        ≡ map (signature_of (names_view names.now)) (definitions_of (map decl_view decls.now))) }
     ensures params { IfOk result (λ ss. map param_places ss ≡ map written_params (definitions_of (map decl_view decls.now))) }
     ensures results { IfOk result (λ ss. map result_place ss ≡ map written_result (definitions_of (map decl_view decls.now))) }
     ensures few { IfOk result (λ ss. length ss ≤ length decls.now) }

@@ -6,5 +6,5 @@ mod options;
 mod single;
 
 pub use dispatch::{run_alone, run_in_threads};
-pub use options::{RunOptions, number_of, options_of};
+pub use options::{RunOptions, number_of, options_of, steps_of};
 pub use single::{Finished, Outcome};

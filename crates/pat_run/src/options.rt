@@ -2,4 +2,4 @@
 
 mod options;
 
-pub use options::{RunOptions, number_of, options_of};
+pub use options::{RunOptions, number_of, options_of, steps_of};

@@ -3,16 +3,13 @@ use Rattle.std.proofs.Common.{◌≡◌, ℕ, Bool, true, false, ◌||◌, ◌&&
 use Rattle.std.specs.Prelude.{is_some, filter}
 use Rattle.std.specs.List.{list_any}
 use Rattle.std.proofs.lemmas.Bool.{or_cases, or_left, or_right, eq-eqb, eqb-true, ne_eqb, cases_Bool, cond-true, cond-false, false_from_ne_true, and_cases, and_from}
-use Rattle.pat_words_spec.specs.Words.{no_word}
-use Rattle.pat_words_spec.specs.Patterns.{Pat, Prod, In, Included}
-use Rattle.pat_words_laws.proofs.WordLaws.{none_plus, plus_none}
 use Rattle.pat_semantics_spec.specs.Values.{Mailbox, Env, value_at}
-use Rattle.pat_semantics_spec.specs.Programs.{Program, Polarity, Sending, Receiving, Core, Let, core_at, is_free, keep, is_among, option_list, parts}
+use Rattle.pat_semantics_spec.specs.Programs.{Program, Core, Let, core_at, is_free, keep, is_among, option_list, parts}
 use Rattle.pat_semantics_spec.specs.WellFormed.{WellFormed}
 use Rattle.pat_semantics_spec.specs.Configs.{Running, Frame, Thread, Config, thread_at, with_thread, env_refers, control_refers, thread_refers, pending}
 use Rattle.pat_semantics_spec.specs.Steps.{thread_of, at_node, frame_of}
 use Rattle.pat_semantics_laws.proofs.FreeVars.{free_unfolds}
-use Rattle.pat_type_system_spec.specs.Types.{Usage, Second, Returnable, MailboxType, mailbox_type, UsageFits, TypeFits, PatternJoins, DropsAs, Fits, SplitsTo, TypeEnv, PassesTo}
+use Rattle.pat_type_system_spec.specs.Types.{Second, Returnable, MailboxType, TypeFits, SplitsTo, TypeEnv, PassesTo}
 use Rattle.pat_type_system_spec.specs.Typings.{Typing, IsTyping, without_name}
 use Rattle.pat_type_system_spec.specs.Holdings.{Holding, held, type_at, control_held, frame_held, message_held, wanted, holdings, Balanced}
 use Rattle.pat_type_system_spec.specs.Typed.{IsTyped, ThreadFits, ControlFits, PartFits, KeepsFrom, frames_refer}
@@ -29,56 +26,9 @@ use Rattle.pat_safety_laws.proofs.Narrow.{Narrowed, keep_narrows, filter_narrows
 use Rattle.pat_safety_laws.proofs.Bound.{body_bound, body_among}
 use Rattle.pat_safety_laws.proofs.Frames.{one_to_two}
 use Rattle.pat_semantics_laws.proofs.Lists.{clash}
-use Rattle.pat_type_system_laws.proofs.Passing.{passes_drop, type_same}
+use Rattle.pat_type_system_laws.proofs.Passing.{type_same}
+use Rattle.pat_type_system_laws.proofs.Splitting.{split_first, split_second}
 use Rattle.pat_safety_laws.proofs.Moves.{goes_on}
-
--- ---- what is divided, where one of the parts may drop it
-
-included_first : (e1 e2 e : Pat) → Included (Prod e1 e2) e → In e2 no_word → Included e1 e
-included_first e1 e2 e h d = λ w i. h w (w, no_word, i, d, sym (plus_none w))
-
-included_second : (e1 e2 e : Pat) → Included (Prod e1 e2) e → In e1 no_word → Included e2 e
-included_second e1 e2 e h d = λ w i. h w (no_word, w, d, i, sym (none_plus w))
-
-joins_first : (i : ℕ) (q r s : Polarity) (e1 e2 e : Pat) (u v : Usage) (j : ℕ) → i ≡ j → UsageFits u v → PatternJoins q r s e1 e2 e → DropsAs q e1 → Fits (mailbox_type i s e u) (mailbox_type j r e2 v)
-joins_first i Sending Sending Sending e1 e2 e u v j same fit h d = record { interface = same; polarity = refl; usage = fit; pattern = included_second e1 e2 e h d }
-joins_first i Sending Receiving Receiving e1 e2 e u v j same fit h d = record { interface = same; polarity = refl; usage = fit; pattern = included_second e1 e e2 h d }
-joins_first i Sending Sending Receiving e1 e2 e u v j same fit h d = absurd h
-joins_first i Sending Receiving Sending e1 e2 e u v j same fit h d = absurd h
-joins_first i Receiving r s e1 e2 e u v j same fit h d = absurd d
-
-joins_second : (i : ℕ) (q r s : Polarity) (e1 e2 e : Pat) (u v : Usage) (j : ℕ) → i ≡ j → UsageFits u v → PatternJoins q r s e1 e2 e → DropsAs r e2 → Fits (mailbox_type i s e u) (mailbox_type j q e1 v)
-joins_second i Sending Sending Sending e1 e2 e u v j same fit h d = record { interface = same; polarity = refl; usage = fit; pattern = included_first e1 e2 e h d }
-joins_second i Receiving Sending Receiving e1 e2 e u v j same fit h d = record { interface = same; polarity = refl; usage = fit; pattern = included_second e2 e e1 h d }
-joins_second i Sending Sending Receiving e1 e2 e u v j same fit h d = absurd h
-joins_second i Receiving Sending Sending e1 e2 e u v j same fit h d = absurd h
-joins_second i Sending Receiving s e1 e2 e u v j same fit h d = absurd d
-joins_second i Receiving Receiving s e1 e2 e u v j same fit h d = absurd d
-
-second_any : (u v : Usage) → v ≡ Second → UsageFits u v
-second_any Second Second h = tt
-second_any Returnable Second h = tt
-second_any u Returnable h = cc
-
--- the bound part drops it
-split_first : (a b c : Holding) → SplitsTo a b c → PassesTo b None → SplitsTo a None c
-split_first None None None h d = tt
-split_first None None (Some c) h d = absurd h
-split_first None (Some b) c h d = absurd h
-split_first (Some a) None c h d = h
-split_first (Some a) (Some b) None h d = passes_drop (Some a) (Some b) h d
-split_first (Some a) (Some b) (Some c) h d =
-    joins_first a.interface b.polarity c.polarity a.polarity b.pattern c.pattern a.pattern a.usage c.usage c.interface (sym h.body_interface) h.usage h.pattern d
-
--- the body drops it
-split_second : (a b c : Holding) → SplitsTo a b c → PassesTo c None → SplitsTo a b None
-split_second None None None h d = tt
-split_second None None (Some c) h d = absurd h
-split_second None (Some b) c h d = absurd h
-split_second (Some a) b None h d = h
-split_second (Some a) None (Some c) h d = passes_drop (Some a) (Some c) h d
-split_second (Some a) (Some b) (Some c) h d =
-    joins_second a.interface b.polarity c.polarity a.polarity b.pattern c.pattern a.pattern a.usage b.usage b.interface (sym h.bound_interface) (second_any a.usage b.usage h.bound_usage) h.pattern d
 
 -- what the bound part has as returnable the body hasn't, and it was returnable
 split_bound : (a : Holding) (b : MailboxType) (c : Holding) → SplitsTo a (Some b) c → b.usage ≡ Returnable → (c ≡ None) × ((o : MailboxType) × (a ≡ Some o) × (o.usage ≡ Returnable))

@@ -1,16 +1,16 @@
 -- What an answer allows, and what follows from it.
-use Rattle.std.proofs.Common.{◌≡◌, ◌≤◌, ◌<◌, ◌⊎◌, ℕ, List, [], ◌∷◌, length, Option, Some, refl, sym, ap, ◌∙◌, subst, inl, inr, ⊎_elim, arith}
+use Rattle.std.proofs.Common.{◌≡◌, ◌≤◌, ◌<◌, ◌⊎◌, ℕ, List, [], length, Option, refl, sym, ap, subst, inl, inr, ⊎_elim, arith}
 use Rattle.std.specs.Prelude.{◌≢◌}
 use Rattle.std.specs.Io.KnownBytes.{Appends}
 use Rattle.pat_ports.specs.Bytes.{AppendsFront}
-use Rattle.pat_input.specs.Inputs.{IsInput, limit, whole_limit}
+use Rattle.pat_input.specs.Inputs.{IsInput, IsInputWithin, limit, whole_limit}
 use Rattle.pat_load.specs.LoadText.{load_text}
 use Rattle.pat_front.specs.declared.verdict.Verdict.{Verdict}
-use Rattle.pat_front.specs.declared.verdict.Verdict.TheVariants.{TooLong, Syntax, NumberTooWide, TooDeep, Resolve, BadText, Rejected, RefusedAt, TooManyEntries, Unaccepted}
+use Rattle.pat_front.specs.declared.verdict.Verdict.TheVariants.{TooLong, Syntax, NumberTooWide, TooDeep, Resolve, BadText, Rejected, RefusedAt, TooManyEntries, Unshown, BadCheckpoint, Unaccepted}
 use Rattle.pat_front.specs.declared.exit_answers.status.Status.{Status}
 use Rattle.pat_front.specs.declared.exit_answers.status.Status.TheVariants.{Ok, Refused, Usage, ReadFault, WriteFault, NoMemory, Budget, Waiting, Full}
 use Rattle.pat_session.specs.declared.words.Command.{Command}
-use Rattle.pat_session.specs.declared.words.Command.TheVariants.{Check, Derive, Print, Run, Replay, Order, Verify, Load, Help}
+use Rattle.pat_session.specs.declared.words.Command.TheVariants.{Check, Derive, Print, Run, Replay, Order, Verify, Checkpoint, Resume, Load, Help}
 use Rattle.pat_session.specs.Ports.{IsCutShort, Written}
 use Rattle.pat_front.specs.exit_answers.Answers.{IsStatusWithin}
 use Rattle.pat_command_print.specs.Allowed.{AllowedPrint}
@@ -31,9 +31,13 @@ use Rattle.pat_command_order.specs.Allowed.{AllowedOrder}
 use Rattle.pat_command_order.proofs.Statuses.{order_status}
 use Rattle.pat_command_verify.specs.Allowed.{AllowedVerify}
 use Rattle.pat_command_verify.proofs.Statuses.{verify_status}
+use Rattle.pat_command_checkpoint.specs.Allowed.{AllowedCheckpoint}
+use Rattle.pat_command_checkpoint.proofs.Statuses.{checkpoint_status}
+use Rattle.pat_command_resume.specs.Allowed.{IsResumption, AllowedResume}
+use Rattle.pat_command_resume.proofs.Statuses.{resume_status}
 use Rattle.pat_session.specs.Allowed.{IsCommand, HasCommand, HasInput, Takes, AllowedTo, limit_of, Allowed, usage_line}
 use Rattle.pat_session.specs.Calls.{ReadsAll}
-use Rattle.pat_session.specs.Answers.{Completes, BreaksOff, Begins, Answers, IsAccepted, AcceptsSafe, ShowsChecked, ShowsDerived, ShowsLoad, ShowsRun, ShowsTree, ShowsReplay, ShowsOrder, ShowsVerified, ShowsVerdict}
+use Rattle.pat_session.specs.Answers.{Completes, BreaksOff, Begins, Answers, IsAccepted, WentOn, AcceptsSafe, ShowsChecked, ShowsDerived, ShowsLoad, ShowsRun, ShowsTree, ShowsReplay, ShowsOrder, ShowsVerified, ShowsCheckpoint, ShowsResumed, ShowsVerdict}
 use Rattle.pat_session.proofs.OneCommand.{one_command}
 
 -- ---- statuses
@@ -69,6 +73,8 @@ command_status (Run o) bytes text s a = of_input limit bytes s (run_status Whole
 command_status Replay bytes text s a = of_input whole_limit bytes s (replay_status bytes text s a)
 command_status Order bytes text s a = of_input whole_limit bytes s (order_status bytes text s a)
 command_status Verify bytes text s a = of_input whole_limit bytes s (verify_status bytes text s a)
+command_status (Checkpoint n) bytes text s a = of_input limit bytes s (checkpoint_status n bytes text s a)
+command_status (Resume n) bytes text s a = of_input whole_limit bytes s (resume_status n bytes text s a)
 command_status (Load n o) bytes text s a = of_input limit (load_text n) s (load_status n o text s a)
 command_status Help bytes text s a = of_ok s a.0
 
@@ -81,6 +87,8 @@ input_status (Run o) bytes text s has a = run_status Whole o bytes text s a
 input_status Replay bytes text s has a = replay_status bytes text s a
 input_status Order bytes text s has a = order_status bytes text s a
 input_status Verify bytes text s has a = verify_status bytes text s a
+input_status (Checkpoint n) bytes text s has a = checkpoint_status n bytes text s a
+input_status (Resume n) bytes text s has a = resume_status n bytes text s a
 input_status (Load n o) bytes text s has a = absurd has
 input_status Help bytes text s has a = absurd has
 
@@ -113,6 +121,8 @@ is_too_long (BadText n) = inr (λ e. let clash : BadText n ≡ TooLong = e in cc
 is_too_long (Rejected n r) = inr (λ e. let clash : Rejected n r ≡ TooLong = e in cc)
 is_too_long (RefusedAt n) = inr (λ e. let clash : RefusedAt n ≡ TooLong = e in cc)
 is_too_long TooManyEntries = inr (λ e. let clash : TooManyEntries ≡ TooLong = e in cc)
+is_too_long (Unshown n) = inr (λ e. let clash : Unshown n ≡ TooLong = e in cc)
+is_too_long (BadCheckpoint r) = inr (λ e. let clash : BadCheckpoint r ≡ TooLong = e in cc)
 is_too_long (Unaccepted r) = inr (λ e. let clash : Unaccepted r ≡ TooLong = e in cc)
 
 -- where the bytes are too many, that is what is answered
@@ -303,6 +313,8 @@ module _ (words : List (List ℕ)) (had left old new : Option (List ℕ)) where
   shows_load WriteFault c n o load is = absurd is
   shows_load NoMemory c n o load is = absurd is
 
+  -- A way a command to its own record: the fields differ, and what leads to them is alike.
+
   -- ---- replay
 
   is_replay : (c : Command) (bytes text : List ℕ) (s : Status) → IsCommand Replay words → IsCommand c words → AllowedTo c bytes text s → AllowedReplay bytes text s
@@ -384,6 +396,52 @@ module _ (words : List (List ℕ)) (had left old new : Option (List ℕ)) where
         whole = (c.input Verify verify).all shown.0.has.small;
         written = subst (λ l. Appends old new l) shown.1 c.written;
       }
+
+  -- ---- checkpoint and resume
+
+  is_checkpoint : (n : ℕ) (c : Command) (bytes text : List ℕ) (s : Status) → IsCommand (Checkpoint n) words → IsCommand c words → AllowedTo c bytes text s → AllowedCheckpoint n bytes text s
+  is_checkpoint n c bytes text s checkpoint command a = subst (λ d. AllowedTo d bytes text s) (one_command words c (Checkpoint n) command checkpoint) a
+
+  -- what is written is where a run leads
+  pub shows_checkpoint : (s : Status) → Answers words had left old new s → (n : ℕ) → IsCommand (Checkpoint n) words → s ≡ Ok → ShowsCheckpoint n had left old new
+  shows_checkpoint s a n checkpoint e =
+      let c : Completes words had left old new Ok = at_status s Ok e a in
+      let k = c.allowed in
+      let own = is_checkpoint n k.0 c.bytes c.text Ok checkpoint k.1 k.2 in
+      let input = c.input (Checkpoint n) checkpoint in
+      record {
+        bytes = c.bytes;
+        text = c.text;
+        input = input;
+        whole = input.all own.0.spelled.tree.small;
+        shown = own;
+        written = c.written;
+      }
+
+  is_resume : (n : ℕ) (c : Command) (bytes text : List ℕ) (s : Status) → IsCommand (Resume n) words → IsCommand c words → AllowedTo c bytes text s → AllowedResume n bytes text s
+  is_resume n c bytes text s resume command a = subst (λ d. AllowedTo d bytes text s) (one_command words c (Resume n) command resume) a
+
+  resumed : (n : ℕ) (s : Status) (bytes text : List ℕ) → IsInputWithin whole_limit had left bytes → IsResumption n bytes text s → Appends old new text → ShowsResumed n had left old new s
+  resumed n s bytes text input own written = record {
+    bytes = bytes;
+    text = text;
+    input = input;
+    whole = input.all own.has.has.small;
+    resumed = own;
+    written = written;
+  }
+
+  -- what goes on is the run from the checkpoint that was read
+  pub shows_resumed : (s : Status) → Answers words had left old new s → (n : ℕ) → IsCommand (Resume n) words → WentOn s → ShowsResumed n had left old new s
+  shows_resumed Ok c n resume is = let k = c.allowed in resumed n Ok c.bytes c.text (c.input (Resume n) resume) (is_resume n k.0 c.bytes c.text Ok resume k.1 k.2) c.written
+  shows_resumed Budget c n resume is = let k = c.allowed in resumed n Budget c.bytes c.text (c.input (Resume n) resume) (is_resume n k.0 c.bytes c.text Budget resume k.1 k.2) c.written
+  shows_resumed Waiting c n resume is = let k = c.allowed in resumed n Waiting c.bytes c.text (c.input (Resume n) resume) (is_resume n k.0 c.bytes c.text Waiting resume k.1 k.2) c.written
+  shows_resumed Full c n resume is = absurd is
+  shows_resumed (Refused v) c n resume is = absurd is
+  shows_resumed Usage c n resume is = absurd is
+  shows_resumed ReadFault c n resume is = absurd is
+  shows_resumed WriteFault c n resume is = absurd is
+  shows_resumed NoMemory c n resume is = absurd is
 
   -- ---- refusals
 

@@ -1,5 +1,5 @@
 -- What each command asks, and what it answers.
-use Rattle.std.proofs.Common.{◌≡◌, ◌≤◌, ◌<◌, ℕ, List, length, Option, Result, Ok, Err, refl, sym, subst, arith}
+use Rattle.std.proofs.Common.{◌≤◌, ℕ, List, length, Option, Result, refl, sym, subst, arith}
 use Rattle.std.specs.Prelude.{◌≢◌, IfOk, Vec}
 use Rattle.std.specs.declared.alloc.Global.{Global}
 use Rattle.pat_ports.specs.declared.reach.Reach.{Reach}
@@ -13,18 +13,23 @@ use Rattle.pat_command_derive.specs.Allowed.{AllowedDerive}
 use Rattle.pat_command_print.specs.Allowed.{AllowedPrint}
 use Rattle.pat_run.specs.declared.options.options.RunOptions.{RunOptions}
 use Rattle.pat_run.specs.options.Options.{IsWithin}
+use Rattle.pat_limits.specs.Limits.{most_steps}
 use Rattle.pat_command_run.specs.declared.command.Detail.TheVariants.{Whole}
 use Rattle.pat_command_run.specs.Allowed.{AllowedRun}
 use Rattle.pat_command_run.specs.load.Allowed.{AllowedLoad}
 use Rattle.pat_command_replay.specs.Allowed.{AllowedReplay}
 use Rattle.pat_command_order.specs.Allowed.{AllowedOrder}
 use Rattle.pat_command_verify.specs.Allowed.{AllowedVerify}
+use Rattle.pat_command_checkpoint.specs.Allowed.{AllowedCheckpoint}
+use Rattle.pat_command_resume.specs.Allowed.{AllowedResume}
 use Rattle.pat_session.specs.declared.commands.Asked.{Asked}
 use Rattle.pat_session.specs.declared.commands.Asked.TheVariants as asked
 use Rattle.pat_session.specs.declared.words.Command.{Command}
-use Rattle.pat_session.specs.declared.words.Command.TheVariants.{Check, Derive, Print, Run, Replay, Order, Verify, Load, Help}
+use Rattle.pat_session.specs.declared.words.Command.TheVariants.{Check, Derive, Print, Run, Replay, Order, Verify, Checkpoint, Resume, Load, Help}
 use Rattle.pat_session.specs.Allowed.{HasInput, Takes, AllowedTo, limit_of}
 use Rattle.pat_session.specs.Asking.{Asks, IsAsked}
+
+-- A lemma a command, since each names its own relation on answers; they differ in the one case that answers.
 
 -- ---- what is answered
 
@@ -40,6 +45,8 @@ module _ {E : Type 0} (c : Command) (bytes : List ℕ) (r : Result Answer E) whe
       go Replay h = absurd h
       go Order h = absurd h
       go Verify h = absurd h
+      go (Checkpoint n) h = absurd h
+      go (Resume n) h = absurd h
       go (Load n u) h = absurd h
       go Help h = absurd h
 
@@ -54,6 +61,8 @@ module _ {E : Type 0} (c : Command) (bytes : List ℕ) (r : Result Answer E) whe
       go Replay h = absurd h
       go Order h = absurd h
       go Verify h = absurd h
+      go (Checkpoint n) h = absurd h
+      go (Resume n) h = absurd h
       go (Load n u) h = absurd h
       go Help h = absurd h
 
@@ -68,6 +77,8 @@ module _ {E : Type 0} (c : Command) (bytes : List ℕ) (r : Result Answer E) whe
       go Replay h = absurd h
       go Order h = absurd h
       go Verify h = absurd h
+      go (Checkpoint n) h = absurd h
+      go (Resume n) h = absurd h
       go (Load n u) h = absurd h
       go Help h = absurd h
 
@@ -82,6 +93,8 @@ module _ {E : Type 0} (c : Command) (bytes : List ℕ) (r : Result Answer E) whe
       go Replay h = absurd h
       go Order h = absurd h
       go Verify h = absurd h
+      go (Checkpoint n) h = absurd h
+      go (Resume n) h = absurd h
       go (Load n u) h = absurd h
       go Help h = absurd h
 
@@ -96,6 +109,8 @@ module _ {E : Type 0} (c : Command) (bytes : List ℕ) (r : Result Answer E) whe
       go Replay h = subst (λ l. IfOk r (λ a. AllowedReplay l a.text.items a.status)) h answer
       go Order h = absurd h
       go Verify h = absurd h
+      go (Checkpoint n) h = absurd h
+      go (Resume n) h = absurd h
       go (Load n u) h = absurd h
       go Help h = absurd h
 
@@ -110,6 +125,8 @@ module _ {E : Type 0} (c : Command) (bytes : List ℕ) (r : Result Answer E) whe
       go Replay h = absurd h
       go Order h = subst (λ l. IfOk r (λ a. AllowedOrder l a.text.items a.status)) h answer
       go Verify h = absurd h
+      go (Checkpoint n) h = absurd h
+      go (Resume n) h = absurd h
       go (Load n u) h = absurd h
       go Help h = absurd h
 
@@ -124,6 +141,42 @@ module _ {E : Type 0} (c : Command) (bytes : List ℕ) (r : Result Answer E) whe
       go Replay h = absurd h
       go Order h = absurd h
       go Verify h = subst (λ l. IfOk r (λ a. AllowedVerify l a.text.items a.status)) h answer
+      go (Checkpoint n) h = absurd h
+      go (Resume n) h = absurd h
+      go (Load n u) h = absurd h
+      go Help h = absurd h
+
+  pub of_checkpoint : (steps : ℕ) (input : Input) → Asks c bytes (asked.Checkpoint steps input) → (IsRead bytes input → IfOk r (λ a. AllowedCheckpoint steps bytes a.text.items a.status)) → IfOk r (λ a. AllowedTo c bytes a.text.items a.status)
+  of_checkpoint steps input asks answer = go c asks
+    where
+      go : (d : Command) → Asks d bytes (asked.Checkpoint steps input) → IfOk r (λ a. AllowedTo d bytes a.text.items a.status)
+      go Check h = absurd h
+      go Derive h = absurd h
+      go Print h = absurd h
+      go (Run o) h = absurd h
+      go Replay h = absurd h
+      go Order h = absurd h
+      go Verify h = absurd h
+      go (Checkpoint n) h = subst (λ k. IfOk r (λ a. AllowedCheckpoint k bytes a.text.items a.status)) (sym h.0) (answer h.2)
+      go (Resume n) h = absurd h
+      go (Load n u) h = absurd h
+      go Help h = absurd h
+
+  pub of_resume : (steps : ℕ) (read : Vec ℕ Global) → Asks c bytes (asked.Resume steps read) → IfOk r (λ a. AllowedResume steps read.items a.text.items a.status) → IfOk r (λ a. AllowedTo c bytes a.text.items a.status)
+  of_resume steps read asks answer = go c asks
+    where
+      go : (d : Command) → Asks d bytes (asked.Resume steps read) → IfOk r (λ a. AllowedTo d bytes a.text.items a.status)
+      go Check h = absurd h
+      go Derive h = absurd h
+      go Print h = absurd h
+      go (Run o) h = absurd h
+      go Replay h = absurd h
+      go Order h = absurd h
+      go Verify h = absurd h
+      go (Checkpoint n) h = absurd h
+      go (Resume n) h =
+          subst (λ k. IfOk r (λ a. AllowedResume k bytes a.text.items a.status)) (sym h.0)
+          (subst (λ l. IfOk r (λ a. AllowedResume steps l a.text.items a.status)) h.2 answer)
       go (Load n u) h = absurd h
       go Help h = absurd h
 
@@ -138,6 +191,8 @@ module _ {E : Type 0} (c : Command) (bytes : List ℕ) (r : Result Answer E) whe
       go Replay h = absurd h
       go Order h = absurd h
       go Verify h = absurd h
+      go (Checkpoint n) h = absurd h
+      go (Resume n) h = absurd h
       go (Load n o) h =
           subst (λ k. IfOk r (λ a. AllowedLoad k o a.text.items a.status)) (sym h.0)
           (subst (λ u. IfOk r (λ a. AllowedLoad size u a.text.items a.status)) (sym h.1) answer)
@@ -152,6 +207,8 @@ check_read input (Run o, bytes, h) = absurd h
 check_read input (Replay, bytes, h) = absurd h
 check_read input (Order, bytes, h) = absurd h
 check_read input (Verify, bytes, h) = absurd h
+check_read input (Checkpoint n, bytes, h) = absurd h
+check_read input (Resume n, bytes, h) = absurd h
 check_read input (Load n o, bytes, h) = absurd h
 check_read input (Help, bytes, h) = absurd h
 
@@ -163,6 +220,8 @@ derive_read input (Run o, bytes, h) = absurd h
 derive_read input (Replay, bytes, h) = absurd h
 derive_read input (Order, bytes, h) = absurd h
 derive_read input (Verify, bytes, h) = absurd h
+derive_read input (Checkpoint n, bytes, h) = absurd h
+derive_read input (Resume n, bytes, h) = absurd h
 derive_read input (Load n o, bytes, h) = absurd h
 derive_read input (Help, bytes, h) = absurd h
 
@@ -174,6 +233,8 @@ print_read input (Run o, bytes, h) = absurd h
 print_read input (Replay, bytes, h) = absurd h
 print_read input (Order, bytes, h) = absurd h
 print_read input (Verify, bytes, h) = absurd h
+print_read input (Checkpoint n, bytes, h) = absurd h
+print_read input (Resume n, bytes, h) = absurd h
 print_read input (Load n o, bytes, h) = absurd h
 print_read input (Help, bytes, h) = absurd h
 
@@ -185,6 +246,8 @@ run_read options input (Run o, bytes, h) = (bytes, h.2)
 run_read options input (Replay, bytes, h) = absurd h
 run_read options input (Order, bytes, h) = absurd h
 run_read options input (Verify, bytes, h) = absurd h
+run_read options input (Checkpoint n, bytes, h) = absurd h
+run_read options input (Resume n, bytes, h) = absurd h
 run_read options input (Load n o, bytes, h) = absurd h
 run_read options input (Help, bytes, h) = absurd h
 
@@ -197,8 +260,50 @@ run_within options input (Run o, bytes, h) = h.1
 run_within options input (Replay, bytes, h) = absurd h
 run_within options input (Order, bytes, h) = absurd h
 run_within options input (Verify, bytes, h) = absurd h
+run_within options input (Checkpoint n, bytes, h) = absurd h
+run_within options input (Resume n, bytes, h) = absurd h
 run_within options input (Load n o, bytes, h) = absurd h
 run_within options input (Help, bytes, h) = absurd h
+
+pub checkpoint_read : (steps : ℕ) (input : Input) → IsAsked (asked.Checkpoint steps input) → (bytes : List ℕ) × IsRead bytes input
+checkpoint_read steps input (Check, bytes, h) = absurd h
+checkpoint_read steps input (Derive, bytes, h) = absurd h
+checkpoint_read steps input (Print, bytes, h) = absurd h
+checkpoint_read steps input (Run o, bytes, h) = absurd h
+checkpoint_read steps input (Replay, bytes, h) = absurd h
+checkpoint_read steps input (Order, bytes, h) = absurd h
+checkpoint_read steps input (Verify, bytes, h) = absurd h
+checkpoint_read steps input (Checkpoint n, bytes, h) = (bytes, h.2)
+checkpoint_read steps input (Resume n, bytes, h) = absurd h
+checkpoint_read steps input (Load n o, bytes, h) = absurd h
+checkpoint_read steps input (Help, bytes, h) = absurd h
+
+-- and its steps have their bound
+pub checkpoint_within : (steps : ℕ) (input : Input) → IsAsked (asked.Checkpoint steps input) → steps ≤ most_steps
+checkpoint_within steps input (Check, bytes, h) = absurd h
+checkpoint_within steps input (Derive, bytes, h) = absurd h
+checkpoint_within steps input (Print, bytes, h) = absurd h
+checkpoint_within steps input (Run o, bytes, h) = absurd h
+checkpoint_within steps input (Replay, bytes, h) = absurd h
+checkpoint_within steps input (Order, bytes, h) = absurd h
+checkpoint_within steps input (Verify, bytes, h) = absurd h
+checkpoint_within steps input (Checkpoint n, bytes, h) = h.1
+checkpoint_within steps input (Resume n, bytes, h) = absurd h
+checkpoint_within steps input (Load n o, bytes, h) = absurd h
+checkpoint_within steps input (Help, bytes, h) = absurd h
+
+pub resume_within : (steps : ℕ) (read : Vec ℕ Global) → IsAsked (asked.Resume steps read) → steps ≤ most_steps
+resume_within steps read (Check, bytes, h) = absurd h
+resume_within steps read (Derive, bytes, h) = absurd h
+resume_within steps read (Print, bytes, h) = absurd h
+resume_within steps read (Run o, bytes, h) = absurd h
+resume_within steps read (Replay, bytes, h) = absurd h
+resume_within steps read (Order, bytes, h) = absurd h
+resume_within steps read (Verify, bytes, h) = absurd h
+resume_within steps read (Checkpoint n, bytes, h) = absurd h
+resume_within steps read (Resume n, bytes, h) = h.1
+resume_within steps read (Load n o, bytes, h) = absurd h
+resume_within steps read (Help, bytes, h) = absurd h
 
 -- what is asked of a load has its bounds
 pub load_within : (size : ℕ) (options : RunOptions) → IsAsked (asked.Load size options) → (size ≤ 1000) × IsWithin options
@@ -209,6 +314,8 @@ load_within size options (Run o, bytes, h) = absurd h
 load_within size options (Replay, bytes, h) = absurd h
 load_within size options (Order, bytes, h) = absurd h
 load_within size options (Verify, bytes, h) = absurd h
+load_within size options (Checkpoint n, bytes, h) = absurd h
+load_within size options (Resume n, bytes, h) = absurd h
 load_within size options (Load n o, bytes, h) = (h.2, h.3)
 load_within size options (Help, bytes, h) = absurd h
 
@@ -234,3 +341,6 @@ module _ (had left : Option (List ℕ)) (before now : Option Reach) where
 
   pub reads_run : (options : RunOptions) (input : Input) → IsWithin options → ((bytes : List ℕ) × IsInput had left bytes × IsRead bytes input) → (input ≢ TooLong → EndsThere before now) → ReadAs (Run options) had left before now (asked.Run options input)
   reads_run options input within (bytes, own, read) there = (bytes, own, (refl, within, read), λ has small. there (small_input bytes input read small))
+
+  pub reads_checkpoint : (steps : ℕ) (input : Input) → steps ≤ most_steps → ((bytes : List ℕ) × IsInput had left bytes × IsRead bytes input) → (input ≢ TooLong → EndsThere before now) → ReadAs (Checkpoint steps) had left before now (asked.Checkpoint steps input)
+  reads_checkpoint steps input within (bytes, own, read) there = (bytes, own, (refl, within, read), λ has small. there (small_input bytes input read small))

@@ -12,7 +12,7 @@ use Rattle.pat_front.specs.declared.verdict.Verdict.TheVariants.{TooLong}
 use Rattle.pat_session.specs.declared.words.Command.{Command}
 use Rattle.pat_session.specs.declared.words.Command.TheVariants.{Help}
 use Rattle.pat_session.specs.Ports.{SourceState, SinkState, IsCutShort, Writes}
-use Rattle.pat_session.specs.Allowed.{IsCommand, HasCommand, HasInput, AsksInput, Takes, AllowedTo, limit_of, usage_line}
+use Rattle.pat_session.specs.Allowed.{IsCommand, HasCommand, HasInput, Takes, AllowedTo, limit_of, usage_line}
 use Rattle.pat_session.specs.Answers.{IsHelped}
 use Rattle.pat_session.specs.Calls.{Call, ReadsAll, BreaksOffTooLong, EndsOrIsTooLong, SaysUsage}
 use Rattle.pat_session.proofs.OneCommand.{asks_of}

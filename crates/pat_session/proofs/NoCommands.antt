@@ -1,10 +1,10 @@
 -- Words that are no command.
-use Rattle.std.proofs.Common.{◌≡◌, ◌<◌, ◌≤◌, ◌+◌, ◌-◌, ℕ, List, [], ◌∷◌, length, map, take, drop, get_or, Some, None, sym, ap, ◌∙◌, subst, arith}
+use Rattle.std.proofs.Common.{◌≡◌, ◌<◌, ◌≤◌, ◌-◌, ℕ, List, [], ◌∷◌, length, map, take, drop, get_or, Some, None, sym, ap, ◌∙◌, subst, arith}
 use Rattle.std.specs.Prelude.{codes}
 use Rattle.std.proofs.lemmas.List.{take_rest}
 use Rattle.pat_run.specs.declared.options.options.RunOptions.{RunOptions}
-use Rattle.pat_run.specs.options.Options.{options_of}
-use Rattle.pat_session.specs.declared.words.Command.TheVariants.{Check, Derive, Print, Run, Replay, Order, Verify, Load, Help}
+use Rattle.pat_run.specs.options.Options.{options_of, steps_of}
+use Rattle.pat_session.specs.declared.words.Command.TheVariants.{Check, Derive, Print, Run, Replay, Order, Verify, Checkpoint, Resume, Load, Help}
 use Rattle.pat_session.specs.Allowed.{HasCommand, size_of}
 
 abbrev first_length : List (List ℕ) → ℕ
@@ -24,21 +24,32 @@ abbrev first_byte : List (List ℕ) → ℕ
 first_byte [] = 0
 first_byte (w ∷ ws) = byte_of w
 
+-- the third byte of the first word
+abbrev third_of : List ℕ → ℕ
+third_of (a ∷ b ∷ c ∷ bs) = c
+third_of _ = 0
+
+abbrev third_byte : List (List ℕ) → ℕ
+third_byte [] = 0
+third_byte (w ∷ ws) = third_of w
+
 abbrev first_word : List (List ℕ) → List ℕ
 first_word [] = []
 first_word (w ∷ ws) = w
 
--- more than one word, of which the first is neither run nor load
-pub no_options_here : (w : List ℕ) (ws : List (List ℕ)) → (w ≡ codes "run" → ⊥) → (w ≡ codes "load" → ⊥) → 0 < length ws → HasCommand (w ∷ ws) → ⊥
-no_options_here w ws run load some (Check, h) = let one = ap length h in omega (arith, some, one)
-no_options_here w ws run load some (Derive, h) = let one = ap length h in omega (arith, some, one)
-no_options_here w ws run load some (Print, h) = let one = ap length h in omega (arith, some, one)
-no_options_here w ws run load some (Replay, h) = let one = ap length h in omega (arith, some, one)
-no_options_here w ws run load some (Order, h) = let one = ap length h in omega (arith, some, one)
-no_options_here w ws run load some (Verify, h) = let one = ap length h in omega (arith, some, one)
-no_options_here w ws run load some (Help, h) = let one = ap length h in omega (arith, some, one)
-no_options_here w ws run load some (Run o, h) = run (ap first_word h.1)
-no_options_here w ws run load some (Load n o, h) = load (ap first_word h.words_are)
+-- more than one word, of which the first is none that others stand behind
+pub no_options_here : (w : List ℕ) (ws : List (List ℕ)) → (w ≡ codes "run" → ⊥) → (w ≡ codes "load" → ⊥) → (w ≡ codes "checkpoint" → ⊥) → (w ≡ codes "resume" → ⊥) → 0 < length ws → HasCommand (w ∷ ws) → ⊥
+no_options_here w ws run load checkpoint resume some (Check, h) = let one = ap length h in omega (arith, some, one)
+no_options_here w ws run load checkpoint resume some (Derive, h) = let one = ap length h in omega (arith, some, one)
+no_options_here w ws run load checkpoint resume some (Print, h) = let one = ap length h in omega (arith, some, one)
+no_options_here w ws run load checkpoint resume some (Replay, h) = let one = ap length h in omega (arith, some, one)
+no_options_here w ws run load checkpoint resume some (Order, h) = let one = ap length h in omega (arith, some, one)
+no_options_here w ws run load checkpoint resume some (Verify, h) = let one = ap length h in omega (arith, some, one)
+no_options_here w ws run load checkpoint resume some (Help, h) = let one = ap length h in omega (arith, some, one)
+no_options_here w ws run load checkpoint resume some (Run o, h) = run (ap first_word h.1)
+no_options_here w ws run load checkpoint resume some (Load n o, h) = load (ap first_word h.words_are)
+no_options_here w ws run load checkpoint resume some (Checkpoint n, h) = checkpoint (ap first_word h.1)
+no_options_here w ws run load checkpoint resume some (Resume n, h) = resume (ap first_word h.1)
 
 -- run with words that are no options
 pub no_such_options : (ws : List (List ℕ)) → options_of ws ≡ None → HasCommand (codes "run" ∷ ws) → ⊥
@@ -51,6 +62,36 @@ no_such_options ws none (Verify, h) = let clash : 3 ≡ 6 = ap first_length h in
 no_such_options ws none (Help, h) = let clash : 3 ≡ 4 = ap first_length h in omega (arith, clash)
 no_such_options ws none (Run o, h) = let both : None ≡ Some o = sym none ∙ ap options_of (ap rest_words h.1) ∙ h.2 in cc
 no_such_options ws none (Load n o, h) = let clash : 3 ≡ 4 = ap first_length h.words_are in omega (arith, clash)
+no_such_options ws none (Checkpoint n, h) = let clash : 3 ≡ 10 = ap first_length h.1 in omega (arith, clash)
+no_such_options ws none (Resume n, h) = let clash : 3 ≡ 6 = ap first_length h.1 in omega (arith, clash)
+
+-- checkpoint with words that are no number of steps
+pub no_checkpoint_steps : (ws : List (List ℕ)) → steps_of ws ≡ None → HasCommand (codes "checkpoint" ∷ ws) → ⊥
+no_checkpoint_steps ws none (Check, h) = let clash : 10 ≡ 5 = ap first_length h in omega (arith, clash)
+no_checkpoint_steps ws none (Derive, h) = let clash : 10 ≡ 6 = ap first_length h in omega (arith, clash)
+no_checkpoint_steps ws none (Print, h) = let clash : 10 ≡ 5 = ap first_length h in omega (arith, clash)
+no_checkpoint_steps ws none (Replay, h) = let clash : 10 ≡ 6 = ap first_length h in omega (arith, clash)
+no_checkpoint_steps ws none (Order, h) = let clash : 10 ≡ 5 = ap first_length h in omega (arith, clash)
+no_checkpoint_steps ws none (Verify, h) = let clash : 10 ≡ 6 = ap first_length h in omega (arith, clash)
+no_checkpoint_steps ws none (Help, h) = let clash : 10 ≡ 4 = ap first_length h in omega (arith, clash)
+no_checkpoint_steps ws none (Run o, h) = let clash : 10 ≡ 3 = ap first_length h.1 in omega (arith, clash)
+no_checkpoint_steps ws none (Load n o, h) = let clash : 10 ≡ 4 = ap first_length h.words_are in omega (arith, clash)
+no_checkpoint_steps ws none (Checkpoint n, h) = let both : None ≡ Some n = sym none ∙ ap steps_of (ap rest_words h.1) ∙ h.2 in cc
+no_checkpoint_steps ws none (Resume n, h) = let clash : 10 ≡ 6 = ap first_length h.1 in omega (arith, clash)
+
+-- resume with words that are no number of steps
+pub no_resume_steps : (ws : List (List ℕ)) → steps_of ws ≡ None → HasCommand (codes "resume" ∷ ws) → ⊥
+no_resume_steps ws none (Check, h) = let clash : 6 ≡ 5 = ap first_length h in omega (arith, clash)
+no_resume_steps ws none (Derive, h) = let clash : 114 ≡ 100 = ap first_byte h in omega (arith, clash)
+no_resume_steps ws none (Print, h) = let clash : 6 ≡ 5 = ap first_length h in omega (arith, clash)
+no_resume_steps ws none (Replay, h) = let clash : 115 ≡ 112 = ap third_byte h in omega (arith, clash)
+no_resume_steps ws none (Order, h) = let clash : 6 ≡ 5 = ap first_length h in omega (arith, clash)
+no_resume_steps ws none (Verify, h) = let clash : 114 ≡ 118 = ap first_byte h in omega (arith, clash)
+no_resume_steps ws none (Help, h) = let clash : 6 ≡ 4 = ap first_length h in omega (arith, clash)
+no_resume_steps ws none (Run o, h) = let clash : 6 ≡ 3 = ap first_length h.1 in omega (arith, clash)
+no_resume_steps ws none (Load n o, h) = let clash : 6 ≡ 4 = ap first_length h.words_are in omega (arith, clash)
+no_resume_steps ws none (Checkpoint n, h) = let clash : 6 ≡ 10 = ap first_length h.1 in omega (arith, clash)
+no_resume_steps ws none (Resume n, h) = let both : None ≡ Some n = sym none ∙ ap steps_of (ap rest_words h.1) ∙ h.2 in cc
 
 -- the words behind load are a size and options
 record IsLoading (n : ℕ) (o : RunOptions) (ws : List (List ℕ)) : Type 0 where
@@ -69,6 +110,8 @@ loading ws (Order, h) = let clash : 4 ≡ 5 = ap first_length h in absurd (omega
 loading ws (Verify, h) = let clash : 4 ≡ 6 = ap first_length h in absurd (omega (arith, clash))
 loading ws (Help, h) = let clash : 108 ≡ 104 = ap first_byte h in absurd (omega (arith, clash))
 loading ws (Run o, h) = let clash : 4 ≡ 3 = ap first_length h.1 in absurd (omega (arith, clash))
+loading ws (Checkpoint n, h) = let clash : 4 ≡ 10 = ap first_length h.1 in absurd (omega (arith, clash))
+loading ws (Resume n, h) = let clash : 4 ≡ 6 = ap first_length h.1 in absurd (omega (arith, clash))
 loading ws (Load n o, h) = (n, o, record { number = h.number; rest = h.rest; words_are = ap rest_words h.words_are; spelled = h.spelled; options = h.options })
 
 -- load without a size
@@ -90,16 +133,18 @@ no_load_options w ws none h =
     cc
 
 -- another word alone
-pub no_such_word : (w : List ℕ) → (w ≡ codes "run" → ⊥) → (w ≡ codes "load" → ⊥) → (w ≡ codes "check" → ⊥) → (w ≡ codes "derive" → ⊥) → (w ≡ codes "print" → ⊥) → (w ≡ codes "replay" → ⊥) → (w ≡ codes "order" → ⊥) → (w ≡ codes "verify" → ⊥) → (w ≡ codes "help" → ⊥) → HasCommand (w ∷ []) → ⊥
-no_such_word w run load check derive print replay order verify help (Check, h) = check (ap first_word h)
-no_such_word w run load check derive print replay order verify help (Derive, h) = derive (ap first_word h)
-no_such_word w run load check derive print replay order verify help (Print, h) = print (ap first_word h)
-no_such_word w run load check derive print replay order verify help (Replay, h) = replay (ap first_word h)
-no_such_word w run load check derive print replay order verify help (Order, h) = order (ap first_word h)
-no_such_word w run load check derive print replay order verify help (Verify, h) = verify (ap first_word h)
-no_such_word w run load check derive print replay order verify help (Help, h) = help (ap first_word h)
-no_such_word w run load check derive print replay order verify help (Run o, h) = run (ap first_word h.1)
-no_such_word w run load check derive print replay order verify help (Load n o, h) = load (ap first_word h.words_are)
+pub no_such_word : (w : List ℕ) → (w ≡ codes "run" → ⊥) → (w ≡ codes "load" → ⊥) → (w ≡ codes "checkpoint" → ⊥) → (w ≡ codes "resume" → ⊥) → (w ≡ codes "check" → ⊥) → (w ≡ codes "derive" → ⊥) → (w ≡ codes "print" → ⊥) → (w ≡ codes "replay" → ⊥) → (w ≡ codes "order" → ⊥) → (w ≡ codes "verify" → ⊥) → (w ≡ codes "help" → ⊥) → HasCommand (w ∷ []) → ⊥
+no_such_word w run load checkpoint resume check derive print replay order verify help (Check, h) = check (ap first_word h)
+no_such_word w run load checkpoint resume check derive print replay order verify help (Derive, h) = derive (ap first_word h)
+no_such_word w run load checkpoint resume check derive print replay order verify help (Print, h) = print (ap first_word h)
+no_such_word w run load checkpoint resume check derive print replay order verify help (Replay, h) = replay (ap first_word h)
+no_such_word w run load checkpoint resume check derive print replay order verify help (Order, h) = order (ap first_word h)
+no_such_word w run load checkpoint resume check derive print replay order verify help (Verify, h) = verify (ap first_word h)
+no_such_word w run load checkpoint resume check derive print replay order verify help (Help, h) = help (ap first_word h)
+no_such_word w run load checkpoint resume check derive print replay order verify help (Run o, h) = run (ap first_word h.1)
+no_such_word w run load checkpoint resume check derive print replay order verify help (Load n o, h) = load (ap first_word h.words_are)
+no_such_word w run load checkpoint resume check derive print replay order verify help (Checkpoint n, h) = checkpoint (ap first_word h.1)
+no_such_word w run load checkpoint resume check derive print replay order verify help (Resume n, h) = resume (ap first_word h.1)
 
 -- the first word and those behind it
 pub first_and_rest : {S : Type 0} (bytes : S → List ℕ) (ws : List S) (none word : S) → 1 ≤ length ws → word ≡ get_or ws 0 none → bytes word ∷ map bytes (take (length ws - 1) (drop 1 ws)) ≡ map bytes ws

@@ -2,10 +2,10 @@
 use Rattle.std.proofs.Common.{◌≡◌, ℕ, List, [], ◌∷◌, Option, Some, None, sym, ap, ◌∙◌, subst}
 use Rattle.std.specs.Prelude.{bytes_eq, codes, option_map, if◌then◌else◌}
 use Rattle.pat_run.specs.declared.options.options.RunOptions.{RunOptions}
-use Rattle.pat_run.specs.options.Options.{options_of}
+use Rattle.pat_run.specs.options.Options.{options_of, steps_of}
 use Rattle.pat_session.specs.declared.words.Command.{Command}
-use Rattle.pat_session.specs.declared.words.Command.TheVariants.{Check, Derive, Print, Run, Replay, Order, Verify, Load, Help}
-use Rattle.pat_session.specs.Allowed.{IsCommand, HasCommand, HasInput, AsksInput, size_of}
+use Rattle.pat_session.specs.declared.words.Command.TheVariants.{Check, Derive, Print, Run, Replay, Order, Verify, Checkpoint, Resume, Load, Help}
+use Rattle.pat_session.specs.Allowed.{IsCommand, HasInput, AsksInput, size_of}
 
 abbrev load_by : Option ℕ → Option RunOptions → Option Command
 load_by (Some n) (Some o) = Some (Load n o)
@@ -26,6 +26,8 @@ asked_by (w ∷ ws) =
     else if bytes_eq w (codes "replay") then Some Replay
     else if bytes_eq w (codes "order") then Some Order
     else if bytes_eq w (codes "verify") then Some Verify
+    else if bytes_eq w (codes "checkpoint") then option_map (λ n. Checkpoint n) (steps_of ws)
+    else if bytes_eq w (codes "resume") then option_map (λ n. Resume n) (steps_of ws)
     else if bytes_eq w (codes "load") then loading ws
     else if bytes_eq w (codes "help") then Some Help
     else None
@@ -38,6 +40,8 @@ asked_for words (Run o) p = ap asked_by p.1 ∙ ap (λ k. option_map (λ (u : Ru
 asked_for words Replay p = ap asked_by p
 asked_for words Order p = ap asked_by p
 asked_for words Verify p = ap asked_by p
+asked_for words (Checkpoint n) p = ap asked_by p.1 ∙ ap (λ k. option_map (λ (u : ℕ). Checkpoint u) k) p.2
+asked_for words (Resume n) p = ap asked_by p.1 ∙ ap (λ k. option_map (λ (u : ℕ). Resume u) k) p.2
 asked_for words (Load n o) p = ap asked_by p.words_are ∙ ap (λ k. load_by k (options_of p.rest)) p.spelled ∙ ap (λ k. load_by (Some n) k) p.options
 asked_for words Help p = ap asked_by p
 

@@ -8,7 +8,7 @@ use Rattle.pat_session.specs.Answers.{IsHelped}
 use Rattle.pat_session.specs.Calls.{Call, SaysUsage}
 use Rattle.pat_session.specs.Complete.{IsComplete}
 use Rattle.pat_session.specs.Promises.{Promises}
-use Rattle.pat_session.proofs.Allows.{usage_only, accepts_safe, shows_checked, shows_derived, shows_load, shows_run, shows_tree, shows_replay, shows_order, shows_verified, shows_verdict}
+use Rattle.pat_session.proofs.Allows.{usage_only, accepts_safe, shows_checked, shows_derived, shows_load, shows_run, shows_tree, shows_replay, shows_order, shows_verified, shows_checkpoint, shows_resumed, shows_verdict}
 
 module _ (words : List (List ℕ)) (had left : SourceState) (old new : SinkState) (status : Status) where
   pub promised : IsComplete → Call words had left old new status → SaysUsage words status → (IsCommand Help words → IsHelped old.taken new.taken status) → Promises words had left old new status
@@ -33,6 +33,8 @@ module _ (words : List (List ℕ)) (had left : SourceState) (old new : SinkState
     verified = shows_verified words had.rest left.rest old.taken new.taken status call.output;
     replayed = shows_replay words had.rest left.rest old.taken new.taken status call.output;
     ordered = shows_order words had.rest left.rest old.taken new.taken status call.output;
+    checkpointed = shows_checkpoint words had.rest left.rest old.taken new.taken status call.output;
+    resumed = shows_resumed words had.rest left.rest old.taken new.taken status call.output;
     loaded = shows_load words had.rest left.rest old.taken new.taken status call.output;
     helped = helped;
     refused = shows_verdict words had.rest left.rest old.taken new.taken status call.output;

@@ -1,5 +1,5 @@
 -- What suits a command is answered by a status of its own.
-use Rattle.std.proofs.Common.{◌≡◌, ◌≤◌, ◌⊎◌, ◌+◌, ℕ, List, [], ◌++◌, length, Option, Some, None, refl, sym, ap, ◌∙◌, subst, inl, inr, arith}
+use Rattle.std.proofs.Common.{◌≡◌, ◌≤◌, ◌⊎◌, ℕ, List, [], ◌++◌, length, Option, Some, None, refl, sym, ap, ◌∙◌, subst, inl, inr, ⊎_elim, arith}
 use Rattle.std.specs.Prelude.{◌≢◌}
 use Rattle.std.proofs.lemmas.List.{append-nil, length-append}
 use Rattle.pat_input.specs.Inputs.{IsInputWithin}
@@ -17,8 +17,12 @@ use Rattle.pat_command_check.specs.Typable.{HasTypable}
 use Rattle.pat_command_verify.specs.Answers as verify
 use Rattle.pat_command_replay.specs.Answers as replay
 use Rattle.pat_command_order.specs.Answers as order
+use Rattle.pat_command_resume.specs.Answers as resume
+use Rattle.pat_command_checkpoint.specs.Allowed.{IsUnshown}
+use Rattle.pat_front.specs.Lines.{line_of_verdict}
+use Rattle.pat_front.specs.declared.verdict.Verdict.TheVariants.{Unshown}
 use Rattle.pat_session.specs.declared.words.Command.{Command}
-use Rattle.pat_session.specs.declared.words.Command.TheVariants.{Check, Derive, Print, Run, Replay, Order, Verify, Load, Help}
+use Rattle.pat_session.specs.declared.words.Command.TheVariants.{Check, Derive, Print, Run, Replay, Order, Verify, Checkpoint, Resume, Load, Help}
 use Rattle.pat_session.specs.Allowed.{IsCommand, HasInput, Takes, AllowedTo, limit_of}
 use Rattle.pat_session.specs.Answers.{Answers}
 use Rattle.pat_session.specs.Complete.{Suits, IsOwn, IsComplete}
@@ -44,6 +48,8 @@ suits_small (Run o) bytes has s = s.spelled.tree.small
 suits_small Replay bytes has s = s.replays.has.small
 suits_small Order bytes has s = s.0.replays.has.small
 suits_small Verify bytes has s = s.has.small
+suits_small (Checkpoint n) bytes has s = s.0.spelled.tree.small
+suits_small (Resume n) bytes has s = s.has.has.small
 suits_small (Load n o) bytes has s = absurd has
 suits_small Help bytes has s = absurd has
 
@@ -55,6 +61,8 @@ reads_within (Run o) had left read has input = input
 reads_within Replay had left read has input = input
 reads_within Order had left read has input = input
 reads_within Verify had left read has input = input
+reads_within (Checkpoint n) had left read has input = input
+reads_within (Resume n) had left read has input = input
 reads_within (Load n o) had left read has input = absurd has
 reads_within Help had left read has input = absurd has
 
@@ -74,6 +82,8 @@ module _ (bytes read : List ℕ) (had left : Option (List ℕ)) where
   suits_read Replay told suits input = subst (Suits Replay) (read_is Replay tt told suits input) suits
   suits_read Order told suits input = subst (Suits Order) (read_is Order tt told suits input) suits
   suits_read Verify told suits input = subst (Suits Verify) (read_is Verify tt told suits input) suits
+  suits_read (Checkpoint n) told suits input = subst (Suits (Checkpoint n)) (read_is (Checkpoint n) tt told suits input) suits
+  suits_read (Resume n) told suits input = subst (Suits (Resume n)) (read_is (Resume n) tt told suits input) suits
   suits_read (Load n o) told suits input = suits
   suits_read Help told suits input = suits
 
@@ -98,6 +108,17 @@ run_own o ReadFault good = absurd good
 run_own o WriteFault good = absurd good
 run_own o NoMemory good = absurd good
 
+resume_own : (n : ℕ) (bytes text : List ℕ) (s : Status) → Succeeds s → AllowedTo (Resume n) bytes text s → IsOwn (Resume n) s
+resume_own n bytes text Ok good a = tt
+resume_own n bytes text Budget good a = tt
+resume_own n bytes text Waiting good a = tt
+resume_own n bytes text Full good a = absurd a
+resume_own n bytes text (Refused v) good a = absurd good
+resume_own n bytes text Usage good a = absurd good
+resume_own n bytes text ReadFault good a = absurd good
+resume_own n bytes text WriteFault good a = absurd good
+resume_own n bytes text NoMemory good a = absurd good
+
 -- where a command answers one status alone, it is that
 alone_own : (AllowedAt : Status → Type 0) (s : Status) → (AllowedAt Budget → ⊥) → (AllowedAt Waiting → ⊥) → (AllowedAt Full → ⊥) → Succeeds s → AllowedAt s → s ≡ Ok
 alone_own AllowedAt Ok b w f good a = refl
@@ -118,12 +139,14 @@ own (Run o) bytes text s good a = run_own o s good
 own Replay bytes text s good a = alone_own (AllowedTo Replay bytes text) s (λ k. k) (λ k. k) (λ k. k) good a
 own Order bytes text s good a = alone_own (AllowedTo Order bytes text) s (λ k. k) (λ k. k) (λ k. k) good a
 own Verify bytes text s good a = alone_own (AllowedTo Verify bytes text) s (λ k. k) (λ k. k) (λ k. k) good a
+own (Checkpoint n) bytes text s good a = alone_own (AllowedTo (Checkpoint n) bytes text) s (λ k. k) (λ k. k) (λ k. k) good a
+own (Resume n) bytes text s good a = resume_own n bytes text s good a
 own (Load n o) bytes text s good a = run_own o s good
 own Help bytes text s good a = a.0
 
 -- ---- refusals
 
-module _ (never : NeverRefused) (texts : (bytes : List ℕ) → front.OneAnswer bytes) (verifies : (bytes : List ℕ) → verify.OneAnswer bytes) (replays : (bytes : List ℕ) → replay.OneAnswer bytes) (orders : (bytes : List ℕ) → order.OneAnswer bytes) where
+module _ (never : NeverRefused) (texts : (bytes : List ℕ) → front.OneAnswer bytes) (verifies : (bytes : List ℕ) → verify.OneAnswer bytes) (replays : (bytes : List ℕ) → replay.OneAnswer bytes) (orders : (bytes : List ℕ) → order.OneAnswer bytes) (resumes : (bytes : List ℕ) → resume.OneAnswer bytes) where
   typable_stands : (bytes line : List ℕ) (v : Verdict) → HasTypable bytes → IsCheckRefusal bytes v line → ⊥
   typable_stands bytes line v s r = never bytes line s.tree s.program v s.spelled s.in_bounds s.usable s.typable r
 
@@ -137,6 +160,12 @@ module _ (never : NeverRefused) (texts : (bytes : List ℕ) → front.OneAnswer 
       (replays bytes).not_both (replay_text s.entries s.config (standing s.program s.config)) v (record { program = s.program; entries = s.entries; config = s.config; replays = s.replays; shown = refl }) a.0
   stands Order bytes text v s a = (orders bytes).not_refused s.0.program s.0.entries s.0.config v s.0.replays s.1 a.0
   stands Verify bytes text v s a = (verifies bytes).not_refused v s a.0
+  stands (Checkpoint n) bytes text v s a =
+      ⊎_elim
+      (λ (r : IsCheckRefusal bytes v text). typable_stands bytes text v s.0 r)
+      (λ (r : (line : ℕ) × (v ≡ Unshown line) × IsUnshown n bytes line × (text ≡ line_of_verdict v)). s.1 r.0 r.2)
+      a
+  stands (Resume n) bytes text v s a = (resumes bytes).not_refused v s a.0
   stands (Load n o) bytes text v s a = typable_stands (load_text n) text v s a
   stands Help bytes text v s a = let clash : Refused v ≡ Ok = a.0 in cc
 

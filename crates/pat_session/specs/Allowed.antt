@@ -11,14 +11,17 @@ use Rattle.pat_command_run.specs.load.Allowed.{AllowedLoad}
 use Rattle.pat_command_replay.specs.Allowed.{AllowedReplay}
 use Rattle.pat_command_order.specs.Allowed.{AllowedOrder}
 use Rattle.pat_command_verify.specs.Allowed.{AllowedVerify}
+use Rattle.pat_command_checkpoint.specs.Allowed.{AllowedCheckpoint}
+use Rattle.pat_command_resume.specs.Allowed.{AllowedResume}
 use Rattle.pat_run.specs.declared.options.options.RunOptions.{RunOptions}
-use Rattle.pat_run.specs.options.Options.{IsWithin, number_of, options_of}
+use Rattle.pat_run.specs.options.Options.{IsWithin, number_of, options_of, steps_of}
 use Rattle.pat_input.specs.Inputs.{IsInputWithin, limit, whole_limit}
+use Rattle.pat_limits.specs.Limits.{most_steps}
 use Rattle.pat_session.specs.declared.words.Command.{Command}
-use Rattle.pat_session.specs.declared.words.Command.TheVariants.{Check, Derive, Print, Run, Replay, Order, Verify, Load, Help}
+use Rattle.pat_session.specs.declared.words.Command.TheVariants.{Check, Derive, Print, Run, Replay, Order, Verify, Checkpoint, Resume, Load, Help}
 
 abbrev pub usage_line : List ℕ
-usage_line = codes "usage: pat check|derive|verify|print|run|replay|order|load|help" ++ 10 ∷ []
+usage_line = codes "usage: pat check|derive|verify|print|run|replay|order|checkpoint|resume|load|help" ++ 10 ∷ []
 
 -- ---- words
 
@@ -39,6 +42,10 @@ pub record IsLoad (n : ℕ) (o : RunOptions) (words : List (List ℕ)) : Type 0 
   pub spelled : size_of number ≡ Some n
   pub options : options_of rest ≡ Some o
 
+-- the words are this one, and a number of steps, if one is chosen
+abbrev pub IsWithSteps : List ℕ → ℕ → List (List ℕ) → Type 0
+IsWithSteps word steps words = (rest : List (List ℕ)) × (words ≡ word ∷ rest) × (steps_of rest ≡ Some steps)
+
 -- the words ask for the command
 abbrev pub IsCommand : Command → List (List ℕ) → Type 0
 IsCommand Check words = words ≡ codes "check" ∷ []
@@ -48,6 +55,8 @@ IsCommand (Run o) words = (rest : List (List ℕ)) × (words ≡ codes "run" ∷
 IsCommand Replay words = words ≡ codes "replay" ∷ []
 IsCommand Order words = words ≡ codes "order" ∷ []
 IsCommand Verify words = words ≡ codes "verify" ∷ []
+IsCommand (Checkpoint steps) words = IsWithSteps (codes "checkpoint") steps words
+IsCommand (Resume steps) words = IsWithSteps (codes "resume") steps words
 IsCommand (Load n o) words = IsLoad n o words
 IsCommand Help words = words ≡ codes "help" ∷ []
 
@@ -58,6 +67,8 @@ HasCommand words = (c : Command) × IsCommand c words
 -- numbers and options have their bounds
 abbrev pub HasBounds : Command → Type 0
 HasBounds (Run o) = IsWithin o
+HasBounds (Checkpoint steps) = steps ≤ most_steps
+HasBounds (Resume steps) = steps ≤ most_steps
 HasBounds (Load n o) = (n ≤ 1000) × IsWithin o
 HasBounds _ = Unit {0}
 
@@ -82,6 +93,8 @@ limit_of (Run o) = limit
 limit_of Replay = whole_limit
 limit_of Order = whole_limit
 limit_of Verify = whole_limit
+limit_of (Checkpoint steps) = limit
+limit_of (Resume steps) = whole_limit
 limit_of (Load n o) = 0
 limit_of Help = 0
 
@@ -103,6 +116,8 @@ AllowedTo (Run o) bytes text status = AllowedRun Whole o bytes text status
 AllowedTo Replay bytes text status = AllowedReplay bytes text status
 AllowedTo Order bytes text status = AllowedOrder bytes text status
 AllowedTo Verify bytes text status = AllowedVerify bytes text status
+AllowedTo (Checkpoint steps) bytes text status = AllowedCheckpoint steps bytes text status
+AllowedTo (Resume steps) bytes text status = AllowedResume steps bytes text status
 AllowedTo (Load n o) bytes text status = AllowedLoad n o text status
 AllowedTo Help bytes text status = (status ≡ Ok) × (text ≡ usage_line)
 

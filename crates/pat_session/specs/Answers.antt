@@ -19,6 +19,8 @@ use Rattle.pat_load.specs.LoadText.{load_text}
 use Rattle.pat_command_replay.specs.Allowed.{IsReplayed}
 use Rattle.pat_command_order.specs.Allowed.{IsOrdered}
 use Rattle.pat_command_verify.specs.Allowed.{IsVerified}
+use Rattle.pat_command_checkpoint.specs.Allowed.{IsWritten}
+use Rattle.pat_command_resume.specs.Allowed.{IsResumption}
 use Rattle.pat_derivation_text_spec.specs.DerivationText.{derivation_text}
 use Rattle.pat_command_check.specs.Inputs.{IsAcceptedText}
 use Rattle.pat_front.specs.exit_answers.Answers.{accepted_line}
@@ -71,6 +73,13 @@ IsAccepted Budget = Unit {0}
 IsAccepted Waiting = Unit {0}
 IsAccepted Full = Unit {0}
 IsAccepted _ = ⊥
+
+-- a run went on, and ended or can't go further
+abbrev pub WentOn : Status → Type 0
+WentOn Ok = Unit {0}
+WentOn Budget = Unit {0}
+WentOn Waiting = Unit {0}
+WentOn _ = ⊥
 
 -- all that the source had was read, and is the text of a program with a valid derivation, so it is safe; and the sink took the line
 -- that says so
@@ -161,6 +170,26 @@ pub record ShowsVerified (had left old new : Option (List ℕ)) : Type 0 where
   pub input : IsInputWithin whole_limit had left bytes
   pub whole : IsAtEnd left
   pub written : Appends old new accepted_line
+
+-- all that the source had was read and is the text of a program, and the sink took the text of a valid derivation of it and that of the
+-- checkpoint to which a run of it leads
+pub record ShowsCheckpoint (steps : ℕ) (had left old new : Option (List ℕ)) : Type 0 where
+  pub bytes : List ℕ
+  pub text : List ℕ
+  pub input : IsInput had left bytes
+  pub whole : IsAtEnd left
+  pub shown : IsWritten steps bytes text
+  pub written : Appends old new text
+
+-- all that the source had was read and is the text of a program, and behind it those of a valid derivation of it and of a checkpoint that is
+-- checked by it; and the sink took the text of the run that goes on from there
+pub record ShowsResumed (steps : ℕ) (had left old new : Option (List ℕ)) (status : Status) : Type 0 where
+  pub bytes : List ℕ
+  pub text : List ℕ
+  pub input : IsInputWithin whole_limit had left bytes
+  pub whole : IsAtEnd left
+  pub resumed : IsResumption steps bytes text status
+  pub written : Appends old new text
 
 -- the verdict is one that the command gives on what was read, and the sink took the line that says it
 pub record ShowsVerdict (words : List (List ℕ)) (had left old new : Option (List ℕ)) (v : Verdict) : Type 0 where

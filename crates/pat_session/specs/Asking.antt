@@ -1,14 +1,15 @@
 -- What there is to answer, once a command's input is read.
-use Rattle.std.specs.Prelude.{◌≡◌, ◌≤◌, ℕ, List, [], length}
+use Rattle.std.specs.Prelude.{◌≡◌, ◌≤◌, ℕ, List, length}
 use Rattle.std.specs.declared.option.Option.{Option}
 use Rattle.pat_ports.specs.Ends.{EndsThere}
 use Rattle.pat_ports.specs.declared.reach.Reach.{Reach}
 use Rattle.pat_run.specs.options.Options.{IsWithin}
+use Rattle.pat_limits.specs.Limits.{most_steps}
 use Rattle.pat_input.specs.Inputs.{IsRead, IsInputWithin}
 use Rattle.pat_session.specs.declared.commands.Asked.{Asked}
 use Rattle.pat_session.specs.declared.commands.Asked.TheVariants as asked
 use Rattle.pat_session.specs.declared.words.Command.{Command}
-use Rattle.pat_session.specs.declared.words.Command.TheVariants.{Check, Derive, Print, Run, Replay, Order, Verify, Load, Help}
+use Rattle.pat_session.specs.declared.words.Command.TheVariants.{Check, Derive, Print, Run, Replay, Order, Verify, Checkpoint, Resume, Load, Help}
 use Rattle.pat_session.specs.Allowed.{HasInput, Takes, limit_of}
 
 -- it is what the command asks of these bytes
@@ -20,6 +21,8 @@ Asks (Run o) bytes (asked.Run options input) = (o ≡ options) × IsWithin optio
 Asks Replay bytes (asked.Replay read) = read.items ≡ bytes
 Asks Order bytes (asked.Order read) = read.items ≡ bytes
 Asks Verify bytes (asked.Verify read) = read.items ≡ bytes
+Asks (Checkpoint n) bytes (asked.Checkpoint steps input) = (n ≡ steps) × (steps ≤ most_steps) × IsRead bytes input
+Asks (Resume n) bytes (asked.Resume steps read) = (n ≡ steps) × (steps ≤ most_steps) × (read.items ≡ bytes)
 Asks (Load n o) bytes (asked.Load size options) = (n ≡ size) × (o ≡ options) × (size ≤ 1000) × IsWithin options
 Asks c bytes a = ⊥
 
@@ -51,12 +54,15 @@ IsOfProgram (Run o) = Unit {0}
 IsOfProgram Replay = ⊥
 IsOfProgram Order = ⊥
 IsOfProgram Verify = ⊥
+IsOfProgram (Checkpoint steps) = Unit {0}
+IsOfProgram (Resume steps) = ⊥
 IsOfProgram (Load n o) = ⊥
 IsOfProgram Help = ⊥
 
--- or a program, and a text behind it
-abbrev pub IsOfTwoParts : Command → Type 0
-IsOfTwoParts Replay = Unit {0}
-IsOfTwoParts Order = Unit {0}
-IsOfTwoParts Verify = Unit {0}
-IsOfTwoParts _ = ⊥
+-- or a program, and texts behind it
+abbrev pub IsOfParts : Command → Type 0
+IsOfParts Replay = Unit {0}
+IsOfParts Order = Unit {0}
+IsOfParts Verify = Unit {0}
+IsOfParts (Resume steps) = Unit {0}
+IsOfParts _ = ⊥

@@ -13,11 +13,13 @@ use Rattle.pat_replay_input.specs.Histories.{Replays}
 use Rattle.pat_command_check.specs.Typable.{HasTypable}
 use Rattle.pat_command_order.specs.Answers.{AreFew}
 use Rattle.pat_command_verify.specs.Answers.{HasValidDerivation}
+use Rattle.pat_command_checkpoint.specs.Allowed.{IsUnshown}
+use Rattle.pat_command_resume.specs.Answers.{HasCheckedParts}
 use Rattle.pat_session.specs.declared.words.Command.{Command}
-use Rattle.pat_session.specs.declared.words.Command.TheVariants.{Check, Derive, Print, Run, Replay, Order, Verify, Load, Help}
+use Rattle.pat_session.specs.declared.words.Command.TheVariants.{Check, Derive, Print, Run, Replay, Order, Verify, Checkpoint, Resume, Load, Help}
 use Rattle.pat_session.specs.Ports.{SourceState, SinkState}
 use Rattle.pat_session.specs.Allowed.{IsCommand, HasInput}
-use Rattle.pat_session.specs.Answers.{IsAccepted}
+use Rattle.pat_session.specs.Answers.{IsAccepted, WentOn}
 use Rattle.pat_session.specs.Calls.{Call}
 
 -- the bytes are the text of a program
@@ -42,6 +44,9 @@ Suits (Run o) bytes = HasTypable bytes
 Suits Replay bytes = HasHistory bytes
 Suits Order bytes = (h : HasHistory bytes) × AreFew h.entries
 Suits Verify bytes = HasValidDerivation bytes
+-- no line of its checkpoint needs an inclusion that can't be shown
+Suits (Checkpoint steps) bytes = HasTypable bytes × ((line : ℕ) → IsUnshown steps bytes line → ⊥)
+Suits (Resume steps) bytes = HasCheckedParts bytes
 -- it has no input, and its program is generated
 Suits (Load n o) bytes = HasTypable (load_text n)
 Suits Help bytes = Unit {0}
@@ -49,6 +54,7 @@ Suits Help bytes = Unit {0}
 -- the status is the command's own: it did what it was asked
 abbrev pub IsOwn : Command → Status → Type 0
 IsOwn (Run o) status = IsAccepted status
+IsOwn (Resume steps) status = WentOn status
 IsOwn (Load n o) status = IsAccepted status
 IsOwn c status = status ≡ Ok
 

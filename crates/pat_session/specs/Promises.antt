@@ -8,10 +8,10 @@ use Rattle.pat_front.specs.declared.verdict.Verdict.{Verdict}
 use Rattle.pat_front.specs.declared.exit_answers.status.Status.{Status}
 use Rattle.pat_front.specs.declared.exit_answers.status.Status.TheVariants.{Ok, Refused, Usage, ReadFault, WriteFault}
 use Rattle.pat_run.specs.declared.options.options.RunOptions.{RunOptions}
-use Rattle.pat_session.specs.declared.words.Command.TheVariants.{Check, Derive, Print, Run, Replay, Order, Verify, Load, Help}
+use Rattle.pat_session.specs.declared.words.Command.TheVariants.{Check, Derive, Print, Run, Replay, Order, Verify, Checkpoint, Resume, Load, Help}
 use Rattle.pat_session.specs.Ports.{SourceState, SinkState, source_state, sink_state}
 use Rattle.pat_session.specs.Allowed.{IsCommand, HasCommand, AsksInput}
-use Rattle.pat_session.specs.Answers.{Answers, Begins, IsAccepted, IsHelped, AcceptsSafe, ShowsChecked, ShowsDerived, ShowsLoad, ShowsRun, ShowsTree, ShowsReplay, ShowsOrder, ShowsVerified, ShowsVerdict}
+use Rattle.pat_session.specs.Answers.{Answers, Begins, IsAccepted, WentOn, IsHelped, AcceptsSafe, ShowsChecked, ShowsDerived, ShowsLoad, ShowsRun, ShowsTree, ShowsReplay, ShowsOrder, ShowsVerified, ShowsCheckpoint, ShowsResumed, ShowsVerdict}
 use Rattle.pat_session.specs.Calls.{ReadsAll, EndsOrIsTooLong, SaysUsage}
 use Rattle.pat_session.specs.Complete.{AnswersSuited}
 
@@ -47,6 +47,10 @@ pub record Promises (words : List (List ℕ)) (had left : SourceState) (old new 
   pub replayed : IsCommand Replay words → status ≡ Ok → ShowsReplay had.rest left.rest old.taken new.taken
   -- what an ordering wrote: the text of that history with its entries in order, which leads to the same
   pub ordered : IsCommand Order words → status ≡ Ok → ShowsOrder had.rest left.rest old.taken new.taken
+  -- the texts of a valid derivation and of a checkpoint that is checked by it: where a run of the program that was read leads
+  pub checkpointed : (steps : ℕ) → IsCommand (Checkpoint steps) words → status ≡ Ok → ShowsCheckpoint steps had.rest left.rest old.taken new.taken
+  -- the run that goes on from the checkpoint that was read, which is checked: no steps from it reach a fault
+  pub resumed : (steps : ℕ) → IsCommand (Resume steps) words → WentOn status → ShowsResumed steps had.rest left.rest old.taken new.taken status
   -- a run of the generated program, which is safe
   pub loaded : (size : ℕ) (options : RunOptions) → IsCommand (Load size options) words → IsAccepted status → ShowsLoad size options old.taken new.taken status
   -- help is the line of usage; it takes no memory

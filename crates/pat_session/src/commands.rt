@@ -4,14 +4,16 @@ ghost use Rattle.pat_ports.specs.Ends.{EndsOnce};
 ghost use Rattle.pat_input.specs.Inputs.{IsRead, FaultsAfter};
 ghost use Rattle.pat_command_run.specs.Runners.{IsRunner};
 ghost use Rattle.pat_session.specs.Allowed.{AllowedTo, HasBounds, HasInput};
-ghost use Rattle.pat_session.specs.Asking.{Asks, GivesAsked, GivesAskedInput, IsAsked, IsAsking, IsOfProgram, IsOfTwoParts};
+ghost use Rattle.pat_session.specs.Asking.{Asks, GivesAsked, GivesAskedInput, IsAsked, IsAsking, IsOfProgram, IsOfParts};
 
 use crate::Command;
 use pat_command_check::answer_check;
+use pat_command_checkpoint::answer_checkpoint;
 use pat_command_derive::answer_derive;
 use pat_command_order::answer_order;
 use pat_command_print::answer_print;
 use pat_command_replay::answer_replay;
+use pat_command_resume::answer_resume;
 use pat_command_run::{Detail, Finished, answer_load, answer_run};
 use pat_command_verify::answer_verify;
 use pat_front::Answer;
@@ -31,6 +33,8 @@ pub enum Asked {
     Replay(Vec<u8>),
     Order(Vec<u8>),
     Verify(Vec<u8>),
+    Checkpoint(u32, Input),
+    Resume(u32, Vec<u8>),
     Load(u32, RunOptions),
 }
 
@@ -52,6 +56,8 @@ pub fn answer_to<F: Fn(Accepted, RunOptions) -> Result<Finished, AllocError>>(
         Asked::Replay(bytes) => answer_replay(alloc, bytes.as_slice()),
         Asked::Order(bytes) => answer_order(alloc, bytes.as_slice()),
         Asked::Verify(bytes) => answer_verify(alloc, bytes.as_slice()),
+        Asked::Checkpoint(steps, input) => answer_checkpoint(alloc, steps, input),
+        Asked::Resume(steps, bytes) => answer_resume(alloc, steps, bytes.as_slice()),
         Asked::Load(size, options) => answer_load(alloc, run, size, options),
     }
 }
@@ -72,9 +78,10 @@ pub fn read_asked<S: Source>(
     match command {
         Command::Load(size, options) => Ok(Asked::Load(size, options)),
         Command::Help => unreachable!(),
-        Command::Replay => read_two_parts(alloc, command, source),
-        Command::Order => read_two_parts(alloc, command, source),
-        Command::Verify => read_two_parts(alloc, command, source),
+        Command::Replay => read_parts(alloc, command, source),
+        Command::Order => read_parts(alloc, command, source),
+        Command::Verify => read_parts(alloc, command, source),
+        Command::Resume(_) => read_parts(alloc, command, source),
         _ => read_program(alloc, command, source),
     }
 }
@@ -105,33 +112,37 @@ fn asked_of_program(command: Command, input: Input) -> Asked
         Command::Derive => Asked::Derive(input),
         Command::Print => Asked::Print(input),
         Command::Run(options) => Asked::Run(options, input),
+        Command::Checkpoint(steps) => Asked::Checkpoint(steps, input),
         _ => unreachable!(),
     }
 }
 
-// A program, and a text behind it.
-fn read_two_parts<S: Source>(
+// A program, and texts behind it.
+fn read_parts<S: Source>(
     alloc: Global,
     command: Command,
     source: &mut S,
 ) -> Result<Asked, InputError>
-    requires parts { IsOfTwoParts command }
+    requires bounds { HasBounds command }
+    requires parts { IsOfParts command }
     ensures ok { IfOk result (GivesAskedInput command (S.rest source.old) (S.rest source.new) (S.reach source.old) (S.reach source.new)) }
     ensures faults { FaultsAfter (S.faults source.old) (S.faults source.new) result }
     ensures one_end { EndsOnce (S.reach source.old) (S.reach source.new) }
 {
     let bytes = read_bytes(alloc, source)?;
-    Ok(asked_of_two_parts(command, bytes))
+    Ok(asked_of_parts(command, bytes))
 }
 
-fn asked_of_two_parts(command: Command, bytes: Vec<u8>) -> Asked
-    requires { IsOfTwoParts command }
+fn asked_of_parts(command: Command, bytes: Vec<u8>) -> Asked
+    requires bounds { HasBounds command }
+    requires parts { IsOfParts command }
     ensures { Asks command bytes.items result }
 {
     match command {
         Command::Replay => Asked::Replay(bytes),
         Command::Order => Asked::Order(bytes),
         Command::Verify => Asked::Verify(bytes),
+        Command::Resume(steps) => Asked::Resume(steps, bytes),
         _ => unreachable!(),
     }
 }

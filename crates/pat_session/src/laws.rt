@@ -3,6 +3,7 @@ ghost use Rattle.pat_session.specs.Complete.{IsComplete};
 
 use pat_command_order::order_law;
 use pat_command_replay::replay_law;
+use pat_command_resume::resume_law;
 use pat_command_verify::verify_law;
 use pat_front::verdict_law;
 
@@ -15,4 +16,5 @@ pub fn complete_law()
     verify_law();
     replay_law();
     order_law();
+    resume_law();
 }

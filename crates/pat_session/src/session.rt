@@ -23,7 +23,8 @@ use std::alloc::{AllocError, Global};
 use std::sync::Wait;
 use std::thread::Threads;
 
-const USAGE: &[u8] = b"usage: pat check|derive|verify|print|run|replay|order|load|help\n";
+const USAGE: &[u8] =
+    b"usage: pat check|derive|verify|print|run|replay|order|checkpoint|resume|load|help\n";
 
 /// Reads the words and the source, does what they ask, and writes the whole answer. A run by several workers passes the gate and may
 /// wait; all else is answered as by `pat_alone`, which waits for nobody.

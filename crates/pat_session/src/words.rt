@@ -3,7 +3,7 @@ ghost use Rattle.std.specs.Prelude.{◌≡◌, ◌≤◌, ◌∷◌, [], map, st
 ghost use Rattle.pat_session.specs.Allowed as allowed;
 ghost use Rattle.pat_session.specs.Allowed.{IsCommand, HasCommand, HasBounds};
 
-use pat_run::{RunOptions, number_of, options_of};
+use pat_run::{RunOptions, number_of, options_of, steps_of};
 
 /// What a call is asked to do.
 #[derive(Clone, Copy, Debug, PartialEq, Eq)]
@@ -22,6 +22,10 @@ pub enum Command {
     Order,
     /// Judge a derivation of a program.
     Verify,
+    /// Run a program for so many steps, and write where that leads.
+    Checkpoint(u32),
+    /// Go on from a checkpoint of a program for so many steps.
+    Resume(u32),
     /// Run the generated program of this size.
     Load(u32, RunOptions),
     /// Say how a call is written.
@@ -53,6 +57,12 @@ fn command_with(word: &[u8], rest: &[String]) -> Option<Command>
     if word == b"load".as_slice() {
         return load_with(rest);
     }
+    if word == b"checkpoint".as_slice() {
+        return checkpoint_with(rest);
+    }
+    if word == b"resume".as_slice() {
+        return resume_with(rest);
+    }
     if rest.is_empty() {
         return command_alone(word);
     }
@@ -68,6 +78,32 @@ fn run_with(rest: &[String]) -> Option<Command>
 {
     match options_of(rest) {
         Some(options) => Some(Command::Run(options)),
+        None => None,
+    }
+}
+
+// A checkpoint behind so many steps.
+#[tactic(auto, using(crate::proofs::NoCommands::no_checkpoint_steps))]
+fn checkpoint_with(rest: &[String]) -> Option<Command>
+    ensures some { IfSome result (λ c. IsCommand c (codes "checkpoint" ∷ map string_bytes rest.now)) }
+    ensures bounds { IfSome result HasBounds }
+    ensures none { IfNone result (HasCommand (codes "checkpoint" ∷ map string_bytes rest.now) → ⊥) }
+{
+    match steps_of(rest) {
+        Some(steps) => Some(Command::Checkpoint(steps)),
+        None => None,
+    }
+}
+
+// A run of so many steps that goes on.
+#[tactic(auto, using(crate::proofs::NoCommands::no_resume_steps))]
+fn resume_with(rest: &[String]) -> Option<Command>
+    ensures some { IfSome result (λ c. IsCommand c (codes "resume" ∷ map string_bytes rest.now)) }
+    ensures bounds { IfSome result HasBounds }
+    ensures none { IfNone result (HasCommand (codes "resume" ∷ map string_bytes rest.now) → ⊥) }
+{
+    match steps_of(rest) {
+        Some(steps) => Some(Command::Resume(steps)),
         None => None,
     }
 }
@@ -121,6 +157,8 @@ fn size_of(word: &[u8]) -> Option<u32>
 fn command_alone(word: &[u8]) -> Option<Command>
     requires run { word.now ≡ codes "run" → ⊥ }
     requires load { word.now ≡ codes "load" → ⊥ }
+    requires checkpoint { word.now ≡ codes "checkpoint" → ⊥ }
+    requires resume { word.now ≡ codes "resume" → ⊥ }
     ensures some { IfSome result (λ c. IsCommand c (word.now ∷ [])) }
     ensures bounds { IfSome result HasBounds }
     ensures none { IfNone result (HasCommand (word.now ∷ []) → ⊥) }

@@ -22,6 +22,7 @@ use Rattle.pat_solve_bounds.specs.results.Views.{forms_of, IsSolution, IsRefusal
 use Rattle.pat_solve_bounds.specs.declared.results.solution.Solution.{Solution}
 use Rattle.pat_solve_bounds.specs.declared.results.error.SolveError.{SolveError}
 use Rattle.pat_solve_bounds.specs.declared.results.error.SolveError.TheVariants as error
+use Rattle.pat_solve.specs.Smallest.{IsSmallest, IsBestRefusal, IsBestAnswer}
 use Rattle.pat_solve.specs.interface.Found.{IsShut, IsUnshownBy}
 use Rattle.pat_solve.specs.declared.interface.forms.Unshown.{Unshown}
 use Rattle.pat_solve.specs.declared.states.Progress.{Progress}
@@ -79,10 +80,10 @@ module _ (p : Program) (there : AreThere p) where
     undecided = λ m less is. (shut m is.constraint less is.at (there.constraints m is.constraint is.at)).undecided is;
   }
 
-  error_refusal : (n : ℕ) (r : Option Refutation) (e : SolveError) → AllUsable p → NoneTooLarge p (length p.interfaces) → NoneOpen p n → IsUnshownBy p n r → IsErrorBy n r e → IsRefusal p e
+  error_refusal : (n : ℕ) (r : Option Refutation) (e : SolveError) → AllUsable p → NoneTooLarge p (length p.interfaces) → NoneOpen p n → IsUnshownBy p n r → IsErrorBy n r e → IsBestRefusal p e
   error_refusal n (Some r) (error.Refuted m q) usable small none is by =
-      let all : IsRefusal p (error.Refuted n r) = (usable, small, is, none) in
-      subst (λ x. IsRefusal p (error.Refuted m x)) (sym by.1) (subst (λ k. IsRefusal p (error.Refuted k r)) (sym by.0) all)
+      let all : IsBestRefusal p (error.Refuted n r) = ((usable, small, is.0, none), is.1) in
+      subst (λ x. IsBestRefusal p (error.Refuted m x)) (sym by.1) (subst (λ k. IsBestRefusal p (error.Refuted k r)) (sym by.0) all)
   error_refusal n None (error.Undecided m) usable small none is by =
       let all : IsRefusal p (error.Undecided n) = (usable, small, is, none) in
       subst (λ k. IsRefusal p (error.Undecided k)) (sym by) all
@@ -97,14 +98,39 @@ module _ (p : Program) (there : AreThere p) where
 
   -- ---- the end
 
-  ends : (s : Progress) (o : Option Unshown) (r : Result Solution SolveError) → AllUsable p → NoneTooLarge p (length p.interfaces) → FirstIs p (length p.interfaces) o → (o ≡ None → AreSolved p (length p.interfaces) s.bounds s.values) → FinishesBy s o r → IsAnswer p r
+  ends : (s : Progress) (o : Option Unshown) (r : Result Solution SolveError) → AllUsable p → NoneTooLarge p (length p.interfaces) → FirstIs p (length p.interfaces) o → (o ≡ None → AreSolved p (length p.interfaces) s.bounds s.values) → FinishesBy s o r → IsBestAnswer p r
   ends s None (Ok t) usable small shown solved by = solution_is s t usable (solved refl) by.0 by.1
   ends s None (Err e) usable small shown solved by = absurd by
   ends s (Some o) (Ok t) usable small shown solved by = absurd by
   ends s (Some o) (Err e) usable small shown solved by = error_refusal o.constraint o.refutation e usable small (none_before o.constraint shown.before) shown.unshown by
 
-  pub finished_answer : (s : Progress) (r : Result Solution SolveError) → Stands p (length p.interfaces) s → Finishes s r → IsAnswer p r
+  pub finished_answer : (s : Progress) (r : Result Solution SolveError) → Stands p (length p.interfaces) s → Finishes s r → IsBestAnswer p r
   finished_answer s r stands by = ends s s.first r stands.usable stands.small stands.first stands.solved by
+
+-- ---- what the best answer says
+
+module _ (p : Program) where
+  refusal_of : (e : SolveError) → IsBestRefusal p e → IsRefusal p e
+  refusal_of (error.Refuted n r) is = is.0
+  refusal_of (error.Unusable k) is = is
+  refusal_of (error.TooLarge i) is = is
+  refusal_of (error.Undecided n) is = is
+  refusal_of error.NoMemory is = tt
+
+  smallest_of : (e : SolveError) → IsBestRefusal p e → IsSmallest p e
+  smallest_of (error.Refuted n r) is = is.1
+  smallest_of (error.Unusable k) is = tt
+  smallest_of (error.TooLarge i) is = tt
+  smallest_of (error.Undecided n) is = tt
+  smallest_of error.NoMemory is = tt
+
+  pub exact : (r : Result Solution SolveError) → IsBestAnswer p r → IsAnswer p r
+  exact (Ok s) is = is
+  exact (Err e) is = refusal_of e is
+
+  pub smallest : (r : Result Solution SolveError) → IsBestAnswer p r → IfErr r (IsSmallest p)
+  smallest (Ok s) is = tt
+  smallest (Err e) is = smallest_of e is
 
 -- ---- what refusals say
 

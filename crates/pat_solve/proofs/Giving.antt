@@ -25,6 +25,7 @@ use Rattle.pat_solve_closed_forms.specs.Values.{AreValuesOf, IsFirstUncovered}
 use Rattle.pat_solve_grids.specs.Grids.{AreGridsOf, IsClosedOf}
 use Rattle.pat_solve_grids.specs.Points.{points_by}
 use Rattle.pat_solve_grids.specs.declared.entry.InterfaceGrids.{InterfaceGrids}
+use Rattle.pat_solve.specs.Smallest.{IsLeastRefutation}
 use Rattle.pat_solve.specs.declared.interface.forms.InterfaceForm.{InterfaceForm}
 use Rattle.pat_solve.specs.declared.interface.forms.InterfaceForm.TheVariants.{Solved, TooLarge, Unsolved}
 use Rattle.pat_solve.specs.interface.Found.{IsShut, AreFormOf, IsFirstUnshown, FormGives, IsUncovered, ArePatterns, IsWithout, AreGrids, IsByGridsOf, IsByGrids}
@@ -132,6 +133,12 @@ module _ (p : Program) (i : ℕ) where
         let h = are.large large in
         inr (h.0, h.1, h.2.at, h.2.own, record { searched = record { grids = in_grids h.1.interface h.2.own; closed = h.2.closed }; large = h.3 })
 
+    least_by_grids : (x : ℕ × Refutation) → g.refuted ≡ Some x → IsLeastRefutation p x.0 (bound_view x.1.tree)
+    least_by_grids x is c w b at refutes =
+        let h = are.found x.0 x.1 is in
+        let same : h.0 ≡ c = same_Some h.0 c (sym h.1.at ∙ at) in
+        are.least_tree x.0 x.1 c w b is (subst (IsClosedOf p i x.0) same h.1) refutes
+
     first_by_grids : (x : ℕ × Refutation) → g.is_oversized ≡ false → g.refuted ≡ Some x → IsFirstUnshown p i (record { constraint = x.0; refutation = Some x.1 })
     first_by_grids x small is =
         let h = are.found x.0 x.1 is in
@@ -140,7 +147,10 @@ module _ (p : Program) (i : ℕ) where
           constraint = h.0;
           at = h.1.at;
           own = h.1.own;
-          unshown = record { constraint = h.0; at = h.1.at; searched = record { grids = in_grids h.0.interface h.1.own; closed = h.1.closed }; found = h.2 };
+          unshown = (
+            record { constraint = h.0; at = h.1.at; searched = record { grids = in_grids h.0.interface h.1.own; closed = h.1.closed }; found = h.2 },
+            least_by_grids x is,
+          );
           before = λ m c less at own. record {
             refuted = λ w b f. are.first x.0 m x.1 f.constraint w b is less (record { at = f.at; own = same_interface m c f.constraint at f.at own; closed = f.searched.closed }) f.found;
             undecided = λ u. not_neither u.constraint.interface (same_interface m c u.constraint at u.at own) u.neither;

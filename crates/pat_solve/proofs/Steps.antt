@@ -23,6 +23,7 @@ use Rattle.pat_solve.specs.declared.interface.forms.Unshown.{Unshown}
 use Rattle.pat_solve.specs.declared.interface.forms.InterfaceForm.{InterfaceForm}
 use Rattle.pat_solve.specs.declared.interface.forms.InterfaceForm.TheVariants.{Solved, TooLarge, Unsolved}
 use Rattle.pat_solve.specs.declared.states.Progress.{Progress}
+use Rattle.pat_solve.specs.Smallest.{IsBestRefusal}
 use Rattle.pat_solve.specs.Steps.{put_lines, IsSolvedMore, MeetsUnshown, IsEarlier, TookIn}
 use Rattle.pat_solve.specs.States.{IsFirstOf, FirstIs, AreSolved, Stands}
 use Rattle.pat_solve.proofs.Lines.{put_long, put_own, put_other}
@@ -225,12 +226,12 @@ module _ (p : Program) where
     large_refusal j same large there usable small =
         subst (λ k. IsRefusal p (error.TooLarge k)) (sym same) (usable, there, large, small)
 
-    pub step_refusal : (s : Progress) (variables : List ℕ) (form : InterfaceForm) (r : Result Progress SolveError) → i < length p.interfaces → FormGives p i form → TookIn i variables s form r → Stands p i s → IfErr r (IsRefusal p)
+    pub step_refusal : (s : Progress) (variables : List ℕ) (form : InterfaceForm) (r : Result Progress SolveError) → i < length p.interfaces → FormGives p i form → TookIn i variables s form r → Stands p i s → IfErr r (IsBestRefusal p)
     step_refusal s variables form (Ok t) there found took stands = tt
-    step_refusal s variables (Solved bound own) (Err e) there found took stands = subst (IsRefusal p) (sym took) tt
+    step_refusal s variables (Solved bound own) (Err e) there found took stands = subst (IsBestRefusal p) (sym took) tt
     step_refusal s variables TooLarge (Err (error.TooLarge j)) there found took stands = large_refusal j took found there stands.usable stands.small
     step_refusal s variables TooLarge (Err error.NoMemory) there found took stands = tt
     step_refusal s variables TooLarge (Err (error.Unusable k)) there found took stands = absurd took
     step_refusal s variables TooLarge (Err (error.Refuted n r)) there found took stands = absurd took
     step_refusal s variables TooLarge (Err (error.Undecided n)) there found took stands = absurd took
-    step_refusal s variables (Unsolved o) (Err e) there found took stands = subst (IsRefusal p) (sym took) tt
+    step_refusal s variables (Unsolved o) (Err e) there found took stands = subst (IsBestRefusal p) (sym took) tt

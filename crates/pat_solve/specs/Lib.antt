@@ -1,3 +1,4 @@
+pub mod Smallest
 pub mod Steps
 pub mod States
 pub mod interface

@@ -4,8 +4,9 @@ ghost use Rattle.pat_semantics_spec.specs.WellFormed.{WellFormed};
 ghost use Rattle.pat_core.specs.Views.{program_view};
 ghost use Rattle.pat_infer_problems.specs.Problems.{IsProblemOf, IsEnough};
 ghost use Rattle.pat_solve_spec.specs.Answers.{AllUsable};
-ghost use Rattle.pat_solve_bounds.specs.results.Views.{IsAnswer, IsRefusal, IsUntypable, IsComplete};
+ghost use Rattle.pat_solve_bounds.specs.results.Views.{IsAnswer, IsUntypable, IsComplete};
 ghost use Rattle.pat_solve_bounds.specs.lower_bounds.Indexes.{IsIndexOf};
+ghost use Rattle.pat_solve.specs.Smallest.{IsSmallest, IsBestRefusal, IsBestAnswer};
 ghost use Rattle.pat_solve.specs.States.{Stands};
 
 use crate::interface::interface_form;
@@ -18,7 +19,7 @@ use std::alloc::{AllocError, Global};
 
 /// The solution of the problem of a well-formed program in which no rule of inference is broken; otherwise the first reason why there
 /// is none: a variable that is unusable, an interface that is too large, or a constraint that is refuted or of which nothing is
-/// known, in this order.
+/// known, in this order. No tree of a word that refutes that constraint is smaller than the one that is given (`smallest`).
 ///
 /// Where a constraint is refuted, or an interface in bounds is too large, the program can't be typed (`untypable`). Where each
 /// interface is in bounds and each sending variable of a signature has a derivable word, only want of memory keeps a program that can
@@ -28,6 +29,7 @@ pub fn solve(alloc: Global, program: &Program, problem: &Problem) -> Result<Solu
     requires problem { IsProblemOf program.now problem.now }
     requires enough { IsEnough (program_view program.now) }
     ensures exact { IsAnswer (program_view program.now) result }
+    ensures smallest { IfErr result (IsSmallest (program_view program.now)) }
     ensures untypable { IfErr result (IsUntypable (program_view program.now)) }
     ensures complete { IfErr result (IsComplete (program_view program.now)) }
 {
@@ -41,7 +43,7 @@ fn answer(alloc: Global, program: &Program, problem: &Problem) -> Result<Solutio
     requires well { WellFormed (program_view program.now) }
     requires problem { IsProblemOf program.now problem.now }
     requires enough { IsEnough (program_view program.now) }
-    ensures { IsAnswer (program_view program.now) result }
+    ensures { IsBestAnswer (program_view program.now) result }
 {
     match first_unusable(alloc, program, problem)? {
         Some(variable) => Err(SolveError::Unusable { variable }),
@@ -59,7 +61,7 @@ fn answer_usable(
     requires problem { IsProblemOf program.now problem.now }
     requires enough { IsEnough (program_view program.now) }
     requires usable { AllUsable (program_view program.now) }
-    ensures { IsAnswer (program_view program.now) result }
+    ensures { IsBestAnswer (program_view program.now) result }
 {
     refusal_laws();
     let interfaces = program.interfaces.len();
@@ -91,7 +93,7 @@ fn step(
     requires there { interface < length program.now.interfaces }
     requires state { Stands (program_view program.now) interface state }
     ensures stands { IfOk result (Stands (program_view program.now) (interface + 1)) }
-    ensures refusal { IfErr result (IsRefusal (program_view program.now)) }
+    ensures refusal { IfErr result (IsBestRefusal (program_view program.now)) }
 {
     index_law();
     let form = interface_form(alloc, program, problem, index, interface)?;

@@ -168,6 +168,7 @@ fn product_of_parts<'a>(
     kept_product(alloc, left, right)
 }
 
+// As a sum, but for the form: a contract names the form that is made, so it is no argument.
 /// The product as it stands, unless it is too large.
 fn kept_product<'a>(
     alloc: Global,

@@ -32,6 +32,7 @@ module _ (w : ℕ → ℕ) (some : (k : ℕ) → 1 ≤ w k) where
   weighs_some (Sum e f) = omega arith
   weighs_some (Prod e f) = omega arith
 
+  -- levels, by the same cases as nodes: the two measures add otherwise
   pub deep_levels : (e : Pat) → levels_of e ≤ deep w e
   deep_levels Zero = omega arith
   deep_levels One = omega arith

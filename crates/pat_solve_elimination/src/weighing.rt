@@ -73,6 +73,7 @@ fn weigh_part<'a>(
     ensures settled { let d = levels_by variables.now weights.now in IfOk result (λ made. IfSome made (λ next. (k : ℕ) → (d k ≤ next.levels) ⊎ (any_has k (pointed waiting.new) ≡ any_has k (pattern_view part.now ∷ pointed waiting.old)))) }
     ensures fewer { IfOk result (λ made. IfSome made (λ next. nodes (pointed waiting.new) < nodes (pattern_view part.now ∷ pointed waiting.old))) }
 {
+    // `growing` walks so too; what its walk keeps true is of values in place of weights.
     match part {
         Pattern::Zero | Pattern::One | Pattern::Tag(_) => Ok(growth.with(1, 1)),
         Pattern::Var(number) => Ok(weigh_variable(variables, weights, *number, growth)),

@@ -14,11 +14,11 @@ use Rattle.pat_bags.specs.declared.Bag.{Bag}
 use Rattle.pat_bags.specs.Views.{word_of}
 use Rattle.pat_inclusion_spec.specs.Counts.{same_below, counted}
 use Rattle.pat_inclusion_spec.specs.Points.{grid_fits, points_fit}
-use Rattle.pat_inclusion_spec.specs.bounds.Trees.{Bound, LowerTree, Shows, bounds_of, derivable}
+use Rattle.pat_inclusion_spec.specs.bounds.Trees.{Bound, LowerTree, Shows, bounds_of, derivable, tree_size}
 use Rattle.pat_inclusion_spec.specs.bounds.Assignments as bounds
 use Rattle.pat_inclusion_spec.specs.bounds.Assignments.{lower_of}
 use Rattle.pat_inclusion_spec.specs.bounds.CutSets.{IsPoint}
-use Rattle.pat_inclusion_spec.specs.bounds.Searches.{IsInside, IsFound, IsLarge}
+use Rattle.pat_inclusion_spec.specs.bounds.Searches.{Refutes, IsInside, IsFound, IsLarge}
 use Rattle.pat_inclusion_spec.specs.bounds.LeastGrids.{AreLeastPoints}
 use Rattle.pat_infer_spec.specs.Constraints.{Constraint}
 use Rattle.pat_infer_spec.specs.Shapes.{PatternFits, ConstraintFits, is_simple}
@@ -175,6 +175,16 @@ module _ (p : core.Program) (i : ℕ) (fits : AllByRecursion (ConstraintFits p (
         let y = found_program f.0 n h.1 (word_of r.word) (bound_view r.tree) x f.3 in
         (h.1, y.0, y.1)
 
+    pub least_is : (n : ℕ) (r : Refutation) (c : Constraint) (w : Word) (b : Bound) → o ≡ Some (n, r) → IsClosedOf p i n c → Refutes (lowers_of p) c.left c.right w b → tree_size (bound_view r.tree) ≤ tree_size b
+    least_is n r c w b e closed refutes =
+        let f = first_of n r e in
+        let x : IsAt f.0 n c = record { inside = f.1; number = f.2; at = closed.at; own_interface = closed.own } in
+        let size = (found_program f.0 n c (word_of r.word) (bound_view r.tree) x f.3).1.1 in
+        ⊎_elim
+        (λ more. omega (arith, more, size))
+        (λ small. f.4 w b (program_found f.0 n c w b x closed.closed (refutes, small)))
+        (cases_lt most_tree_nodes (tree_size b))
+
     pub first_is : (n m : ℕ) (r : Refutation) (c : Constraint) (w : Word) (b : Bound) → o ≡ Some (n, r) → m < n → IsClosedOf p i m c → IsFound most_tree_nodes (lowers_of p) c.left c.right w b → ⊥
     first_is n m r c w b e l closed found =
         let f = first_of n r e in
@@ -182,7 +192,7 @@ module _ (p : core.Program) (i : ℕ) (fits : AllByRecursion (ConstraintFits p (
         let same : h.0 ≡ n = sym (h.2.number) ∙ f.2 in
         let x = subst (λ k. IsAt f.0 k h.1) same h.2 in
         let y = by_number m c closed in
-        f.4 y.0 w b (ordered y.0 f.0 m n c h.1 y.1 x l) (program_found y.0 m c w b y.1 closed.closed found)
+        f.5 y.0 w b (ordered y.0 f.0 m n c h.1 y.1 x l) (program_found y.0 m c w b y.1 closed.closed found)
 
     pub none_is : (m : ℕ) (c : Constraint) (w : Word) (b : Bound) → o ≡ None → IsClosedOf p i m c → IsFound most_tree_nodes (lowers_of p) c.left c.right w b → ⊥
     none_is m c w b e closed found =

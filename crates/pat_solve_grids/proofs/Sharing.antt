@@ -23,7 +23,7 @@ use Rattle.pat_grid.specs.tables.Views.{setting_of, IsBoard, AreGrids}
 use Rattle.pat_grid.specs.Rows.{AreRows}
 use Rattle.pat_grid.proofs.Meaning.{rows_many, rows_point, least_like}
 use Rattle.pat_counterexample_search.specs.Readings.{IsRead, IsReading}
-use Rattle.pat_counterexample_search.proofs.Search.{read_right}
+use Rattle.pat_counterexample_search.proofs.Search.{read_right, read_least}
 use Rattle.pat_solve_bounds.specs.renumbered.Renaming.{renamed}
 use Rattle.pat_solve_bounds.specs.renumbered.Systems.{side_at, picked}
 use Rattle.pat_solve_bounds.proofs.Renames.{renamed_tags}
@@ -194,12 +194,15 @@ module _ (b : Board) (system : List Pat) (place : ℕ → ℕ) (zs : List Constr
       stand.0,
       stand.1,
       stand.2,
-      λ a reading. told_right b slice (bounds_of system) left f stand.0 stand.1 limit
-          (λ less. subst (IsTold b slice) stand.2 (told less)) a reading
-          (read_right (setting_of b) entries (bounds_of system) left f stand.0 stand.1 law done flat
-          (subst (λ ys. Stands ys LowerSymbol left stand.0) (sym symbols) stand.3)
-          (subst (λ ys. Stands ys LowerSymbol f stand.1) (sym symbols) stand.4)
-          fits.1 fits.2 a (subst (λ es. IsRead (setting_of b) es stand.0 stand.1 a) same reading.read)),
+      λ a reading.
+          let here = subst (λ ys. Stands ys LowerSymbol left stand.0) (sym symbols) stand.3 in
+          let there = subst (λ ys. Stands ys LowerSymbol f stand.1) (sym symbols) stand.4 in
+          let read = subst (λ es. IsRead (setting_of b) es stand.0 stand.1 a) same reading.read in (
+            told_right b slice (bounds_of system) left f stand.0 stand.1 limit
+                (λ less. subst (IsTold b slice) stand.2 (told less)) a reading
+                (read_right (setting_of b) entries (bounds_of system) left f stand.0 stand.1 law done flat here there fits.1 fits.2 a read),
+            read_least (setting_of b) entries (bounds_of system) left f stand.0 stand.1 law done flat here there fits.1 fits.2 a read,
+          ),
     )
 
     pub batch_ready : AllByRecursion (IsSearchable b.k b.tags) (picked zs ns) → (sides : List (Option (ℕ × ℕ))) → IsSettled b slice sides → sides ≡ all_places (renamed place) base cs → AreReady b slice (bounds_of system) (renamed place) zs ns from sides

@@ -1,16 +1,17 @@
 -- A constraint more is searched.
-use Rattle.std.proofs.Common.{◌≡◌, ℕ, zero, suc, ◌+◌, ◌<◌, ◌⊎◌, inl, inr, ⊎_elim, false, List, [], ◌∷◌, length, map, Option, Some, None, refl, sym, subst, arith}
+use Rattle.std.proofs.Common.{◌≡◌, ℕ, zero, suc, ◌+◌, ◌<◌, ◌≤◌, ◌⊎◌, inl, inr, ⊎_elim, false, List, [], ◌∷◌, length, map, Option, Some, None, refl, sym, subst, arith}
 use Rattle.std.specs.Prelude.{get_or}
 use Rattle.std.specs.List.{AllByRecursion}
 use Rattle.std.proofs.lemmas.Bool.{cases_lt}
 use Rattle.std.proofs.lemmas.List.{get_or-map}
 use Rattle.pat_words_spec.specs.Words.{Word}
 use Rattle.pat_words_spec.specs.Patterns.{Pat, Zero}
-use Rattle.pat_inclusion_spec.specs.bounds.Trees.{Bound, EmptyTree, Shows}
+use Rattle.pat_inclusion_spec.specs.bounds.Trees.{Bound, EmptyTree, Shows, tree_size}
 use Rattle.pat_inclusion_spec.specs.bounds.Assignments.{Right, PatternRight, VarRight, Constraint}
 use Rattle.pat_inclusion_spec.specs.bounds.Searches.{IsInside, IsFound, IsLarge, Search, InsideAnswer, FoundAnswer, LargeAnswer, IsAnswer}
+use Rattle.pat_counterexample_search.specs.Least.{IsLeastAnswer}
 use Rattle.pat_solve_bounds.specs.renumbered.Systems.{side_at, picked}
-use Rattle.pat_solve_grids.specs.Findings.{Findings, first_or, noted, SidesSearched, IsSearched, FoundIn, LargeIn, InsideIn, FoundAt, LargeAt, InsideAt, IsFirst, AreFound}
+use Rattle.pat_solve_grids.specs.Findings.{Findings, first_or, noted, SidesSearched, IsSearched, FoundIn, LargeIn, InsideIn, FoundAt, LeastAt, LargeAt, InsideAt, IsFirst, AreFound}
 use Rattle.pat_limits.specs.Limits.{most_tree_nodes}
 
 -- ---- no tree shows a word of 0
@@ -48,11 +49,11 @@ module _ (lower : ℕ → Pat) (rename : Pat → Pat) (cs : List Constraint) (ns
   -- nothing that is found at m: the first one stays
   first_kept : (o : Option (ℕ × Word × Bound)) → IsFirst lower rename cs ns m o → ((w : Word) (b : Bound) → FoundAt lower rename cs m w b → ⊥) → IsFirst lower rename cs ns (suc m) o
   first_kept None h none = λ j w b l. up_to (λ i. FoundAt lower rename cs i w b → ⊥) (λ i x. h i w b x) (none w b) j l
-  first_kept (Some x) h none = (h.0, let l = h.1 in omega arith, h.2, h.3, h.4)
+  first_kept (Some x) h none = (h.0, let l = h.1 in omega arith, h.2, h.3, h.4, h.5)
 
-  first_more : (o : Option (ℕ × Word × Bound)) (w : Word) (b : Bound) → IsFirst lower rename cs ns m o → FoundAt lower rename cs m w b → (n : ℕ) → get_or ns m 0 ≡ n → IsFirst lower rename cs ns (suc m) (first_or o (n, w, b))
-  first_more None w b h found n is = (m, omega arith, is, found, λ i v a l. h i v a l)
-  first_more (Some x) w b h found n is = (h.0, let l = h.1 in omega arith, h.2, h.3, h.4)
+  first_more : (o : Option (ℕ × Word × Bound)) (w : Word) (b : Bound) → IsFirst lower rename cs ns m o → FoundAt lower rename cs m w b → LeastAt lower rename cs m b → (n : ℕ) → get_or ns m 0 ≡ n → IsFirst lower rename cs ns (suc m) (first_or o (n, w, b))
+  first_more None w b h found least n is = (m, omega arith, is, found, least, λ i v a l. h i v a l)
+  first_more (Some x) w b h found least n is = (h.0, let l = h.1 in omega arith, h.2, h.3, h.4, h.5)
 
   pub searched_more : (n : ℕ) (old new : Findings) → get_or ns m 0 ≡ n → AreFound lower rename cs ns m old → SidesSearched lower here (side_at cs m).right n old new → AreFound lower rename cs ns (suc m) new
   searched_more n old new is was = go (side_at cs m).right refl
@@ -71,7 +72,7 @@ module _ (lower : ℕ → Pat) (rename : Pat → Pat) (cs : List Constraint) (ns
           (λ w b x. subst (λ r. FoundIn lower here r w b) e x)
           (λ x. subst (LargeIn lower here) e x)
           (subst (InsideIn lower here) (sym e) tt)
-      go (PatternRight f) e h = answered h.0 h.1 h.2
+      go (PatternRight f) e h = answered h.0 h.1.0 h.1.1 h.2
         where
           found_is : (w : Word) (b : Bound) → FoundAt lower rename cs m w b → IsFound most_tree_nodes lower here f w b
           found_is w b x = subst (λ r. FoundIn lower here r w b) e x
@@ -79,14 +80,14 @@ module _ (lower : ℕ → Pat) (rename : Pat → Pat) (cs : List Constraint) (ns
           large_is : LargeAt lower rename cs m → IsLarge most_tree_nodes lower here f
           large_is x = subst (LargeIn lower here) e x
 
-          answered : (a : Search) → IsAnswer most_tree_nodes lower here f a → new ≡ noted a n old → AreFound lower rename cs ns (suc m) new
-          answered InsideAnswer right same =
+          answered : (a : Search) → IsAnswer most_tree_nodes lower here f a → IsLeastAnswer lower here f a → new ≡ noted a n old → AreFound lower rename cs ns (suc m) new
+          answered InsideAnswer right least same =
               nothing (sym same)
               (λ w b x. found_not_inside lower here f w b right (found_is w b x))
               (λ x. large_not_inside lower here f right (large_is x))
               (subst (InsideIn lower here) (sym e) right)
-          answered (FoundAnswer w b) right same = subst (AreFound lower rename cs ns (suc m)) (sym same) (record {
-            first = first_more old.refuted w b was.first (subst (λ r. FoundIn lower here r w b) (sym e) right) n is;
+          answered (FoundAnswer w b) right least same = subst (AreFound lower rename cs ns (suc m)) (sym same) (record {
+            first = first_more old.refuted w b was.first (subst (λ r. FoundIn lower here r w b) (sym e) right) (λ v c x. least v c (found_is v c x).0) n is;
             large = λ t. let h = was.large t in (h.0, let l = h.1 in omega arith, h.2);
             small = λ t. up_to (λ i. LargeAt lower rename cs i → ⊥) (was.small t) (λ x. found_not_large lower here f w b (large_is x) right);
             inside = λ a t. absurd (some old.refuted a);
@@ -95,7 +96,7 @@ module _ (lower : ℕ → Pat) (rename : Pat → Pat) (cs : List Constraint) (ns
               some : (o : Option (ℕ × Word × Bound)) → first_or o (n, w, b) ≡ None → ⊥
               some None q = cc
               some (Some x) q = cc
-          answered LargeAnswer right same = subst (AreFound lower rename cs ns (suc m)) (sym same) (record {
+          answered LargeAnswer right least same = subst (AreFound lower rename cs ns (suc m)) (sym same) (record {
             first = first_kept old.refuted was.first (λ w b x. found_not_large lower here f w b right (found_is w b x));
             large = λ t. (m, omega arith, subst (LargeIn lower here) (sym e) right);
             small = λ t. cc;

@@ -50,7 +50,7 @@ use Rattle.pat_solve_grids.proofs.Own.{variables_ascend, picked_own, own_fit, al
 use Rattle.pat_solve_grids.proofs.Degrees.{bound_small, in_bounds, not_flat, not_fitting, too_high}
 use Rattle.pat_solve_grids.proofs.PointLists.{listed_count}
 use Rattle.pat_solve_grids.proofs.Trees.{vars, sides, system, system_length}
-use Rattle.pat_solve_grids.proofs.Meaning.{found_is, first_is, none_is, large_is, small_is, inside_is, least_points}
+use Rattle.pat_solve_grids.proofs.Meaning.{found_is, least_is, first_is, none_is, large_is, small_is, inside_is, least_points}
 
 some_tags : (p : core.Program) (js : List core.Interface) (i : ℕ) → AllByRecursion (InterfaceFits p) js → i < length js → 1 ≤ tag_count (slice_get js i)
 some_tags p [] i h l = absurd (omega arith)
@@ -165,6 +165,7 @@ module _ (p : Program) (q : Problem) (x : Index) (i : ℕ) (is : IsProblemOf p q
                 (subst (λ es. (j : ℕ) (g : Grid) (u : Word) → slice_get grids j ≡ Some g → IsPoint k tags u → HasPoint g u ↔ CutOf k (derivable (bounds_of es) j) u) made_whole least))
                 listed);
             found = found_is (program_view p) i fits within o large found_whole;
+            least_tree = least_is (program_view p) i fits within o large found_whole;
             first = first_is (program_view p) i fits within o large found_whole;
             none = none_is (program_view p) i fits within o large found_whole;
             large = large_is (program_view p) i fits within o large found_whole;

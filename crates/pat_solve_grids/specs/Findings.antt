@@ -1,12 +1,13 @@
 -- What searches of constraints find, one after another.
-use Rattle.std.specs.Prelude.{◌≡◌, ℕ, ◌<◌, Bool, true, List, get_or, Option, Some, None, IsTrue, IsFalse}
+use Rattle.std.specs.Prelude.{◌≡◌, ℕ, ◌<◌, ◌≤◌, Bool, true, List, get_or, Option, Some, None, IsTrue, IsFalse}
 use Rattle.pat_words_spec.specs.Words.{Word}
 use Rattle.pat_words_spec.specs.Patterns.{Pat}
 use Rattle.pat_words_spec.specs.Flats.{is_flat, degree_of}
 use Rattle.pat_words_spec.specs.Tags.{tags_below}
-use Rattle.pat_inclusion_spec.specs.bounds.Trees.{Bound}
+use Rattle.pat_inclusion_spec.specs.bounds.Trees.{Bound, tree_size}
 use Rattle.pat_inclusion_spec.specs.bounds.Assignments.{Right, PatternRight, VarRight, Constraint}
 use Rattle.pat_inclusion_spec.specs.bounds.Searches.{IsInside, IsFound, IsLarge, Search, InsideAnswer, FoundAnswer, LargeAnswer, IsAnswer}
+use Rattle.pat_counterexample_search.specs.Least.{IsLeastAnswer}
 use Rattle.pat_solve_bounds.specs.renumbered.Systems.{side_at}
 use Rattle.pat_limits.specs.Limits.{most_tree_nodes}
 
@@ -37,9 +38,11 @@ pub record IsSearchable (k n : ℕ) (c : Constraint) : Type 0 where
   pub left : IsTrue (tags_below n c.left)
   pub right : RightSearchable k n c.right
 
--- the left side, renamed, has been searched for words that the right side lacks, if that has no variable
+-- the left side, renamed, has been searched for words that the right side lacks, if that has no variable; the tree of one that is found
+-- is a least one
 abbrev pub SidesSearched : (ℕ → Pat) → Pat → Right → ℕ → Findings → Findings → Type 0
-SidesSearched lower left (PatternRight f) n old new = (a : Search) × IsAnswer most_tree_nodes lower left f a × (new ≡ noted a n old)
+SidesSearched lower left (PatternRight f) n old new =
+    (a : Search) × (IsAnswer most_tree_nodes lower left f a × IsLeastAnswer lower left f a) × (new ≡ noted a n old)
 SidesSearched lower left (VarRight k) n old new = new ≡ old
 
 abbrev pub IsSearched : (ℕ → Pat) → (Pat → Pat) → Constraint → ℕ → Findings → Findings → Type 0
@@ -66,17 +69,26 @@ module _ (lower : ℕ → Pat) (rename : Pat → Pat) (cs : List Constraint) whe
   abbrev pub FoundAt : ℕ → Word → Bound → Type 0
   FoundAt j w b = FoundIn lower (rename (side_at cs j).left) (side_at cs j).right w b
 
+  -- no tree that is found there has fewer nodes
+  abbrev pub LeastAt : ℕ → Bound → Type 0
+  LeastAt j b = (w : Word) (c : Bound) → FoundAt j w c → tree_size b ≤ tree_size c
+
   abbrev pub LargeAt : ℕ → Type 0
   LargeAt j = LargeIn lower (rename (side_at cs j).left) (side_at cs j).right
 
   abbrev pub InsideAt : ℕ → Type 0
   InsideAt j = InsideIn lower (rename (side_at cs j).left) (side_at cs j).right
 
-  -- the first of the constraints that is refuted has this number among ns, or there is none
+  -- the first of the constraints that is refuted has this number among ns, and this is a least tree; or there is none
   abbrev pub IsFirst : List ℕ → ℕ → Option (ℕ × Word × Bound) → Type 0
   IsFirst ns m None = (j : ℕ) (w : Word) (b : Bound) → j < m → FoundAt j w b → ⊥
   IsFirst ns m (Some x) =
-      (j : ℕ) × (j < m) × (get_or ns j 0 ≡ x.0) × FoundAt j x.1 x.2 × ((i : ℕ) (w : Word) (b : Bound) → i < j → FoundAt i w b → ⊥)
+      (j : ℕ)
+      × (j < m)
+      × (get_or ns j 0 ≡ x.0)
+      × FoundAt j x.1 x.2
+      × LeastAt j x.2
+      × ((i : ℕ) (w : Word) (b : Bound) → i < j → FoundAt i w b → ⊥)
 
   pub record AreFound (ns : List ℕ) (m : ℕ) (f : Findings) : Type 0 where
     pub first : IsFirst ns m f.refuted

@@ -1,11 +1,11 @@
 -- The grids of an interface of a program, and what is found of its constraints.
-use Rattle.std.specs.Prelude.{◌≡◌, ℕ, ◌<◌, length, Some, None, IsTrue, IsFalse}
+use Rattle.std.specs.Prelude.{◌≡◌, ℕ, ◌<◌, ◌≤◌, length, Some, None, IsTrue, IsFalse}
 use Rattle.pat_words_spec.specs.Words.{Word}
 use Rattle.pat_words_spec.specs.Patterns.{is_closed}
 use Rattle.pat_semantics_spec.specs.Programs.{Program}
 use Rattle.pat_bags.specs.Views.{word_of}
-use Rattle.pat_inclusion_spec.specs.bounds.Trees.{Bound}
-use Rattle.pat_inclusion_spec.specs.bounds.Searches.{IsInside, IsFound, IsLarge}
+use Rattle.pat_inclusion_spec.specs.bounds.Trees.{Bound, tree_size}
+use Rattle.pat_inclusion_spec.specs.bounds.Searches.{Refutes, IsInside, IsFound, IsLarge}
 use Rattle.pat_inclusion_spec.specs.bounds.LeastGrids.{AreLeastPoints}
 use Rattle.pat_infer_spec.specs.Constraints.{Constraint}
 use Rattle.pat_infer_spec.specs.Walk.{all_vars}
@@ -28,6 +28,7 @@ pub record AreGridsOf (p : Program) (i : ℕ) (g : InterfaceGrids) : Type 0 wher
   pub count : length g.points ≡ length (vars_in i 1 (all_vars p))
   pub least : AreLeastPoints (grid_bound p i) (tags_of p i) (lowers_in p i) (points_by (vars_in i 1 (all_vars p)) g.points)
   pub found : (n : ℕ) (r : Refutation) → g.refuted ≡ Some (n, r) → (c : Constraint) × IsClosedOf p i n c × IsFound most_tree_nodes (lowers_of p) c.left c.right (word_of r.word) (bound_view r.tree)
+  pub least_tree : (n : ℕ) (r : Refutation) (c : Constraint) (w : Word) (b : Bound) → g.refuted ≡ Some (n, r) → IsClosedOf p i n c → Refutes (lowers_of p) c.left c.right w b → tree_size (bound_view r.tree) ≤ tree_size b
   pub first : (n m : ℕ) (r : Refutation) (c : Constraint) (w : Word) (b : Bound) → g.refuted ≡ Some (n, r) → m < n → IsClosedOf p i m c → IsFound most_tree_nodes (lowers_of p) c.left c.right w b → ⊥
   pub none : (m : ℕ) (c : Constraint) (w : Word) (b : Bound) → g.refuted ≡ None → IsClosedOf p i m c → IsFound most_tree_nodes (lowers_of p) c.left c.right w b → ⊥
   pub large : IsTrue g.is_oversized → (n : ℕ) × (c : Constraint) × IsClosedOf p i n c × IsLarge most_tree_nodes (lowers_of p) c.left c.right

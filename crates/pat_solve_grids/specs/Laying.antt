@@ -6,6 +6,7 @@ use Rattle.pat_inclusion_spec.specs.bounds.Layouts.{laid, last_of}
 use Rattle.pat_inclusion_spec.specs.bounds.Assignments.{Right, PatternRight, VarRight, Constraint}
 use Rattle.pat_inclusion_spec.specs.bounds.Searches.{Search, IsAnswer}
 use Rattle.pat_grid.specs.declared.tables.board.Board.{Board}
+use Rattle.pat_counterexample_search.specs.Least.{IsLeastAnswer}
 use Rattle.pat_counterexample_search.specs.Readings.{IsReading}
 use Rattle.pat_solve_bounds.specs.renumbered.Systems.{side_at}
 use Rattle.pat_solve_grids.specs.Findings.{Findings, noted}
@@ -45,10 +46,12 @@ all_places rename made (c ∷ cs) = side_places rename made c ∷ all_places ren
 
 -- ---- by a table
 
--- what the table says at both numbers is a right answer of the search
+-- what the table says at both numbers is a right answer of the search, and its tree a least one
 abbrev pub IsReadyFor : Board → List ℕ → (ℕ → Pat) → Pat → Right → Option (ℕ × ℕ) → Type 0
 IsReadyFor b entries lower left (PatternRight f) side =
-    (s r : ℕ) × (side ≡ Some (s, r)) × ((a : Search) → IsReading b entries s r a → IsAnswer most_tree_nodes lower left f a)
+    (s r : ℕ)
+    × (side ≡ Some (s, r))
+    × ((a : Search) → IsReading b entries s r a → IsAnswer most_tree_nodes lower left f a × IsLeastAnswer lower left f a)
 IsReadyFor b entries lower left (VarRight k) side = side ≡ None
 
 -- so for each of the sides, whose constraints' numbers stand from a place on

@@ -34,7 +34,8 @@ pub struct InterfaceGrids {
 }
 
 /// The least grids of the variables of an interface in bounds, whose bound is `k`; and what searches of its constraints without
-/// variables on the right find, in order: a derivable word that refutes, with a tree of 4,096 nodes at most, or larger ones alone.
+/// variables on the right find, in order: a derivable word that refutes, with a least tree, which has 4,096 nodes at most, or larger
+/// ones alone.
 pub fn interface_grids(
     alloc: Global,
     program: &Program,

@@ -11,7 +11,7 @@ use Rattle.pat_type_schemes_spec.specs.Signatures.{Variable}
 use Rattle.pat_infer_spec.specs.Walk.{inferred}
 use Rattle.pat_infer_spec.specs.Solutions.{MeetsUnder, IsPatternSolution, SendersHaveWords}
 use Rattle.pat_infer_laws.proofs.Gathering.{all_map}
-use Rattle.pat_infer_laws.proofs.Least.{grows}
+use Rattle.pat_words_laws.proofs.ClosedPatterns.{under_mono}
 
 module _ (b : ℕ) (s : ℕ → Pat) where
   -- the same words, and a part that tells which variable it is
@@ -27,8 +27,8 @@ module _ (b : ℕ) (s : ℕ → Pat) where
   pub marked_solves : (p : Program) → IsPatternSolution p s → IsPatternSolution p marked
   marked_solves p h =
       all_map (MeetsUnder (λ k. In (s k))) (MeetsUnder (λ k. In (marked k)))
-      (λ c m w i. grows (λ k. In (s k)) (λ k. In (marked k)) marked_from c.right w
-      (m w (grows (λ k. In (marked k)) (λ k. In (s k)) marked_to c.left w i)))
+      (λ c m w i. under_mono (λ k. In (s k)) (λ k. In (marked k)) marked_from c.right w
+      (m w (under_mono (λ k. In (marked k)) (λ k. In (s k)) marked_to c.left w i)))
       (inferred p).constraints h
 
   pub marked_senders : (k : ℕ) (vs : List Variable) → SendersHaveWords s k vs → SendersHaveWords marked k vs

@@ -18,7 +18,8 @@ use Rattle.pat_derivation_spec.specs.Derivations.{Line, Derivation, line_at, wri
 use Rattle.pat_derivation_spec.specs.Same.{is_same_type}
 use Rattle.pat_derivation_spec.specs.Demands.{Demand, Divide, Name, as_term}
 use Rattle.pat_derivation_spec.specs.Conditions.{then_others, but_not, but_not_name, passes, divides, of_line, to_part, result_passes, value_asks, value_names, name_demands, named_demands, let_demands, call_demands, send_demands, clause_demands, free_demands, clauses_demand, bodies_demand, guard_demands, target_demands}
-use Rattle.pat_derivation_laws.proofs.Filled.{filled_closed, residual_closed}
+use Rattle.pat_words_laws.proofs.ClosedPatterns.{residual_closed}
+use Rattle.pat_derivation_laws.proofs.Filled.{filled_closed}
 use Rattle.pat_derivation_laws.proofs.DemandsMet.{put_in}
 use Rattle.pat_derivation_laws.proofs.Names.{put_all, put_type, put_without, put_without_name, put_args, put_payloads, put_returnable}
 use Rattle.pat_derivation_laws.proofs.Signatures.{put_params, put_results, put_payload_types}

@@ -18,7 +18,7 @@ use Rattle.pat_inclusion_laws.proofs.TreeLaws.{shown_under}
 use Rattle.pat_infer_spec.specs.Constraints.{Constraint}
 use Rattle.pat_infer_spec.specs.Walk.{inferred}
 use Rattle.pat_infer_spec.specs.Solutions.{MeetsUnder, IsSolution}
-use Rattle.pat_infer_laws.proofs.Least.{closed_words}
+use Rattle.pat_words_laws.proofs.ClosedPatterns.{under_closed}
 use Rattle.pat_infer_laws.proofs.Lossless.{typable_solved}
 use Rattle.pat_solve_spec.specs.LowerBounds.{right_side, sides_of, lowers_of}
 use Rattle.pat_solve_spec.specs.Answers.{IsOversized}
@@ -62,7 +62,7 @@ pub outside_untypable : BoundIsUnnamed → (p : Program) (c : Constraint) → We
 outside_untypable unbound p c wf inside closed w h out typable =
     let s = typable_solved unbound p wf typable in
     let values : ℕ → Language = λ k. In (s.0 k) in
-    out (closed_words values no_values c.right closed w
+    out (under_closed values no_values c.right closed w
     (is_in_all (MeetsUnder values) (inferred p).constraints c s.1 inside w (derivable_in p values s.1 c.left w h)))
 
 pub oversized_untypable : BoundIsUnnamed → (p : Program) (n : ℕ) (c : Constraint) → WellFormed p → slice_get (inferred p).constraints n ≡ Some c → IsOversized p c → IsTypable p → ⊥

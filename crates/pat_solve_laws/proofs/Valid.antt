@@ -36,7 +36,7 @@ use Rattle.pat_infer_spec.specs.Inclusions.{IsShown, EnvShown, CoreShown, AllSho
 use Rattle.pat_infer_laws.proofs.Facts.{kind_here}
 use Rattle.pat_infer_laws.proofs.Blocks.{looked_up}
 use Rattle.pat_infer_laws.proofs.Gathering.{all_map}
-use Rattle.pat_infer_laws.proofs.Replaced.{closed_same}
+use Rattle.pat_inclusion_laws.proofs.Replaced.{closed_same}
 use Rattle.pat_solve_spec.specs.Derived.{type_or_unit, found_of, found_line, found_place, derivation_with, scope_by, Form, AreCertsFor, ValuesShow}
 use Rattle.pat_solve_spec.specs.Laws.{IsSound}
 use Rattle.pat_solve_laws.proofs.Known.{Known}

@@ -24,7 +24,7 @@ use Rattle.pat_infer_spec.specs.Walk.{inferred, all_vars}
 use Rattle.pat_infer_spec.specs.Solutions.{MeetsUnder, IsPatternSolution}
 use Rattle.pat_infer_spec.specs.Shapes.{ConstraintFits}
 use Rattle.pat_infer_spec.specs.Inclusions.{ValuesCover}
-use Rattle.pat_infer_laws.proofs.Replaced.{closed_same}
+use Rattle.pat_inclusion_laws.proofs.Replaced.{closed_same}
 use Rattle.pat_infer_laws.proofs.Gathering.{all_with}
 use Rattle.pat_infer_laws.proofs.Shown.{subst_sum, subst_prod}
 use Rattle.pat_solve_spec.specs.Derived.{Form, Patterns, Grids, HasForm, SidesShown, ConstraintShown, ValuesShow, derivation_with, no_certs, scope_by}

@@ -10,7 +10,7 @@ use Rattle.pat_syntax.specs.declared.token.TokenKind.{TokenKind}
 use Rattle.pat_syntax.specs.declared.token.TokenKind.TheVariants.{Name, Integer, Str, Word, Mark}
 use Rattle.pat_syntax.specs.declared.token.Token.{Token}
 
--- a reserved word
+-- a reserved word. Enumerations of code and of definitions are apart, so each case of a view names both
 abbrev pub word_view : Reserved → words.Reserved
 word_view Interface = words.Interface
 word_view Def = words.Def

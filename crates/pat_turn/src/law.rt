@@ -8,7 +8,7 @@ use std::snapshot::Snapshot;
 
 /// What the table is told when it is made.
 #[derive(Drop)]
-pub struct About<V> {
+pub struct Opening<V> {
     pub first: Snapshot<V>,
     pub passes: u32,
 }
@@ -17,7 +17,7 @@ pub struct Law<V> {
     of: PhantomData<V>,
 }
 
-impl<V: Kept> TableRule<Option<V>, View<V::Name, V::Entry>, About<V>> for Law<V> {
+impl<V: Kept> TableRule<Option<V>, View<V::Name, V::Entry>, Opening<V>> for Law<V> {
     ghost use Rattle.std.specs.Prelude.{Some};
     ghost use Rattle.pat_turn.specs.Rule.{IsTurn, opened};
 

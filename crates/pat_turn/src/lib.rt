@@ -1,13 +1,13 @@
 //! A lock that hands one value from pass to pass, in the order of their tickets.
 #![tactic(auto)]
 
-mod bells;
 mod law;
-mod naps;
+mod parking;
 mod plays;
 mod turn;
 mod view;
+mod wake_flags;
 
-pub use law::{About, Law};
-pub use turn::{News, Pass, Turn};
+pub use law::{Law, Opening};
+pub use turn::{Notify, Pass, Turn};
 pub use view::{Part, Stage, View};

@@ -8,11 +8,11 @@ ghost use Rattle.pat_turn.specs.declared.view.Stage.TheVariants.{Idle};
 ghost use Rattle.pat_turn.specs.Passes.{IsIdle, IsHolding, IsTable, known, with_seen};
 ghost use Rattle.pat_limits.specs.Limits.{most_workers};
 
-use crate::bells::{Bells, is_near};
-use crate::law::{About, Law};
-use crate::naps::Naps;
+use crate::law::{Law, Opening};
+use crate::parking::Parking;
 use crate::plays::{Another, Draw, Fold, Look, PassOn};
 use crate::view::View;
+use crate::wake_flags::{WakeFlags, is_near};
 use atomic_table::{Refused, Seat, Shared, Table};
 use pat_logged_value::Kept;
 use std::alloc::{AllocError, Global};
@@ -24,31 +24,31 @@ use std::sync::atomic::{AtomicU64, Ordering};
 
 type Place<V> = Seat<Option<V>, View<<V as Kept>::Name, <V as Kept>::Entry>>;
 
-type Top<V> = Shared<Option<V>, View<<V as Kept>::Name, <V as Kept>::Entry>, About<V>, Law<V>>;
+type Top<V> = Shared<Option<V>, View<<V as Kept>::Name, <V as Kept>::Entry>, Opening<V>, Law<V>>;
 
 /// A lock that hands a value from pass to pass. Contracts see which one it is, the value's name, and the number of passes.
 #[derive(Drop)]
 pub struct Turn<V: Kept> {
-    table: Table<Option<V>, View<V::Name, V::Entry>, About<V>, Law<V>, Global>,
-    bells: Bells,
-    /// How often the value was put back with news. It is changed while the value is held, and no contract speaks of it.
-    news: AtomicU64,
+    table: Table<Option<V>, View<V::Name, V::Entry>, Opening<V>, Law<V>, Global>,
+    flags: WakeFlags,
+    /// How often the value was put back with something to do. It is changed while the value is held, and no contract speaks of it.
+    generation: AtomicU64,
     /// How many passes rest.
     resting: AtomicU64,
-    naps: Naps,
+    parking: Parking,
 }
 
-/// What the passes that rest are told when the value is put back.
+/// Which passes are woken when the value is put back.
 #[derive(Clone, Copy, Debug, PartialEq, Eq)]
-pub enum News {
-    Nothing,
-    /// There may be something to do, and this pass looks for it next. Who is about to rest looks again; who sleeps isn't woken.
+pub enum Notify {
+    Nobody,
+    /// There may be something to do, and this pass looks for it next. Who is about to rest looks again; who rests isn't woken.
     Soon,
-    /// There is something to do for one of them.
-    ForOne,
-    /// There is something to do for one of those that nap.
-    ForOneNapping,
-    ForAll,
+    /// One of those that rest.
+    One,
+    /// One of those that are parked.
+    OneParked,
+    All,
 }
 
 impl<V: Kept> Model for Turn<V> {
@@ -70,10 +70,10 @@ impl<V: Kept> Model for Turn<V> {
 pub struct Pass<V: Kept> {
     seat: Seat<Option<V>, View<V::Name, V::Entry>>,
     number: u32,
-    /// The turn's count of news when this pass last held the value.
-    news: u64,
-    /// The count of alarms for those that nap, then.
-    alarms: u64,
+    /// The turn's generation when this pass last held the value.
+    generation: u64,
+    /// The count of wakeups of those that are parked, then.
+    wakeups: u64,
 }
 
 impl<V: Kept> Model for Pass<V> {
@@ -87,7 +87,7 @@ impl<V: Kept> Model for Pass<V> {
 }
 
 // Draws a ticket, and waits until it is served.
-fn take<V: Kept, R: Wait>(rt: &R, top: &Top<V>, bells: &Bells, seat: &mut Place<V>) -> V
+fn take<V: Kept, R: Wait>(rt: &R, top: &Top<V>, flags: &WakeFlags, seat: &mut Place<V>) -> V
     requires table { IsTable top.now.table_id × (seat.old.table_id ≡ top.now.table_id) }
     requires idle { IsIdle seat.old }
     ensures seat { (seat.new.table_id ≡ seat.old.table_id) × IsHolding seat.new × (known seat.new ≡ with_seen (known seat.old) (V.log result)) }
@@ -99,25 +99,25 @@ fn take<V: Kept, R: Wait>(rt: &R, top: &Top<V>, bells: &Bells, seat: &mut Place<
         if served == ticket {
             return top.exchange(seat, 0, None).unwrap();
         }
-        wait(rt, top, bells, ticket, served);
+        wait(rt, top, flags, ticket, served);
     }
     unreachable!()
 }
 
-// How often the word is looked at before the thread sleeps.
+// How often the word is looked at before the thread parks.
 const LOOKS: u32 = 200;
 
-// Waits while so many tickets are served and no more. Whose turn is near looks a few times, since most holds are short, and then sleeps.
+// Waits while so many tickets are served and no more. Whose turn is near looks a few times, since most holds are short, and then parks.
 // It may end for no reason.
-fn wait<V: Kept, R: Wait>(rt: &R, top: &Top<V>, bells: &Bells, ticket: u64, served: u64)
+fn wait<V: Kept, R: Wait>(rt: &R, top: &Top<V>, flags: &WakeFlags, ticket: u64, served: u64)
     requires { IsTable top.now.table_id }
 {
     if is_near(ticket, served) && changes(top, served) {
         return;
     }
-    bells.raise(ticket);
+    flags.set(ticket);
     if top.peek(1) == served {
-        bells.sleep(rt, ticket);
+        flags.park(rt, ticket);
     }
 }
 
@@ -135,7 +135,7 @@ fn changes<V: Kept>(top: &Top<V>, served: u64) -> bool
 }
 
 // Puts the value back, and wakes whose turn it is then, and whose turn is near.
-fn give<V: Kept>(top: &Top<V>, bells: &Bells, seat: &mut Place<V>, value: V)
+fn give<V: Kept>(top: &Top<V>, flags: &WakeFlags, seat: &mut Place<V>, value: V)
     requires table { IsTable top.now.table_id × (seat.old.table_id ≡ top.now.table_id) }
     requires holds { IsHolding seat.old }
     requires value { MayPut V.name V.log V.by (known seat.old) value }
@@ -143,7 +143,7 @@ fn give<V: Kept>(top: &Top<V>, bells: &Bells, seat: &mut Place<V>, value: V)
 {
     drop(top.exchange(seat, 0, Some(value)));
     let served = top.fetch_add::<PassOn>(seat, 1, 1);
-    bells.ring_behind(served);
+    flags.wake_behind(served);
 }
 
 // Adds the passes with the numbers from 1 on.
@@ -164,8 +164,8 @@ fn add_passes<V: Kept>(
         others.push(Pass {
             seat,
             number,
-            news: 0,
-            alarms: 0,
+            generation: 0,
+            wakeups: 0,
         })?;
     }
     Ok(())
@@ -183,8 +183,8 @@ fn join_all<V: Kept>(top: &Top<V>, first: &mut Place<V>, others: Vec<Pass<V>>)
         let Pass {
             seat,
             number: _,
-            news: _,
-            alarms: _,
+            generation: _,
+            wakeups: _,
         } = pass;
         top.join_seat::<Fold>(first, seat);
     }
@@ -209,9 +209,9 @@ impl<V: Kept> Turn<V> {
         ensures seen { IsPrefix pass.old.seen (V.log result) }
         ensures own { entries_naming V.by pass.old.number (V.log result) ≡ entries_naming V.by pass.old.number pass.old.seen }
     {
-        let value = take(rt, &self.table.shared, &self.bells, &mut pass.seat);
-        pass.news = self.news.load(Ordering::SeqCst);
-        pass.alarms = self.naps.keep_watch(pass.number);
+        let value = take(rt, &self.table.shared, &self.flags, &mut pass.seat);
+        pass.generation = self.generation.load(Ordering::SeqCst);
+        pass.wakeups = self.parking.lead(pass.number);
         value
     }
 
@@ -223,12 +223,11 @@ impl<V: Kept> Turn<V> {
         requires log { GoesOn V.by pass.old.number pass.old.seen (V.log value) }
         ensures { pass.new ≡ record pass.old { seen = V.log value; holds = false } }
     {
-        self.put_back(pass, value, News::ForAll);
+        self.put_back(pass, value, Notify::All);
     }
 
-    /// As `put`, but of those that rest only as many are woken as there is news for. Where all were, and found nothing to do, they
-    /// would keep one another awake.
-    pub fn put_back(&self, pass: &mut Pass<V>, value: V, news: News)
+    /// As `put`, but wakes only whom it is told to. Where all were woken, and found nothing to do, they would keep one another awake.
+    pub fn put_back(&self, pass: &mut Pass<V>, value: V, notify: Notify)
         requires turn { pass.old.turn ≡ self.now.id }
         requires holds { pass.old.holds ≡ true }
         requires name { pass.old.name ≡ Some (V.name value) }
@@ -236,44 +235,44 @@ impl<V: Kept> Turn<V> {
         ensures { pass.new ≡ record pass.old { seen = V.log value; holds = false } }
     {
         // Before the value is back: who holds it later has seen this.
-        self.count(news);
-        give(&self.table.shared, &self.bells, &mut pass.seat, value);
-        self.tell(news);
+        self.count(notify);
+        give(&self.table.shared, &self.flags, &mut pass.seat, value);
+        self.wake(notify);
     }
 
-    // Counts the news while the value is held.
-    fn count(&self, news: News) {
-        if news != News::Nothing {
-            self.news.fetch_add(1, Ordering::SeqCst);
+    // Counts while the value is held.
+    fn count(&self, notify: Notify) {
+        if notify != Notify::Nobody {
+            self.generation.fetch_add(1, Ordering::SeqCst);
         }
-        match news {
-            News::ForOneNapping => self.naps.raise_alarm(),
-            // A pass may end behind these news, and another one has to keep watch.
-            News::ForAll => {
-                self.naps.end_watch();
-                self.naps.raise_alarm();
+        match notify {
+            Notify::OneParked => self.parking.count_wakeup(),
+            // A pass may end behind this, and another one has to lead.
+            Notify::All => {
+                self.parking.end_lead();
+                self.parking.count_wakeup();
             }
-            News::Nothing | News::Soon | News::ForOne => {}
+            Notify::Nobody | Notify::Soon | Notify::One => {}
         }
     }
 
-    // Who begins to rest or to nap later sees the counts.
-    fn tell(&self, news: News) {
-        match news {
-            News::ForOne => self.wake_resting(),
-            News::ForOneNapping if self.has_napping() => self.naps.wake_one(),
-            News::ForAll => {
-                self.news.wake_all();
-                self.naps.wake_all();
+    // Who begins to rest or to park later sees the counts.
+    fn wake(&self, notify: Notify) {
+        match notify {
+            Notify::One => self.wake_resting(),
+            Notify::OneParked if self.has_parked() => self.parking.wake_one(),
+            Notify::All => {
+                self.generation.wake_all();
+                self.parking.wake_all();
             }
-            News::Nothing | News::Soon | News::ForOneNapping => {}
+            Notify::Nobody | Notify::Soon | Notify::OneParked => {}
         }
     }
 
     // Wakes one of those that rest.
     fn wake_resting(&self) {
         if self.has_resting() {
-            self.news.wake_one();
+            self.generation.wake_one();
         }
     }
 
@@ -282,35 +281,36 @@ impl<V: Kept> Turn<V> {
         self.resting.load(Ordering::SeqCst) > 0
     }
 
-    /// Whether a pass naps just now.
-    pub fn has_napping(&self) -> bool {
-        self.naps.has_napping()
+    /// Whether a pass is parked just now.
+    pub fn has_parked(&self) -> bool {
+        self.parking.has_parked()
     }
 
-    /// May wait until another pass has put the value back with news, since this one last held it.
+    /// May wait until another pass has put the value back with something to do, since this one last held it.
     pub fn rest<R: Wait>(&self, rt: &R, pass: &mut Pass<V>)
         requires turn { pass.old.turn ≡ self.now.id }
         requires free { pass.old.holds ≡ false }
         ensures { pass.new ≡ pass.old }
     {
         self.resting.fetch_add(1, Ordering::SeqCst);
-        if self.news.load(Ordering::SeqCst) == pass.news {
-            self.news.park(rt, (pass.news % (1 << 32)) as u32);
+        if self.generation.load(Ordering::SeqCst) == pass.generation {
+            self.generation
+                .park(rt, (pass.generation % (1 << 32)) as u32);
         }
         self.resting.fetch_sub(1, Ordering::SeqCst);
     }
 
-    /// May wait until another pass has put the value back with news for those that nap, or for all. It waits only where another pass
-    /// keeps watch, which is one that held the value, has not ended, and doesn't nap. As this pass doesn't look for what there is to
-    /// do, one of those that rest is woken to look.
-    pub fn nap<R: Wait>(&self, rt: &R, pass: &mut Pass<V>)
+    /// May wait until another pass has put the value back and wakes one of those that are parked, or all. It waits only where another
+    /// pass leads, which is one that held the value, has not ended, and doesn't park. As this pass doesn't look for what there is to do,
+    /// one of those that rest is woken to look.
+    pub fn park<R: Wait>(&self, rt: &R, pass: &mut Pass<V>)
         requires turn { pass.old.turn ≡ self.now.id }
         requires free { pass.old.holds ≡ false }
         ensures { pass.new ≡ pass.old }
     {
-        if self.naps.is_watched(pass.number) {
+        if self.parking.has_other_leader(pass.number) {
             self.wake_resting();
-            self.naps.sleep(rt, pass.alarms);
+            self.parking.park(rt, pass.wakeups);
         }
     }
 }
@@ -325,12 +325,12 @@ impl<V: Kept> Turn<V> {
     {
         let mut slots = Vec::with_capacity(alloc, 1)?;
         let mut others = Vec::with_capacity(alloc, passes as usize)?;
-        let about = About {
+        let opening = Opening {
             first: Snapshot::of(&value),
             passes,
         };
         slots.push_reserved(Some(value));
-        let (table, mut first) = match Table::new(alloc, &[0, 0], slots, &about) {
+        let (table, mut first) = match Table::new(alloc, &[0, 0], slots, &opening) {
             Ok(made) => made,
             Err(Refused { slots: _ }) => return Err(AllocError),
         };
@@ -340,18 +340,18 @@ impl<V: Kept> Turn<V> {
             Pass {
                 seat: first,
                 number: 0,
-                news: 0,
-                alarms: 0,
+                generation: 0,
+                wakeups: 0,
             },
         )?;
-        let bells = Bells::new(alloc)?;
+        let flags = WakeFlags::new(alloc)?;
         Ok((
             Turn {
                 table,
-                bells,
-                news: AtomicU64::new(0),
+                flags,
+                generation: AtomicU64::new(0),
                 resting: AtomicU64::new(0),
-                naps: Naps::new(),
+                parking: Parking::new(),
             },
             others,
         ))
@@ -369,8 +369,8 @@ impl<V: Kept> Turn<V> {
         let Pass {
             seat: mut first,
             number: _,
-            news: _,
-            alarms: _,
+            generation: _,
+            wakeups: _,
         } = passes.remove(0);
         join_all(&table.shared, &mut first, passes);
         let mut closed = table.close_with(first);

@@ -1,5 +1,6 @@
 -- for others: lemmas on typings
 pub mod Passing
+pub mod Splitting
 pub mod Environments
 pub mod Nodes
 pub mod Named

@@ -33,6 +33,7 @@ use Rattle.pat_typecheck.specs.Reasons.{IsMade, BreaksRule, IsReason, IsUnaccept
 use Rattle.pat_typecheck.specs.Inputs.{IsAcceptedText, RefusesProgram, IsCheckRefusal}
 use Rattle.pat_typecheck.specs.Laws.{shows_word, OneVerdict}
 
+-- back from what a rule means, case by case, since the enumerations of code and of definitions are apart
 abbrev rule_of : found.Rule → CodeRule
 rule_of found.AliasRule = rule.Alias
 rule_of found.OrderRule = rule.Order

@@ -171,6 +171,7 @@ module _ (p : Program) where
               tree = refuted.tree;
               constraint = own.constraint;
               right = refuted.right;
+              least = refuted.least;
               at = own.at;
               span = ap span_view span ∙ place_is p own.constraint.at;
               words = is ∙ ap (λ i. refuted_words (tag_names program i) w (right_view c.right)) interface ∙ ap (refuted_words (tag_names program own.constraint.interface) w) right;

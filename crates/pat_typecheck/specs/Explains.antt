@@ -10,6 +10,7 @@ use Rattle.pat_resolver_heads.specs.results.Views.{places_view}
 use Rattle.pat_solve_spec.specs.Answers as answers
 use Rattle.pat_solve_spec.specs.Answers.{IsRight, AllUsable}
 use Rattle.pat_solve_bounds.specs.results.Views.{AllInBounds}
+use Rattle.pat_solve.specs.Smallest.{IsLeastRefutation}
 use Rattle.pat_typecheck.specs.declared.accepting.Unaccepted.{Unaccepted}
 use Rattle.pat_typecheck.specs.declared.accepting.Unaccepted.TheVariants.{Refused, NoMemory}
 use Rattle.pat_typecheck.specs.Reasons.{IsUnaccepted}
@@ -19,8 +20,9 @@ abbrev pub Explains : Program → Unaccepted → Type 0
 Explains p (Refused r more) = IsUnaccepted (program_view p) (places_view p) r more.items
 Explains p NoMemory = Unit {0}
 
--- the right answer is that the constraint is refuted, by this word, and so the program can't be typed
+-- the right answer is that the constraint is refuted, by this word, which has a least tree, and so the program can't be typed
 pub record IsRefutedBy (p : core.Program) (n : ℕ) (w : Word) : Type 0 where
   pub tree : Bound
   pub right : IsRight p (answers.Refuted n w tree)
+  pub least : IsLeastRefutation p n tree
   pub untypable : IsTypable p → ⊥

@@ -23,7 +23,7 @@ NeverRefused =
     → IsCheckRefusal bytes v line
     → ⊥
 
--- the verdict is that a constraint is refuted. Its line shows a word as well: any that some small tree derives, so it may be another one
+-- the verdict is that a constraint is refuted. Its line shows a word as well: any that a least tree derives, so it may be another one
 abbrev pub shows_word : Verdict → Bool
 shows_word (Unaccepted (Refuted s)) = true
 shows_word _ = false

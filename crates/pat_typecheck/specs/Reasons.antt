@@ -23,6 +23,7 @@ use Rattle.pat_solve_spec.specs.Derived.{Form, derivation_with, CertsMade}
 use Rattle.pat_solve_spec.specs.Answers as answers
 use Rattle.pat_solve_spec.specs.Answers.{IsRight, IsConstraint, IsInBounds, AllUsable, solution}
 use Rattle.pat_solve_bounds.specs.results.Views.{AllInBounds}
+use Rattle.pat_solve.specs.Smallest.{IsLeastRefutation}
 use Rattle.pat_front.specs.declared.reason.Reason.{Reason}
 use Rattle.pat_front.specs.declared.reason.Reason.TheVariants.{Untypable, Unusable, TooLarge, Refuted, Undecided}
 use Rattle.pat_typecheck.specs.Places.{place_in, origin_in}
@@ -66,13 +67,15 @@ module _ (p : Program) (q : Places) where
     pub right : IsRight p (answers.TooLarge i)
     pub untypable : IsInBounds p i → IsTypable p → ⊥
 
-  -- the first constraint that is refuted or undecided is refuted, by this word
+  -- the first constraint that is refuted or undecided is refuted, by this word; no tree of a word that refutes it is smaller than this
+  -- word's
   pub record HasRefuted (s : Span) (more : List ℕ) : Type 0 where
     pub number : ℕ
     pub word : Word
     pub tree : Bound
     pub constraint : Constraint
     pub right : IsRight p (answers.Refuted number word tree)
+    pub least : IsLeastRefutation p number tree
     pub at : IsConstraint p number constraint
     pub span : span_view s ≡ place_in q constraint.at
     pub words : more ≡ refuted_words (tag_names p constraint.interface) word (right_form constraint.right)

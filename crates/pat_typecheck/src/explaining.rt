@@ -7,6 +7,7 @@ ghost use Rattle.pat_infer_problems.specs.Problems.{IsProblemOf, IsEnough};
 ghost use Rattle.pat_infer_problems.specs.Places.{span_or};
 ghost use Rattle.pat_infer_problems.specs.Views.{constraint_view};
 ghost use Rattle.pat_solve_bounds.specs.results.Views.{IsRefusal, IsUntypable, IsComplete};
+ghost use Rattle.pat_solve.specs.Smallest.{IsSmallest};
 ghost use Rattle.pat_typecheck.specs.Explains.{Explains, IsRefutedBy};
 
 use crate::accepting::Unaccepted;
@@ -31,6 +32,7 @@ pub fn explained(
     requires problem { IsProblemOf program.now problem.now }
     requires enough { IsEnough (program_view program.now) }
     requires refusal { IsRefusal (program_view program.now) error }
+    requires smallest { IsSmallest (program_view program.now) error }
     requires untypable { IsUntypable (program_view program.now) error }
     requires complete { IsComplete (program_view program.now) error }
     ensures { Explains program.now result }
@@ -51,6 +53,7 @@ fn explain(
     requires problem { IsProblemOf program.now problem.now }
     requires enough { IsEnough (program_view program.now) }
     requires refusal { IsRefusal (program_view program.now) error.now }
+    requires smallest { IsSmallest (program_view program.now) error.now }
     requires untypable { IsUntypable (program_view program.now) error.now }
     requires complete { IsComplete (program_view program.now) error.now }
     ensures { IfOk result (Explains program.now) }

@@ -39,7 +39,8 @@ pub fn join_usage(first: Usage, second: Usage) -> Option<Usage>
 #[tactic(auto, using(crate::proofs::Joined::joins_by_row))]
 pub fn combine(first: &MailboxType, second: &MailboxType) -> Combined
     ensures case { result ≡ combined_of (type_view first.now) (type_view second.now) }
-    ensures row { (a : types.MailboxType) → Joins (type_view first.now) (type_view second.now) a ↔ Row result (type_view first.now) (type_view second.now) a }
+    ensures row { (a : types.MailboxType)
+        → Joins (type_view first.now) (type_view second.now) a ↔ Row result (type_view first.now) (type_view second.now) a }
 {
     if first.interface != second.interface {
         return Combined::Interfaces;

@@ -43,11 +43,11 @@ fn work<R: Wait, G: Gate>(
     unreachable!()
 }
 
-// So many short jobs one behind the other, and the worker naps: where jobs are short, each of several workers would wait longer for
+// So many short jobs one behind the other, and the worker parks: where jobs are short, each of several workers would wait longer for
 // the turn than work.
 const ENOUGH: u32 = 8;
 
-// Serves one job, if there is one, and naps where jobs are short; rests, where jobs are out and nothing can be taken. Whether the worker
+// Serves one job, if there is one, and parks where jobs are short; rests, where jobs are out and nothing can be taken. Whether the worker
 // goes on.
 fn work_once<R: Wait, G: Gate>(
     rt: &R,
@@ -70,7 +70,7 @@ fn work_once<R: Wait, G: Gate>(
             match serve(rt, alloc, turn, code, gate, worker, Task { job, state }) {
                 Ok(()) => {
                     if worker.short_jobs >= ENOUGH {
-                        turn.nap(rt, &mut worker.pass);
+                        turn.park(rt, &mut worker.pass);
                     }
                     true
                 }

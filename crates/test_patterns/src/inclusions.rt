@@ -4,5 +4,4 @@ mod covers;
 mod forms;
 mod random;
 mod refutations;
-mod spelling;
 mod table;

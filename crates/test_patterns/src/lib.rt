@@ -11,3 +11,5 @@ mod inclusions;
 mod patterns;
 #[cfg(test)]
 mod searches;
+#[cfg(test)]
+mod spelling;

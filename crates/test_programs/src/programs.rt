@@ -49,6 +49,7 @@ pub fn one_message(alloc: Global) -> Result<Accepted, AllocError> {
     Ok(Accepted::of(one_message_program(alloc)?))
 }
 
+// Each program is put together in a function of its own, whose contract says which one it is.
 fn one_message_program(alloc: Global) -> Result<Program, AllocError>
     ensures { IfOk result (λ p. program_view p ≡ one_message) }
 {

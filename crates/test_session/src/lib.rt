@@ -7,6 +7,8 @@ mod calls;
 #[cfg(test)]
 mod checking;
 #[cfg(test)]
+mod checkpoints;
+#[cfg(test)]
 mod holding;
 #[cfg(test)]
 mod hostile;

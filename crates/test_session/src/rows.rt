@@ -1,4 +1,4 @@
-// Texts, with what each command answers.
+// Texts, with what each command answers. Commands that read the same refuse it alike, and each has its own rows for that.
 use crate::calls::answer;
 use crate::checking::check;
 use crate::texts::TEXTS;
@@ -19,7 +19,8 @@ const FIRST_TEXT: &[u8] = b"%%history\n0 0 2 print\n0 0 0 end\n%%output\nout 42\
 const WAITS_BETWEEN: &[u8] =
     b"interface I { m() }\ndef wait(a: I?, b: I!m): Unit { guard a : m { receive m() from c -> free(c); b ! m() } }\ndef main(): Unit { let a = new[I] in let b = new[I] in spawn { wait(a, b) }; spawn { wait(b, a) } }\n%%history\n0 0 1 new\n0 0 2 new\n0 0 2 spawn\n0 1 1 -\n0 0 1 spawn\n0 2 1 -\n0 0 0 end\n%%output\nwaiting 13 1 2\n";
 
-const USAGE: &[u8] = b"usage: pat check|derive|verify|print|run|replay|order|load|help\n";
+const USAGE: &[u8] =
+    b"usage: pat check|derive|verify|print|run|replay|order|checkpoint|resume|load|help\n";
 
 fn bad(offset: u32) -> Status {
     Status::Refused(Verdict::BadText(offset))
@@ -219,7 +220,7 @@ pub fn words_that_are_no_command<R: Abort + Threads + Wait + Sync>(
     rt: &R,
     alloc: Global,
 ) -> Result<(), Fail> {
-    let rows: [&[&str]; 30] = [
+    let rows: [&[&str]; 35] = [
         &[],
         &["run", "run"],
         &["runs"],
@@ -228,6 +229,11 @@ pub fn words_that_are_no_command<R: Abort + Threads + Wait + Sync>(
         &["replay", "--steps", "1"],
         &["order", "order"],
         &["orders"],
+        &["checkpoint", "resume"],
+        &["checkpoint", "--workers", "2"],
+        &["checkpoint", "--steps", "1000001"],
+        &["resume", "--messages", "1"],
+        &["resume", "--steps", "1", "--steps", "1"],
         &["run", "--steps"],
         &["run", "--steps", "1000001"],
         &["run", "--steps", "00000001"],

@@ -45,8 +45,10 @@ pub fn form_of(
 ) -> Result<Option<Sequence<LinearSet>>, AllocError>
     requires well { WellFormed (program_view program.now) }
     requires values { IsTrue (values_fit (scope_of (program_view program.now) (derivation_view derivation.now))) }
-    requires formed { IsTrue (is_formed (scope_of (program_view program.now) (derivation_view derivation.now)) interface (pattern_view pattern.now)) }
-    ensures { let s = scope_of (program_view program.now) (derivation_view derivation.now) in IfOk result (λ o. option_map sets_view o ≡ closed_form_of (s.tags interface) (subst_of (pattern_of s) (pattern_view pattern.now))) }
+    requires formed { IsTrue (is_formed (scope_of (program_view program.now) (derivation_view derivation.now)) interface
+        (pattern_view pattern.now)) }
+    ensures { let s = scope_of (program_view program.now) (derivation_view derivation.now) in IfOk result
+        (λ o. option_map sets_view o ≡ closed_form_of (s.tags interface) (subst_of (pattern_of s) (pattern_view pattern.now))) }
 {
     tags_are_few(program, interface);
     match replaced(alloc, program, derivation, pattern)? {

@@ -28,7 +28,8 @@ pub fn replaced(
     pattern: &Pattern,
 ) -> Result<Option<Built>, AllocError>
     requires { WellFormed (program_view program.now) }
-    ensures { IfOk result (Limits (subst_of (pattern_of (scope_of (program_view program.now) (derivation_view derivation.now))) (pattern_view pattern.now))) }
+    ensures { IfOk result (Limits (subst_of (pattern_of (scope_of (program_view program.now) (derivation_view derivation.now)))
+        (pattern_view pattern.now))) }
 {
     let mut done = Stack::new(alloc);
     replace_onto(alloc, program, derivation, pattern, &mut done)?;

@@ -55,7 +55,8 @@ fn add_slots(failed: &mut Sequence<Option<Note>>, slots: usize) -> Result<(), Al
 /// Notes that the periods from the place on don't make what is left. The note that stood in its slot goes.
 pub fn note_failed(failed: &mut Sequence<Option<Note>>, place: usize, left: &Bag)
     requires { 0 < length failed.old }
-    ensures came { (n : ℕ) (ps : List Word) → CameToNothing n ps failed.old → NoNumbers n (drop place ps) (word_of left.now) → CameToNothing n ps failed.new }
+    ensures came { (n : ℕ) (ps : List Word) → CameToNothing n ps failed.old → NoNumbers n (drop place ps) (word_of left.now)
+        → CameToNothing n ps failed.new }
     ensures room { length failed.new ≡ length failed.old }
 {
     let slot = slot_of(place, left, failed.len());

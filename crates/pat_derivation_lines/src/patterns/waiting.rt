@@ -13,7 +13,8 @@ use std::alloc::{AllocError, Global};
 
 /// Does the stars and products that waited for the part on top.
 pub fn settle(alloc: Global, ops: &mut Stack<Op>, parts: &mut Stack<Part>) -> Result<(), Unread>
-    ensures { Leaves (reading.settled (ops_view ops.old) (parts_view parts.old)) (reading.having (ops_view ops.new) (parts_view parts.new)) result }
+    ensures { Leaves (reading.settled (ops_view ops.old) (parts_view parts.old))
+        (reading.having (ops_view ops.new) (parts_view parts.new)) result }
 {
     loop {
         match ops.top() {
@@ -27,7 +28,8 @@ pub fn settle(alloc: Global, ops: &mut Stack<Op>, parts: &mut Stack<Part>) -> Re
 
 /// Does the sum that waited for the part on top, if one did.
 pub fn add(alloc: Global, ops: &mut Stack<Op>, parts: &mut Stack<Part>) -> Result<(), Unread>
-    ensures { Leaves (reading.summed (ops_view ops.old) (parts_view parts.old)) (reading.having (ops_view ops.new) (parts_view parts.new)) result }
+    ensures { Leaves (reading.summed (ops_view ops.old) (parts_view parts.old))
+        (reading.having (ops_view ops.new) (parts_view parts.new)) result }
 {
     match ops.top() {
         Some(Op::Sum) => {
@@ -61,7 +63,8 @@ fn bracket_top(parts: &mut Stack<Part>) -> Result<(), Unread>
 
 /// Closes the bracket that was opened last.
 pub fn close(alloc: Global, ops: &mut Stack<Op>, parts: &mut Stack<Part>) -> Result<(), Unread>
-    ensures { Leaves (reading.bracket_closed (ops_view ops.old) (parts_view parts.old)) (reading.having (ops_view ops.new) (parts_view parts.new)) result }
+    ensures { Leaves (reading.bracket_closed (ops_view ops.old) (parts_view parts.old))
+        (reading.having (ops_view ops.new) (parts_view parts.new)) result }
 {
     match ops.pop() {
         Some(Op::Open) => {

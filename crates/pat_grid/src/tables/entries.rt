@@ -87,7 +87,8 @@ pub fn lower(
     requires all { HasAllEntries (setting_of board.now) sizes.old.entries }
     requires place { IsPlace board.now s number }
     requires step { let g = setting_of board.now in Step g (table_of g sizes.old.entries) s (point_of g.bound g.tags number) size }
-    ensures { let g = setting_of board.now in OnOk result (Moved g s (Unit {0}) (λ es. entry_at g es s number ≤ size) sizes.old changed.old sizes.new changed.new) }
+    ensures { let g = setting_of board.now in OnOk result
+        (Moved g s (Unit {0}) (λ es. entry_at g es s number ≤ size) sizes.old changed.old sizes.new changed.new) }
 {
     let place = place_of(board, &sizes.entries, s, number);
     let old = sizes.entries.get(place);
@@ -113,8 +114,10 @@ pub fn reach(
     requires all { HasAllEntries (setting_of board.now) sizes.old.entries }
     requires place { IsPlace board.now s number }
     requires none { board.now.limit + 1 < entry_at (setting_of board.now) sizes.old.entries s number }
-    requires step { let g = setting_of board.now in Step g (table_of g sizes.old.entries) s (point_of g.bound g.tags number) (board.now.limit + 1) }
-    ensures moved { let g = setting_of board.now in OnOk result (Moved g s (Unit {0}) (λ es. entry_at g es s number ≤ g.limit + 1) sizes.old changed.old sizes.new changed.new) }
+    requires step { let g = setting_of board.now in Step g (table_of g sizes.old.entries) s (point_of g.bound g.tags number)
+        (board.now.limit + 1) }
+    ensures moved { let g = setting_of board.now in OnOk result
+        (Moved g s (Unit {0}) (λ es. entry_at g es s number ≤ g.limit + 1) sizes.old changed.old sizes.new changed.new) }
     ensures kept { OnOk result (KeepsKnown (setting_of board.now) sizes.old.entries sizes.new.entries) }
 {
     let place = place_of(board, &sizes.entries, s, number);

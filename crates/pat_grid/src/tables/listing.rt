@@ -21,7 +21,8 @@ pub fn known(
     requires board { IsBoard board.now }
     requires all { HasAllEntries (setting_of board.now) sizes.now.entries }
     requires lists { HasLists (setting_of board.now) sizes.now }
-    ensures { let g = setting_of board.now in OnOk result (Lists (λ c. IsKnown g.limit (entry_at g sizes.now.entries s c)) from board.now.points numbers.new) }
+    ensures { let g = setting_of board.now in OnOk result
+        (Lists (λ c. IsKnown g.limit (entry_at g sizes.now.entries s c)) from board.now.points numbers.new) }
 {
     sizes.reached.list_from(s, from, numbers)
 }

@@ -34,7 +34,8 @@ pub fn relax_part(
     requires lists { HasLists (setting_of board.now) sizes.old }
     requires symbol { s < length board.now.symbols.now }
     requires takes { TakesPart (setting_of board.now) s part }
-    ensures { let g = setting_of board.now in OnOk result (Moved g s (part ≡ s → ⊥) (PartBefore g s part board.now.points) sizes.old changed.old sizes.new changed.new) }
+    ensures { let g = setting_of board.now in OnOk result
+        (Moved g s (part ≡ s → ⊥) (PartBefore g s part board.now.points) sizes.old changed.old sizes.new changed.new) }
 {
     known(board, sizes, part, 0, listed)?;
     let numbers = listed.as_slice();
@@ -80,9 +81,12 @@ pub fn relax_parts(
     requires board { IsBoard board.now }
     requires all { HasAllEntries (setting_of board.now) sizes.old.entries }
     requires symbol { s < length board.now.symbols.now }
-    requires firsts { (i : ℕ) → i < length firsts.now → (get_or firsts.now i 0 < board.now.points) × TakesParts (setting_of board.now) s parts.0 parts.1 (get_or firsts.now i 0) }
+    requires firsts { (i : ℕ) → i < length firsts.now
+        → (get_or firsts.now i 0 < board.now.points) × TakesParts (setting_of board.now) s parts.0 parts.1 (get_or firsts.now i 0) }
     requires seconds { (j : ℕ) → j < length seconds.now → get_or seconds.now j 0 < board.now.points }
-    ensures { let g = setting_of board.now in OnOk result (Moved g s (AreOthers parts.0 parts.1 s) (RowsBefore g s parts.0 parts.1 firsts.now seconds.now (length firsts.now)) sizes.old changed.old sizes.new changed.new) }
+    ensures { let g = setting_of board.now in OnOk result
+        (Moved g s (AreOthers parts.0 parts.1 s) (RowsBefore g s parts.0 parts.1 firsts.now seconds.now (length firsts.now))
+        sizes.old changed.old sizes.new changed.new) }
 {
     for first in firsts {
         relax_row(board, sizes, s, parts, *first, seconds, changed)?;
@@ -105,7 +109,9 @@ pub fn relax_row(
     requires place { IsPlace board.now s first }
     requires takes { TakesParts (setting_of board.now) s parts.0 parts.1 first }
     requires seconds { (j : ℕ) → j < length seconds.now → get_or seconds.now j 0 < board.now.points }
-    ensures { let g = setting_of board.now in OnOk result (Moved g s (AreOthers parts.0 parts.1 s) (RowBefore g s parts.0 parts.1 first seconds.now (length seconds.now)) sizes.old changed.old sizes.new changed.new) }
+    ensures { let g = setting_of board.now in OnOk result
+        (Moved g s (AreOthers parts.0 parts.1 s) (RowBefore g s parts.0 parts.1 first seconds.now (length seconds.now)) sizes.old
+        changed.old sizes.new changed.new) }
 {
     for second in seconds {
         relax_pair(board, sizes, s, parts, first, *second, changed)?;
@@ -128,7 +134,9 @@ pub fn relax_pair(
     requires place { IsPlace board.now s first }
     requires second { second < board.now.points }
     requires takes { TakesParts (setting_of board.now) s parts.0 parts.1 first }
-    ensures { let g = setting_of board.now in OnOk result (Moved g s (AreOthers parts.0 parts.1 s) (PairAt g s parts.0 parts.1 first second) sizes.old changed.old sizes.new changed.new) }
+    ensures { let g = setting_of board.now in OnOk result
+        (Moved g s (AreOthers parts.0 parts.1 s) (PairAt g s parts.0 parts.1 first second) sizes.old changed.old sizes.new
+        changed.new) }
 {
     let one = entry(board, &sizes.entries, parts.0, first);
     let other = entry(board, &sizes.entries, parts.1, second);

@@ -34,9 +34,12 @@ pub fn relax_either(
     requires board { IsBoard board.now }
     requires all { HasAllEntries (setting_of board.now) sizes.old.entries }
     requires there { s < length board.now.symbols.now }
-    requires firsts { (i : ℕ) → i < length firsts.now → (get_or firsts.now i 0 < board.now.points) × TakesParts (setting_of board.now) s parts.0 parts.1 (get_or firsts.now i 0) }
+    requires firsts { (i : ℕ) → i < length firsts.now
+        → (get_or firsts.now i 0 < board.now.points) × TakesParts (setting_of board.now) s parts.0 parts.1 (get_or firsts.now i 0) }
     requires seconds { (j : ℕ) → j < length seconds.now → get_or seconds.now j 0 < board.now.points }
-    ensures { let g = setting_of board.now in OnOk result (Moved g s (AreOthers parts.0 parts.1 s) (RowsBefore g s parts.0 parts.1 firsts.now seconds.now (length firsts.now)) sizes.old changed.old sizes.new changed.new) }
+    ensures { let g = setting_of board.now in OnOk result
+        (Moved g s (AreOthers parts.0 parts.1 s) (RowsBefore g s parts.0 parts.1 firsts.now seconds.now (length firsts.now))
+        sizes.old changed.old sizes.new changed.new) }
 {
     if !is_apart(parts, s) {
         return relax_parts(board, sizes, s, parts, firsts, seconds, changed);
@@ -124,8 +127,10 @@ pub fn relax_round(
     requires all { HasAllEntries (setting_of board.now) sizes.old.entries }
     requires lists { HasLists (setting_of board.now) sizes.old }
     requires there { s < length board.now.symbols.now }
-    requires firsts { (i : ℕ) → i < length firsts.now → (get_or firsts.now i 0 < board.now.points) × TakesParts (setting_of board.now) s part s (get_or firsts.now i 0) }
-    ensures { let g = setting_of board.now in OnOk result (Moved g s ⊥ (WholeRows g s part s firsts.now (length firsts.now)) sizes.old changed.old sizes.new changed.new) }
+    requires firsts { (i : ℕ) → i < length firsts.now
+        → (get_or firsts.now i 0 < board.now.points) × TakesParts (setting_of board.now) s part s (get_or firsts.now i 0) }
+    ensures { let g = setting_of board.now in OnOk result
+        (Moved g s ⊥ (WholeRows g s part s firsts.now (length firsts.now)) sizes.old changed.old sizes.new changed.new) }
 {
     known(board, sizes, s, 0, listed)?;
     let ones = kept_below(alloc, board, &sizes.entries, part, board.limit + 2, firsts)?;
@@ -185,6 +190,7 @@ fn relax_again(
     reach_sums(alloc, board, sizes, s, (part, s), firsts, seconds, changed)
 }
 
+// It asks what `relax_either` does, and gives less: so the clauses before are the same, and the last isn't.
 /// Lowers the entries of the symbol to what its parts give where their trees together are within the limit.
 fn relax_within(
     alloc: Global,
@@ -216,6 +222,7 @@ fn relax_within(
     )
 }
 
+// `steps` goes through all pairs, this through those within the limit: rows of another kind, so the loops are apart, and their proofs.
 /// So at each number of the one list with each of the other.
 fn relax_rows_within(
     board: &Board,

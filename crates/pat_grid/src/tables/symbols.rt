@@ -31,7 +31,8 @@ pub fn relax_symbol(
     requires all { HasAllEntries (setting_of board.now) sizes.old.entries }
     requires lists { HasLists (setting_of board.now) sizes.old }
     requires there { s < length board.now.symbols.now }
-    ensures { OnOk result (Moved (setting_of board.now) s (IsNoPart (setting_of board.now) s) (ClosedAt (setting_of board.now) s) sizes.old changed.old sizes.new changed.new) }
+    ensures { OnOk result (Moved (setting_of board.now) s (IsNoPart (setting_of board.now) s) (ClosedAt (setting_of board.now) s)
+        sizes.old changed.old sizes.new changed.new) }
 {
     match symbol_at(board, s) {
         Symbol::Zero => Ok(()),

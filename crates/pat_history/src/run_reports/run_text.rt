@@ -26,7 +26,8 @@ pub fn text_of(
 ) -> Result<Vec<u8>, AllocError>
     requires history { IsHistory (map entry_view entries.now) }
     requires few { length entries.now < number_count }
-    ensures { (c : Config) → c.printed ≡ printed.now → remains_of c ≡ remains.now → IfOk result (λ t. t.items ≡ run_text (map entry_view entries.now) c (outcome_view outcome)) }
+    ensures { (c : Config) → c.printed ≡ printed.now → remains_of c ≡ remains.now
+        → IfOk result (λ t. t.items ≡ run_text (map entry_view entries.now) c (outcome_view outcome)) }
 {
     let mut text = crate::writing::write(alloc, entries)?;
     push_output(&mut text, printed)?;
@@ -43,7 +44,8 @@ pub fn replay_text_of(
     standing: Option<Outcome>,
 ) -> Result<Vec<u8>, AllocError>
     requires { length entries.now < number_count }
-    ensures { (c : Config) → c.printed ≡ printed.now → remains_of c ≡ remains.now → IfOk result (λ t. t.items ≡ replay_text (map entry_view entries.now) c (option_map outcome_view standing)) }
+    ensures { (c : Config) → c.printed ≡ printed.now → remains_of c ≡ remains.now
+        → IfOk result (λ t. t.items ≡ replay_text (map entry_view entries.now) c (option_map outcome_view standing)) }
 {
     let mut text = Vec::new(alloc);
     push_lines(&mut text, printed)?;
@@ -61,7 +63,8 @@ pub fn order_text_of(
 ) -> Result<Vec<u8>, AllocError>
     requires history { IsHistory (map entry_view entries.now) }
     requires few { length entries.now < number_count }
-    ensures { (c : Config) → c.printed ≡ printed.now → remains_of c ≡ remains.now → IfOk result (λ t. t.items ≡ order_text (map entry_view entries.now) c (option_map outcome_view standing)) }
+    ensures { (c : Config) → c.printed ≡ printed.now → remains_of c ≡ remains.now
+        → IfOk result (λ t. t.items ≡ order_text (map entry_view entries.now) c (option_map outcome_view standing)) }
 {
     let mut text = crate::writing::write(alloc, entries)?;
     push_output(&mut text, printed)?;

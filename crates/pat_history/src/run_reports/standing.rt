@@ -16,7 +16,8 @@ pub fn push_standing(
     steps: u64,
     remains: &Remains,
 ) -> Result<(), AllocError>
-    ensures { OnOk result (text.new.items ≡ text.old.items ++ line (standing_text (option_map outcome_view standing) steps remains.now.threads remains.now.live)) }
+    ensures { OnOk result (text.new.items
+        ≡ text.old.items ++ line (standing_text (option_map outcome_view standing) steps remains.now.threads remains.now.live)) }
 {
     push_words(text, standing, steps, remains)?;
     text.push(b'\n')?;

@@ -30,7 +30,9 @@ pub fn walk_function(
     requires signed { IsSigned signed.now }
     requires function { slice_get (program_view signed.now.program.now).functions number ≡ Some (function_view function.now) }
     requires signature { slice_get (map signature_view signed.now.signatures.now) number ≡ Some (signature_view signature.now) }
-    ensures { Finds signed.now.program.now problem.old problem.new result (found_of_function (program_view signed.now.program.now) number (function_view function.now) (1 + length problem.old.vars)) }
+    ensures { Finds signed.now.program.now problem.old problem.new result
+        (found_of_function (program_view signed.now.program.now) number (function_view function.now)
+        (1 + length problem.old.vars)) }
 {
     let levels = signed.program.nodes.len();
     let needs = walk(

@@ -55,7 +55,8 @@ pub fn walk(
     problem: &mut Problem,
 ) -> Result<Sequence<(u32, MailboxType)>, InferError>
     requires { IsSigned signed.now }
-    ensures { Infers signed.now.program.now problem.old problem.new result (walk_of levels (program_view signed.now.program.now) node (result_view asked.now) (1 + length problem.old.vars)) }
+    ensures { Infers signed.now.program.now problem.old problem.new result
+        (walk_of levels (program_view signed.now.program.now) node (result_view asked.now) (1 + length problem.old.vars)) }
 {
     let chain = chain_of(alloc, signed.program, levels, node)?;
     let needs = walk_inner(alloc, signed, chain.level, chain.last, asked, problem)?;

@@ -95,6 +95,7 @@ pub fn join_let(
     Ok(needs)
 }
 
+// A function a rule: the first that is broken is the one that is answered.
 fn check_order(
     program: &Program,
     node: u32,

@@ -36,7 +36,8 @@ pub fn open_signatures(
 ) -> Result<Sequence<Signature>, AllocError>
     requires { problem.old.vars ≡ [] }
     ensures signatures { IfOk result (λ s. map signature_view s ≡ signatures_from 1 (program_view program.now).functions) }
-    ensures grows { OnOk result (Grows problem.old problem.new (map (placed_variable program.now) (signature_vars (program_view program.now))) [] []) }
+    ensures grows { OnOk result (Grows problem.old problem.new
+        (map (placed_variable program.now) (signature_vars (program_view program.now))) [] []) }
 {
     open_functions(alloc, program.functions.as_slice(), problem)
 }

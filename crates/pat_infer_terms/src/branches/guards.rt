@@ -54,7 +54,8 @@ pub fn guard_needs(
     arms: &[WalkedArm],
     problem: &mut Problem,
 ) -> Result<Sequence<(u32, MailboxType)>, InferError>
-    ensures { Infers program.now problem.old problem.new result (own_guard (program_view program.now) guarded.now (1 + length problem.old.vars) (map arm_view arms.now)) }
+    ensures { Infers program.now problem.old problem.new result
+        (own_guard (program_view program.now) guarded.now (1 + length problem.old.vars) (map arm_view arms.now)) }
 {
     check_order(program, guarded.node, guarded.variable, arms)?;
     check_arms(alloc, program, guarded.node, arms)?;

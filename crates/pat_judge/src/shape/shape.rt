@@ -207,7 +207,9 @@ pub fn has_shape(
     requires node { node_at (program_view program.now) number ≡ Some (node_view node.now) }
     requires function { function_at (program_view program.now) node.now.function ≡ Some (function_view function.now) }
     requires scope { names_are_in_scope ≡ list_all (λ e. is_in_scope (program_view program.now) number e.0) (needs_view line.now.of.env) }
-    ensures { result ≡ has_shape_of (program_view program.now) (derivation_view derivation.now) (place number (node_view node.now) (function_view function.now) (line_view line.now)) }
+    ensures { result
+        ≡ has_shape_of (program_view program.now) (derivation_view derivation.now)
+        (place number (node_view node.now) (function_view function.now) (line_view line.now)) }
 {
     let env = line.of.env.as_slice();
     let of = &line.of.result;

@@ -187,7 +187,9 @@ pub fn has_words(
     requires tests { IsTested (scope_of (program_view program.now) (derivation_view derivation.now)) tests.now }
     requires signatures { map signature_view signatures.now ≡ opened_from 1 (program_view program.now).functions }
     requires function { function_at (program_view program.now) node.now.function ≡ Some (function_view function.now) }
-    ensures { result ≡ has_words_of (program_view program.now) (derivation_view derivation.now) (place number (node_view node.now) (function_view function.now) (line_view line.now)) }
+    ensures { result
+        ≡ has_words_of (program_view program.now) (derivation_view derivation.now)
+        (place number (node_view node.now) (function_view function.now) (line_view line.now)) }
 {
     let env = line.of.env.as_slice();
     let of = type_has_word(program, derivation, tests, &line.of.result);

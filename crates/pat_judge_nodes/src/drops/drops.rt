@@ -26,7 +26,9 @@ pub fn drops_well(
     demands: &[Demand],
 ) -> bool
     requires { IsTested (scope_of (program_view program.now) (derivation_view derivation.now)) tests.now }
-    ensures { result ≡ list_all (is_dropped_well (scope_of (program_view program.now) (derivation_view derivation.now))) (demands_view demands.now) }
+    ensures { result
+        ≡ list_all (is_dropped_well (scope_of (program_view program.now) (derivation_view derivation.now)))
+        (demands_view demands.now) }
 {
     for demand in demands {
         if !dropped_well(program, derivation, tests, demand) {

@@ -34,7 +34,9 @@ pub fn has_no_alias(
     line: &DerivedNode,
 ) -> Result<bool, AllocError>
     requires { map signature_view signatures.now ≡ opened_from 1 (program_view program.now).functions }
-    ensures { IfOk result (λ b. b ≡ has_no_alias_at (program_view program.now) (derivation_view derivation.now) (place number (node_view node.now) (function_view function.now) (line_view line.now))) }
+    ensures { IfOk result (λ b. b
+        ≡ has_no_alias_at (program_view program.now) (derivation_view derivation.now)
+        (place number (node_view node.now) (function_view function.now) (line_view line.now))) }
 {
     match &node.core {
         Core::Call { function, args } => {
@@ -51,7 +53,8 @@ pub fn has_no_alias(
 
 /// The tag of a mailbox of this kind, if it is there.
 pub fn tag_of_kind<'a>(program: &'a Program, tag: u8, kind: Option<&Kind>) -> Option<&'a TagDecl>
-    ensures { option_map tag_view (option_copied result) ≡ tag_of_kind_of (program_view program.now) tag (option_map kind_view (option_copied kind.entry)) }
+    ensures { option_map tag_view (option_copied result)
+        ≡ tag_of_kind_of (program_view program.now) tag (option_map kind_view (option_copied kind.entry)) }
 {
     match kind {
         Some(Kind::Mailbox(interface)) => tag_of(program, *interface, tag),

@@ -25,7 +25,9 @@ pub fn payloads_stand_apart(
     function: &Function,
     line: &DerivedNode,
 ) -> bool
-    ensures { result ≡ payloads_stand_apart_at (program_view program.now) (derivation_view derivation.now) (place number (node_view node.now) (function_view function.now) (line_view line.now)) }
+    ensures { result
+        ≡ payloads_stand_apart_at (program_view program.now) (derivation_view derivation.now)
+        (place number (node_view node.now) (function_view function.now) (line_view line.now)) }
 {
     match &node.core {
         Core::Guard {

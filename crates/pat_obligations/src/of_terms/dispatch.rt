@@ -93,7 +93,10 @@ pub fn term<'a>(
     core: &Core,
     out: &mut Sequence<Demand<'a>>,
 ) -> Result<(), AllocError>
-    ensures { OnOk result (demands_view out.new ≡ demands_view out.old ++ listed_term (program_view program.now) (derivation_view derivation.now) (map signature_view signatures.now) (map kind_view kinds.now) (node_type_view of.now) (core_view core.now)) }
+    ensures { OnOk result (demands_view out.new
+        ≡ demands_view out.old
+        ++ listed_term (program_view program.now) (derivation_view derivation.now) (map signature_view signatures.now)
+        (map kind_view kinds.now) (node_type_view of.now) (core_view core.now)) }
 {
     let env = of.env.as_slice();
     match core {

@@ -31,7 +31,9 @@ pub fn demands<'a>(
 ) -> Result<Sequence<Demand<'a>>, AllocError>
     requires signatures { map signature_view signatures.now ≡ opened_from 1 (program_view program.now).functions }
     requires function { function_at (program_view program.now) node.now.function ≡ Some (function_view function.now) }
-    ensures { IfOk result (λ all. demands_view all ≡ demands_at (program_view program.now) (derivation_view derivation.now) (place number (node_view node.now) (function_view function.now) (line_view line.now))) }
+    ensures { IfOk result (λ all. demands_view all
+        ≡ demands_at (program_view program.now) (derivation_view derivation.now)
+        (place number (node_view node.now) (function_view function.now) (line_view line.now))) }
 {
     let mut all = Sequence::new(alloc);
     at_first(alloc, signatures, number, node, function, line, &mut all)?;

@@ -37,7 +37,10 @@ pub fn call(
     signature: Option<&Signature>,
     out: &mut Sequence<Demand>,
 ) -> Result<(), AllocError>
-    ensures { OnOk result (demands_view out.new ≡ demands_view out.old ++ listed_call (needs_view env.now) (result_view of.now) (map expr_view arguments.now) (option_map signature_view (option_copied signature.entry))) }
+    ensures { OnOk result (demands_view out.new
+        ≡ demands_view out.old
+        ++ listed_call (needs_view env.now) (result_view of.now) (map expr_view arguments.now)
+        (option_map signature_view (option_copied signature.entry))) }
 {
     match signature {
         None => Ok(()),
@@ -94,7 +97,10 @@ pub fn send_to(
     kind: Option<&Kind>,
     out: &mut Sequence<Demand>,
 ) -> Result<(), AllocError>
-    ensures { OnOk result (demands_view out.new ≡ demands_view out.old ++ listed_target (program_view program.now) (needs_view env.now) target tag (map expr_view arguments.now) (option_map kind_view (option_copied kind.entry))) }
+    ensures { OnOk result (demands_view out.new
+        ≡ demands_view out.old
+        ++ listed_target (program_view program.now) (needs_view env.now) target tag (map expr_view arguments.now)
+        (option_map kind_view (option_copied kind.entry))) }
 {
     match kind {
         Some(Kind::Mailbox(interface)) => {
@@ -157,7 +163,10 @@ pub fn let_in<'a>(
     body: Option<&'a DerivedNode>,
     out: &mut Sequence<Demand<'a>>,
 ) -> Result<(), AllocError>
-    ensures { OnOk result (demands_view out.new ≡ demands_view out.old ++ listed_let (map kind_view kinds.now) (needs_view env.now) but (option_map line_view (option_copied bound.entry)) (option_map line_view (option_copied body.entry))) }
+    ensures { OnOk result (demands_view out.new
+        ≡ demands_view out.old
+        ++ listed_let (map kind_view kinds.now) (needs_view env.now) but (option_map line_view (option_copied bound.entry))
+        (option_map line_view (option_copied body.entry))) }
 {
     match bound {
         None => match body {
@@ -390,7 +399,11 @@ pub fn guard(
     kind: Option<&Kind>,
     out: &mut Sequence<Demand>,
 ) -> Result<(), AllocError>
-    ensures { OnOk result (demands_view out.new ≡ demands_view out.old ++ listed_guard (program_view program.now) (derivation_view derivation.now) (needs_view env.now) guarded (pattern_view pattern.now) free_body (map clause_view receives.now) (option_map kind_view (option_copied kind.entry))) }
+    ensures { OnOk result (demands_view out.new
+        ≡ demands_view out.old
+        ++ listed_guard (program_view program.now) (derivation_view derivation.now) (needs_view env.now) guarded
+        (pattern_view pattern.now) free_body (map clause_view receives.now)
+        (option_map kind_view (option_copied kind.entry))) }
 {
     match kind {
         Some(Kind::Mailbox(interface)) => {
@@ -420,7 +433,8 @@ pub fn first(
     env: &[(u32, MailboxType)],
     out: &mut Sequence<Demand>,
 ) -> Result<(), AllocError>
-    ensures { OnOk result (demands_view out.new ≡ demands_view out.old ++ listed_first count (map (option_map type_view) types.now) (needs_view env.now)) }
+    ensures { OnOk result (demands_view out.new
+        ≡ demands_view out.old ++ listed_first count (map (option_map type_view) types.now) (needs_view env.now)) }
 {
     let given = params_given(alloc, types)?;
     let names = first_names(alloc, count, env)?;

@@ -385,7 +385,8 @@ pub fn behind_simple(
     kind: TokenKind,
     span: Span,
 ) -> Result<State, Fault>
-    ensures { Makes result (m.done_step (stack_view place.stack) place.opened place.statements (term_view term.value) from (kind_view kind) (span_view span)) }
+    ensures { Makes result (m.done_step (stack_view place.stack) place.opened place.statements (term_view term.value) from
+        (kind_view kind) (span_view span)) }
 {
     match kind {
         TokenKind::Mark(Mark::Semicolon) => next_term(place, term, from),

@@ -94,7 +94,8 @@ pub fn begun(
 
 /// A term in a frame of its own, behind a brace that opens it.
 pub fn block(place: Place, frame: Frame) -> Result<State, Fault>
-    ensures { Makes result (m.Opens place.opened 0 (m.state (m.Start true) (frame_view frame ∷ stack_view place.stack) (suc place.opened) 0 place.statements)) }
+    ensures { Makes result (m.Opens place.opened 0 (m.state (m.Start true) (frame_view frame ∷ stack_view place.stack)
+        (suc place.opened) 0 place.statements)) }
 {
     if !has_room(place.opened, 0) {
         return too_deep((place, frame));

@@ -74,7 +74,9 @@ pub fn guard(
     place: Place,
     from: u32,
 ) -> Result<State, ParseError>
-    ensures read { Parses result (answer (m.state (m.WantName (m.GuardName from)) (stack_view place.stack) place.opened 0 place.statements) tokens.old) (λ x. answer (state_view x) tokens.new) }
+    ensures read { Parses result
+        (answer (m.state (m.WantName (m.GuardName from)) (stack_view place.stack) place.opened 0 place.statements) tokens.old)
+        (λ x. answer (state_view x) tokens.new) }
     ensures no_more { length tokens.new.0 ≤ length tokens.old.0 }
 {
     let mailbox = tokens.name()?;
@@ -89,7 +91,9 @@ pub fn free_clause(
     word: Span,
     kind: TokenKind,
 ) -> Result<State, Fault>
-    ensures { (w : trees.Span) → Makes result (m.after_free_word (stack_view place.stack) place.opened place.statements (guarding_view guard.value) (span_view word) (kind_view kind) w) }
+    ensures { (w : trees.Span)
+        → Makes result (m.after_free_word (stack_view place.stack) place.opened place.statements (guarding_view guard.value)
+        (span_view word) (kind_view kind) w) }
 {
     match kind {
         TokenKind::Mark(Mark::Arrow) => {
@@ -183,7 +187,11 @@ pub fn receive_clause(
     kind: TokenKind,
     span: Span,
 ) -> Result<State, ParseError>
-    ensures read { Parses result (after (m.want_name (stack_view place.stack) place.opened place.statements (m.ReceiveName (guarding_view guard.value) (span_view word)) (kind_view kind) (span_view span)) span.from tokens.old) (λ x. answer (state_view x) tokens.new) }
+    ensures read { Parses result
+        (after
+        (m.want_name (stack_view place.stack) place.opened place.statements
+        (m.ReceiveName (guarding_view guard.value) (span_view word)) (kind_view kind) (span_view span)) span.from
+        tokens.old) (λ x. answer (state_view x) tokens.new) }
     ensures no_more { length tokens.new.0 ≤ length tokens.old.0 }
 {
     let tag = match kind {

@@ -149,7 +149,10 @@ pub fn within(
     kind: TokenKind,
     span: Span,
 ) -> Result<State, ParseError>
-    ensures read { Parses result (after (m.move (control_view control) (stack_view place.stack) place.opened 0 place.statements (kind_view kind) (span_view span)) span.from tokens.old) (λ x. answer (state_view x) tokens.new) }
+    ensures read { Parses result
+        (after
+        (m.move (control_view control) (stack_view place.stack) place.opened 0 place.statements (kind_view kind)
+        (span_view span)) span.from tokens.old) (λ x. answer (state_view x) tokens.new) }
     ensures no_more { length tokens.new.0 ≤ length tokens.old.0 }
 {
     match control {

@@ -34,7 +34,12 @@ struct ParamRead {
 
 /// Reads a signature, from behind the word of a function to behind the opening brace of its body.
 pub fn signature(alloc: Global, tokens: &mut Tokens) -> Result<FunctionSignature, ParseError>
-    ensures read { (fs : List m.Frame) → (ds : List trees.Decl) → Parses result (answer (m.state (m.WantName (m.FunctionName ds)) fs 0 0 0) tokens.old) (λ f. answer (m.state (m.Start true) (m.AtBlock (m.InDef (record { decls = ds; name = name_view f.name; params = map param_view f.params }) (type_view f.result)) ∷ fs) 1 0 0) tokens.new) }
+    ensures read { (fs : List m.Frame) → (ds : List trees.Decl)
+        → Parses result (answer (m.state (m.WantName (m.FunctionName ds)) fs 0 0 0) tokens.old)
+        (λ f. answer
+        (m.state (m.Start true)
+        (m.AtBlock (m.InDef (record { decls = ds; name = name_view f.name; params = map param_view f.params })
+        (type_view f.result)) ∷ fs) 1 0 0) tokens.new) }
     ensures no_more { length tokens.new.0 ≤ length tokens.old.0 }
 {
     let name = tokens.name()?;

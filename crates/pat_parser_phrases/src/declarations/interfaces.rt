@@ -14,7 +14,9 @@ use std::alloc::Global;
 
 /// Reads an interface, from behind its word to behind its closing brace.
 pub fn interface(alloc: Global, tokens: &mut Tokens) -> Result<Decl, ParseError>
-    ensures read { (fs : List m.Frame) → (ds : List trees.Decl) → Parses result (answer (m.state (m.WantName (m.InterfaceName ds)) fs 0 0 0) tokens.old) (λ d. answer (m.state (m.AtDecl false (ds ++ decl_view d ∷ [])) fs 0 0 0) tokens.new) }
+    ensures read { (fs : List m.Frame) → (ds : List trees.Decl)
+        → Parses result (answer (m.state (m.WantName (m.InterfaceName ds)) fs 0 0 0) tokens.old)
+        (λ d. answer (m.state (m.AtDecl false (ds ++ decl_view d ∷ [])) fs 0 0 0) tokens.new) }
     ensures no_more { length tokens.new.0 ≤ length tokens.old.0 }
 {
     let name = tokens.name()?;

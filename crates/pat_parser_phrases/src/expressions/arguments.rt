@@ -25,7 +25,10 @@ pub fn arguments(
     opened: u16,
     at: u32,
 ) -> Result<ArgumentsRead, ParseError>
-    ensures reads { (h : m.Head) (fs : List m.Frame) (s : ℕ) → Parses result (after (m.Opens opened 0 (m.state m.FirstArg (m.AtExpr (m.InArgs h [] opened) ∷ fs) (suc opened) 0 s)) at tokens.old) (λ x. answer (m.state (m.Done (m.made h (map expr_view x.args) x.to) (m.head_from h)) fs opened 0 s) tokens.new) }
+    ensures reads { (h : m.Head) (fs : List m.Frame) (s : ℕ)
+        → Parses result
+        (after (m.Opens opened 0 (m.state m.FirstArg (m.AtExpr (m.InArgs h [] opened) ∷ fs) (suc opened) 0 s)) at tokens.old)
+        (λ x. answer (m.state (m.Done (m.made h (map expr_view x.args) x.to) (m.head_from h)) fs opened 0 s) tokens.new) }
     ensures no_more { length tokens.new.0 ≤ length tokens.old.0 }
 {
     if !has_room(opened, 0) {

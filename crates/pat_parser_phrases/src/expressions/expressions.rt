@@ -205,7 +205,9 @@ pub fn expression(
     kind: TokenKind,
     span: Span,
 ) -> Result<ExpressionRead, ParseError>
-    ensures reads { (fs : List m.Frame) (s : ℕ) → Parses result (after (m.want_step fs opened operators s m.nothing (kind_view kind) (span_view span)) span.from tokens.old) (λ x. behind_expression fs opened s x tokens.new) }
+    ensures reads { (fs : List m.Frame) (s : ℕ)
+        → Parses result (after (m.want_step fs opened operators s m.nothing (kind_view kind) (span_view span)) span.from tokens.old)
+        (λ x. behind_expression fs opened s x tokens.new) }
     ensures no_more { length tokens.new.0 ≤ length tokens.old.0 }
 {
     let first = operand(alloc, tokens, opened, operators, kind, span)?;
@@ -220,7 +222,12 @@ pub fn expression_named(
     name: Name,
     token: Token,
 ) -> Result<ExpressionRead, ParseError>
-    ensures reads { (fs : List m.Frame) (s : ℕ) → Parses result (after (m.have_step fs opened 0 s m.nothing (trees.VarExpr name.text (span_view name.span), name.span.from) name.span.to (kind_view token.kind) (span_view token.span)) token.span.from tokens.old) (λ x. behind_expression fs opened s x tokens.new) }
+    ensures reads { (fs : List m.Frame) (s : ℕ)
+        → Parses result
+        (after
+        (m.have_step fs opened 0 s m.nothing (trees.VarExpr name.text (span_view name.span), name.span.from) name.span.to
+        (kind_view token.kind) (span_view token.span)) token.span.from tokens.old)
+        (λ x. behind_expression fs opened s x tokens.new) }
     ensures no_more { length tokens.new.0 ≤ length tokens.old.0 }
 {
     let Name { text, span } = name;

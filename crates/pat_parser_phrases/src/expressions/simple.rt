@@ -39,7 +39,9 @@ pub fn ended(
     from: u32,
     to: u32,
 ) -> Result<TermRead, ParseError>
-    ensures reads { (fs : List m.Frame) (o s : ℕ) → Parses result (answer (m.state (m.Done (term_at form (trees.span from to)) from) fs o 0 s) tokens.old) (λ x. behind_term fs o s x tokens.new) }
+    ensures reads { (fs : List m.Frame) (o s : ℕ)
+        → Parses result (answer (m.state (m.Done (term_at form (trees.span from to)) from) fs o 0 s) tokens.old)
+        (λ x. behind_term fs o s x tokens.new) }
     ensures no_more { length tokens.new.0 ≤ length tokens.old.0 }
 {
     let term = boxed_term(alloc, form, from, to)?;
@@ -205,7 +207,9 @@ pub fn simple_term(
     kind: TokenKind,
     span: Span,
 ) -> Result<TermRead, ParseError>
-    ensures reads { (fs : List m.Frame) (s : ℕ) (b : Bool) → is_simple (kind_view kind) ≡ true → no_expression fs ≡ true → Parses result (after (m.start_step fs opened 0 s b (kind_view kind) (span_view span)) span.from tokens.old) (λ x. behind_term fs opened s x tokens.new) }
+    ensures reads { (fs : List m.Frame) (s : ℕ) (b : Bool) → is_simple (kind_view kind) ≡ true → no_expression fs ≡ true
+        → Parses result (after (m.start_step fs opened 0 s b (kind_view kind) (span_view span)) span.from tokens.old)
+        (λ x. behind_term fs opened s x tokens.new) }
     ensures no_more { length tokens.new.0 ≤ length tokens.old.0 }
 {
     match kind {
@@ -220,7 +224,10 @@ pub fn simple_term(
 
 /// The test of an `if`, from behind the `if` to behind the opening brace of the first block.
 pub fn test(alloc: Global, tokens: &mut Tokens, opened: u16) -> Result<TreeExpr, ParseError>
-    ensures reads { (fs : List m.Frame) (from s : ℕ) → Parses result (answer (m.state (m.Want m.nothing) (m.AtExpr (m.InTest from) ∷ fs) opened 0 s) tokens.old) (λ e. answer (m.state (m.Start true) (m.AtBlock (m.InYes (expr_view e) from opened s) ∷ fs) (suc opened) 0 s) tokens.new) }
+    ensures reads { (fs : List m.Frame) (from s : ℕ)
+        → Parses result (answer (m.state (m.Want m.nothing) (m.AtExpr (m.InTest from) ∷ fs) opened 0 s) tokens.old)
+        (λ e. answer (m.state (m.Start true) (m.AtBlock (m.InYes (expr_view e) from opened s) ∷ fs) (suc opened) 0 s)
+        tokens.new) }
     ensures room { IfOk result (λ _. opened < most_open) }
     ensures no_more { length tokens.new.0 ≤ length tokens.old.0 }
 {

@@ -22,6 +22,7 @@ pub enum ParseError {
     NoMemory,
 }
 
+// Written out for each error type: the gate takes no `impl` that a macro of the repository wrote.
 impl From<AllocError> for ParseError {
     ghost from_gives = { λ _ e. e ≡ NoMemory };
 

@@ -80,7 +80,9 @@ impl Tokens {
 
     /// Takes the next token, where it has to be a name.
     pub fn name(&mut self) -> Result<Name, ParseError>
-        ensures named { (what : m.Naming) → (fs : List m.Frame) → (o s : ℕ) → Parses result (answer (m.state (m.WantName what) fs o 0 s) self.old) (λ x. answer (m.state (m.GotName what (name_view x)) fs o 0 s) self.new) }
+        ensures named { (what : m.Naming) → (fs : List m.Frame) → (o s : ℕ)
+            → Parses result (answer (m.state (m.WantName what) fs o 0 s) self.old)
+            (λ x. answer (m.state (m.GotName what (name_view x)) fs o 0 s) self.new) }
         ensures fewer { IfOk result (λ x. length self.new.0 < length self.old.0) }
         ensures no_more { length self.new.0 ≤ length self.old.0 }
     {
@@ -93,7 +95,8 @@ impl Tokens {
 
     /// Takes the next token, where it has to be this mark: the mark's place.
     pub fn mark(&mut self, mark: Mark) -> Result<Span, ParseError>
-        ensures taken { (x : m.State) → OnlyMark x (mark_view mark) → Parses result (answer x self.old) (λ w. after (moved x (kinds.Mark (mark_view mark)) (span_view w)) w.from self.new) }
+        ensures taken { (x : m.State) → OnlyMark x (mark_view mark)
+            → Parses result (answer x self.old) (λ w. after (moved x (kinds.Mark (mark_view mark)) (span_view w)) w.from self.new) }
         ensures no_more { length self.new.0 ≤ length self.old.0 }
     {
         let Token { kind, span } = self.next()?;
@@ -106,7 +109,9 @@ impl Tokens {
 
     /// Takes the next token, where it has to be this mark, which opens a bracket where so many are open.
     pub fn open(&mut self, mark: Mark, opened: u16) -> Result<(), ParseError>
-        ensures opened { (x y : m.State) → OnlyMark x (mark_view mark) → ((w : trees.Span) → moved x (kinds.Mark (mark_view mark)) w ≡ m.Opens opened 0 y) → Parses result (answer x self.old) (λ u. answer y self.new) }
+        ensures opened { (x y : m.State) → OnlyMark x (mark_view mark)
+            → ((w : trees.Span) → moved x (kinds.Mark (mark_view mark)) w ≡ m.Opens opened 0 y)
+            → Parses result (answer x self.old) (λ u. answer y self.new) }
         ensures room { IfOk result (λ u. opened < most_open) }
         ensures no_more { length self.new.0 ≤ length self.old.0 }
     {

@@ -61,7 +61,10 @@ pub fn pattern(
     mut kind: TokenKind,
     mut span: Span,
 ) -> Result<PatternRead, ParseError>
-    ensures read { (fs : List m.Frame) → (s : ℕ) → Parses result (after (m.want_pattern fs opened operators s m.none_before (kind_view kind) (span_view span)) span.from tokens.old) (λ q. behind_pattern fs opened s q tokens.new) }
+    ensures read { (fs : List m.Frame) → (s : ℕ)
+        → Parses result
+        (after (m.want_pattern fs opened operators s m.none_before (kind_view kind) (span_view span)) span.from tokens.old)
+        (λ q. behind_pattern fs opened s q tokens.new) }
     ensures no_more { length tokens.new.0 ≤ length tokens.old.0 }
 {
     let mut before = Before {

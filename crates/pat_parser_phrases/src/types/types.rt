@@ -31,7 +31,9 @@ pub fn written_type(
     kind: TokenKind,
     span: Span,
 ) -> Result<TypeRead, ParseError>
-    ensures read { (fs : List m.Frame) → m.is_payload fs ≡ payload → Parses result (after (m.want_type fs opened (kind_view kind) (span_view span)) span.from tokens.old) (λ a. behind_type fs opened a tokens.new) }
+    ensures read { (fs : List m.Frame) → m.is_payload fs ≡ payload
+        → Parses result (after (m.want_type fs opened (kind_view kind) (span_view span)) span.from tokens.old)
+        (λ a. behind_type fs opened a tokens.new) }
     ensures no_more { length tokens.new.0 ≤ length tokens.old.0 }
 {
     match kind {

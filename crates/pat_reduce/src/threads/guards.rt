@@ -139,7 +139,9 @@ pub fn after_receive(
     messages: &[Message],
     number: u32,
 ) -> Result<Control, StepError>
-    ensures { Gives control_view (redex_received (program_view code.now.program) (map message_view messages.now) number (redex (program_view code.now.program) (control_view control.now))) result }
+    ensures { Gives control_view
+        (redex_received (program_view code.now.program) (map message_view messages.now) number
+        (redex (program_view code.now.program) (control_view control.now))) result }
 {
     match guard_of(code, control) {
         Some(guard) => match message_of(messages, number) {

@@ -78,7 +78,8 @@ pub fn next_thread(
     code: &Executable,
     control: &Control,
 ) -> Result<Control, StepError>
-    ensures { Gives control_view (spawned (program_view code.now.program) (redex (program_view code.now.program) (control_view control.now))) result }
+    ensures { Gives control_view
+        (spawned (program_view code.now.program) (redex (program_view code.now.program) (control_view control.now))) result }
 {
     match control {
         Control::Node { node, env } => match core_of(code, *node) {

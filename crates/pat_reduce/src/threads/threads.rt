@@ -106,7 +106,9 @@ pub fn enter(
     args: &[Expr],
     env: &[(u32, Value)],
 ) -> Result<Control, StepError>
-    ensures { Gives control_view (entered (program_view code.now.program) (function_at (program_view code.now.program) function) (option_map (numbered 0) (eval_all (env_view env.now) (map expr_view args.now)))) result }
+    ensures { Gives control_view
+        (entered (program_view code.now.program) (function_at (program_view code.now.program) function)
+        (option_map (numbered 0) (eval_all (env_view env.now) (map expr_view args.now)))) result }
 {
     match function_of(code, function) {
         Some(entry) => node_with_parameters(alloc, code, entry.body, args, env),

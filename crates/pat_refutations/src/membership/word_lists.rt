@@ -78,7 +78,8 @@ pub fn sums(
     right: &[Bag],
     limit: &Bag,
 ) -> Result<Sequence<Bag>, AllocError>
-    ensures { IfOk result (λ words. (w : Word) → HasWord words w ↔ Within (word_of limit.now) (SumOf (HasWord left.now) (HasWord right.now)) w) }
+    ensures { IfOk result (λ words. (w : Word)
+        → HasWord words w ↔ Within (word_of limit.now) (SumOf (HasWord left.now) (HasWord right.now)) w) }
 {
     let mut words = Sequence::new(alloc);
     let mut places = Places::of(alloc, &[])?;

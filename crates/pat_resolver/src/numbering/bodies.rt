@@ -41,9 +41,14 @@ impl<'a> Numbering<'a> {
     ) -> Result<(), AllocError>
         requires room { length self.old.nodes + nodes_in (term_view body.now) < number_count }
         requires names { self.old.next + binders_in (term_view body.now) < number_count }
-        requires kinds { HasAt (map kind_view context.now.kinds.now) self.old.next (vars_of (heads_view context.now.heads.now) (scope_view self.old.scope) self.old.next (term_view body.now)) }
-        ensures nodes { OnOk result (map node_view self.new.nodes ≡ map node_view self.old.nodes ++ nodes_of (heads_view context.now.heads.now) context.now.function (scope_view self.old.scope) (length self.old.nodes) self.old.next (kind_view kind) (term_view body.now)) }
-        ensures places { OnOk result (map (λ d. span_view d.span) self.new.nodes ≡ map (λ d. span_view d.span) self.old.nodes ++ node_places (term_view body.now)) }
+        requires kinds { HasAt (map kind_view context.now.kinds.now) self.old.next
+            (vars_of (heads_view context.now.heads.now) (scope_view self.old.scope) self.old.next (term_view body.now)) }
+        ensures nodes { OnOk result (map node_view self.new.nodes
+            ≡ map node_view self.old.nodes
+            ++ nodes_of (heads_view context.now.heads.now) context.now.function (scope_view self.old.scope)
+            (length self.old.nodes) self.old.next (kind_view kind) (term_view body.now)) }
+        ensures places { OnOk result (map (λ d. span_view d.span) self.new.nodes
+            ≡ map (λ d. span_view d.span) self.old.nodes ++ node_places (term_view body.now)) }
         ensures next { OnOk result (self.new.next ≡ self.old.next + binders_in (term_view body.now)) }
         ensures scope { OnOk result (self.new.scope ≡ self.old.scope) }
     {

@@ -32,6 +32,7 @@ pub enum ResolveError {
     NoMemory,
 }
 
+// Written out for each error type: the gate takes no `impl` that a macro of the repository wrote.
 impl From<AllocError> for ResolveError {
     ghost from_gives = { λ _ e. e ≡ NoMemory };
 

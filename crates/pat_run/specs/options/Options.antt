@@ -53,6 +53,14 @@ nothing_chosen = record { workers = None; steps = None; messages = None }
 abbrev pub options_of : List (List ℕ) → Option RunOptions
 options_of words = option_map with_defaults (choices nothing_chosen words)
 
+-- the number of steps, where nothing else is chosen
+abbrev pub steps_alone : Choice → Option ℕ
+steps_alone c = if is_none c.workers && is_none c.messages then Some (with_defaults c).steps else None
+
+-- the number of steps that the words choose, if they choose that alone
+abbrev pub steps_of : List (List ℕ) → Option ℕ
+steps_of words = option_and_then steps_alone (choices nothing_chosen words)
+
 -- ---- bounds
 
 abbrev pub ChosenWithin : Choice → Type 0

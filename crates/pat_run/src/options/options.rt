@@ -1,6 +1,7 @@
 // Options, two words each.
-ghost use Rattle.std.specs.Prelude.{◌≡◌, map, string_bytes, IfSome};
+ghost use Rattle.std.specs.Prelude.{◌≡◌, ◌≤◌, map, string_bytes, IfSome};
 ghost use Rattle.pat_run.specs.options.Options as chosen;
+ghost use Rattle.pat_limits.specs.Limits.{most_steps};
 
 use pat_limits::{MOST_MESSAGES, MOST_STEPS, MOST_WORKERS};
 use pat_texts::read_digits;
@@ -38,6 +39,34 @@ pub fn options_of(words: &[String]) -> Option<RunOptions>
     match choices(words, nothing) {
         Some(choice) => Some(with_defaults(choice)),
         None => None,
+    }
+}
+
+/// The number of steps that the words choose: `--steps` with a number, or no words at all. None where they are anything else.
+pub fn steps_of(words: &[String]) -> Option<u32>
+    ensures chosen { result ≡ chosen.steps_of (map string_bytes words.now) }
+    ensures within { IfSome result (λ steps. steps ≤ most_steps) }
+{
+    let nothing = Choice {
+        workers: None,
+        steps: None,
+        messages: None,
+    };
+    match choices(words, nothing) {
+        Some(choice) => steps_alone(choice),
+        None => None,
+    }
+}
+
+fn steps_alone(choice: Choice) -> Option<u32>
+    requires { chosen.ChosenWithin choice }
+    ensures chosen { result ≡ chosen.steps_alone choice }
+    ensures within { IfSome result (λ steps. steps ≤ most_steps) }
+{
+    if choice.workers.is_none() && choice.messages.is_none() {
+        Some(with_defaults(choice).steps)
+    } else {
+        None
     }
 }
 

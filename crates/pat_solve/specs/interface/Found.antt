@@ -20,6 +20,7 @@ use Rattle.pat_solve_spec.specs.Answers.{IsConstraint, IsSmall, IsSearched, IsRe
 use Rattle.pat_solve_bounds.specs.results.Views.{form_of}
 use Rattle.pat_solve_closed_forms.specs.Values.{IsFirstUncovered}
 use Rattle.pat_solve_grids.specs.declared.entry.InterfaceGrids.{InterfaceGrids}
+use Rattle.pat_solve.specs.Smallest.{IsLeastRefutation}
 use Rattle.pat_solve.specs.declared.interface.forms.Unshown.{Unshown}
 use Rattle.pat_solve.specs.declared.interface.forms.InterfaceForm.{InterfaceForm}
 use Rattle.pat_solve.specs.declared.interface.forms.InterfaceForm.TheVariants.{Solved, TooLarge, Unsolved}
@@ -30,10 +31,10 @@ module _ (p : Program) where
     pub refuted : (w : Word) (b : Bound) → IsRefuted p n w b → ⊥
     pub undecided : IsUndecided p n → ⊥
 
-  -- the constraint is refuted, or it is undecided
+  -- the constraint is refuted, by a least tree, or it is undecided
   abbrev pub IsUnshownBy : ℕ → Option Refutation → Type 0
   IsUnshownBy n None = IsUndecided p n
-  IsUnshownBy n (Some r) = IsRefuted p n (word_of r.word) (bound_view r.tree)
+  IsUnshownBy n (Some r) = IsRefuted p n (word_of r.word) (bound_view r.tree) × IsLeastRefutation p n (bound_view r.tree)
 
   abbrev pub IsUnshown : Unshown → Type 0
   IsUnshown o = IsUnshownBy o.constraint o.refutation

@@ -22,6 +22,7 @@ pub fn renamed(alloc: Global, p: &Pattern, variables: &[u32]) -> Result<Pattern,
     Ok(take_one(&mut done))
 }
 
+// `pat_certificate_checks` renumbers by names in any order; here they ascend, and a place is found by halves.
 /// Puts the renamed pattern on the stack.
 fn rename_onto(
     alloc: Global,

@@ -2,6 +2,7 @@ use Rattle.pat_solve_laws.proofs.Known.{Known}
 use Rattle.pat_solve_laws.proofs.Solved.{undecided_says, solved_shows, solved_valid, solved_exactly}
 use Rattle.pat_solve_laws.proofs.answer_laws.Goals as goal
 
+-- Each law of this crate fills this record from its own calls of the laws below.
 pub returns : goal.returns
 returns c =
     let known : Known = record {

@@ -11,10 +11,10 @@ ghost use Rattle.pat_workers.specs.turns.Holds.{IsHold, TakingGives, CommittingG
 use crate::turns::machines::{Taken, commit, take};
 use pat_machine::{CommitRefused, Job, Machine, Receipt};
 use pat_machine_threads::LocalRun;
-use pat_turn::{News, Pass, Turn};
+use pat_turn::{Notify, Pass, Turn};
 use std::sync::Wait;
 
-/// Takes a job and its state. Nothing is added to the history. A busy worker wakes one that naps, if it leaves a job.
+/// Takes a job and its state. Nothing is added to the history. A busy worker wakes one that is parked, if it leaves a job.
 pub fn take_in_turn<R: Wait>(
     rt: &R,
     turn: &Turn<Machine>,
@@ -29,30 +29,35 @@ pub fn take_in_turn<R: Wait>(
     let mut machine = turn.hold(rt, pass);
     let _history = machine.history();
     let taken = take(&mut machine);
-    let news = news_of(turn, &machine, &taken, is_busy);
-    turn.put_back(pass, machine, news);
+    let notify = whom_taking_wakes(turn, &machine, &taken, is_busy);
+    turn.put_back(pass, machine, notify);
     taken
 }
 
 // Who took a job wakes one of those that rest where it leaves another one; who is woken does the same. A job that went back may be
 // taken by any of them, and where the run is over all of them end.
-fn news_of(turn: &Turn<Machine>, machine: &Machine, taken: &Taken, is_busy: bool) -> News {
+fn whom_taking_wakes(
+    turn: &Turn<Machine>,
+    machine: &Machine,
+    taken: &Taken,
+    is_busy: bool,
+) -> Notify {
     match taken {
-        Taken::Job(_, _) if turn.has_resting() && machine.could_take() => News::ForOne,
-        Taken::Job(_, _) if is_busy && turn.has_napping() && machine.could_take() => {
-            News::ForOneNapping
+        Taken::Job(_, _) if turn.has_resting() && machine.could_take() => Notify::One,
+        Taken::Job(_, _) if is_busy && turn.has_parked() && machine.could_take() => {
+            Notify::OneParked
         }
-        Taken::Job(_, _) | Taken::Nothing => News::Nothing,
-        Taken::Over | Taken::NoMemory => News::ForAll,
+        Taken::Job(_, _) | Taken::Nothing => Notify::Nobody,
+        Taken::Over | Taken::NoMemory => Notify::All,
     }
 }
 
 // Who committed looks for the next job itself, or sees to it that another one does. Mostly there is no other job, and then nobody is
 // woken in vain.
-fn news_of_commit(committed: &Result<Receipt, CommitRefused>) -> News {
+fn whom_commit_wakes(committed: &Result<Receipt, CommitRefused>) -> Notify {
     match committed {
-        Ok(_) => News::Soon,
-        Err(_) => News::ForAll,
+        Ok(_) => Notify::Soon,
+        Err(_) => Notify::All,
     }
 }
 
@@ -74,7 +79,7 @@ pub fn commit_in_turn<R: Wait>(
     let mut machine = turn.hold(rt, pass);
     let _history = machine.history();
     let result = commit(&mut machine, worker, job, run);
-    turn.put_back(pass, machine, news_of_commit(&result));
+    turn.put_back(pass, machine, whom_commit_wakes(&result));
     result
 }
 

@@ -1,10 +1,9 @@
-// Worked rows, with answers by hand. A pattern is spelled with its parts first: `mn.` is m.n, `mn+` is m + n, and `m*` is
-// *m; `$` and `%` are the first and the second variable. A small letter from `m` on is the tag with its place from `m`.
+// Worked rows, with answers by hand. Patterns are spelled as `spelling` says.
 ghost use Rattle.std.specs.Prelude.{IsTrue};
 ghost use Rattle.pat_inclusion_spec.specs.Points.{grid_fits};
 
 use crate::checking::check;
-use pat_bags::Bag;
+use crate::spelling::{bag, pattern};
 use pat_grid::{Grid, eval, least};
 use pat_grid_certificates::{Right, check_grid, is_grid};
 use pat_grid_points::has_tags;
@@ -13,41 +12,6 @@ use std::alloc::{AllocError, Global};
 use std::process::Abort;
 use std::sync::Arc;
 use std::test::Fail;
-
-/// The pattern that is spelled so.
-fn pattern(alloc: Global, text: &str) -> Result<Pattern, AllocError> {
-    let mut done = Vec::new(alloc);
-    for letter in text.bytes() {
-        let right = match letter {
-            b'+' | b'.' => take(&mut done),
-            _ => Pattern::Zero,
-        };
-        let node = match letter {
-            b'1' => Pattern::One,
-            b'm'..=b'z' => Pattern::Tag(letter - b'm'),
-            b'$' => Pattern::Var(0),
-            b'%' => Pattern::Var(1),
-            b'+' => Pattern::Sum(Arc::new(alloc, take(&mut done))?, Arc::new(alloc, right)?),
-            b'.' => Pattern::Prod(Arc::new(alloc, take(&mut done))?, Arc::new(alloc, right)?),
-            b'*' => Pattern::Star(Arc::new(alloc, take(&mut done))?),
-            _ => Pattern::Zero,
-        };
-        done.push(node)?;
-    }
-    Ok(take(&mut done))
-}
-
-fn take(done: &mut Vec<Pattern>) -> Pattern {
-    done.pop().unwrap_or(Pattern::Zero)
-}
-
-/// The bag of so many m and so many n.
-fn bag(m: u32, n: u32) -> Bag {
-    let mut counts = [0; 32];
-    counts[0] = m;
-    counts[1] = n;
-    Bag { counts }
-}
 
 /// The grid has just these points, in this order.
 fn has_points(

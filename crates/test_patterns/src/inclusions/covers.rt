@@ -1,7 +1,7 @@
 // Covers worked by hand, and covers that are none.
 use crate::checking::check;
 use crate::inclusions::forms::form;
-use crate::inclusions::spelling::{pattern, spelled_cover};
+use crate::spelling::{pattern, spelled_cover};
 use pat_bags::Bag;
 use pat_cover_certificates::{CoverEntry, check_cover, find_cover};
 use pat_linear::LinearSet;

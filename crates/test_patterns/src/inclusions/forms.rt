@@ -1,6 +1,6 @@
 // Closed forms worked by hand.
 use crate::checking::check;
-use crate::inclusions::spelling::{pattern, spelled_sets};
+use crate::spelling::{pattern, spelled_sets};
 use pat_grid_points::has_tags;
 use pat_linear::{FormError, LinearSet, closed_form};
 use pat_patterns::Pattern;

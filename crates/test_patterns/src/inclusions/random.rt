@@ -2,7 +2,7 @@
 use crate::checking::check;
 use crate::inclusions::covers::cover_of;
 use crate::inclusions::forms::form;
-use crate::inclusions::spelling::{bag, push_letter, take};
+use crate::spelling::{bag, push_letter, take};
 use pat_bags::Bag;
 use pat_grid::{Grid, eval};
 use pat_grid_points::has_tags;

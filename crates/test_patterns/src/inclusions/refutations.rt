@@ -1,6 +1,6 @@
 // Refutations worked by hand.
 use crate::checking::check;
-use crate::inclusions::spelling::{bag, pattern, tree};
+use crate::spelling::{bag, pattern, tree};
 use pat_patterns::Pattern;
 use pat_refutations::check_refutation;
 use pat_witnesses::Refutation;

@@ -1,52 +1,15 @@
-// Worked rows, with answers by hand. A pattern is spelled with its parts first: `mn.` is m.n, `mn+` is
-// m + n, and `m*` is *m; `$` is the one variable.
+// Worked rows, with answers by hand. Patterns are spelled as `spelling` says.
 
 use crate::checking::check;
+use crate::spelling::{bag, pattern};
 use pat_bags::Bag;
 use pat_patterns::{
-    Pattern, covers, degree, has_values, inhabited, is_flat, levels, nullable, residual, size,
-    subst,
+    covers, degree, has_values, inhabited, is_flat, levels, nullable, residual, size, subst,
 };
 use pat_refutations::member;
 use std::alloc::{AllocError, Global};
 use std::process::Abort;
-use std::sync::Arc;
 use std::test::Fail;
-
-/// The pattern that is spelled so.
-fn pattern(alloc: Global, text: &str) -> Result<Pattern, AllocError> {
-    let mut done = Vec::new(alloc);
-    for letter in text.bytes() {
-        let right = match letter {
-            b'+' | b'.' => take(&mut done),
-            _ => Pattern::Zero,
-        };
-        let node = match letter {
-            b'1' => Pattern::One,
-            b'm' => Pattern::Tag(0),
-            b'n' => Pattern::Tag(1),
-            b'$' => Pattern::Var(0),
-            b'+' => Pattern::Sum(Arc::new(alloc, take(&mut done))?, Arc::new(alloc, right)?),
-            b'.' => Pattern::Prod(Arc::new(alloc, take(&mut done))?, Arc::new(alloc, right)?),
-            b'*' => Pattern::Star(Arc::new(alloc, take(&mut done))?),
-            _ => Pattern::Zero,
-        };
-        done.push(node)?;
-    }
-    Ok(take(&mut done))
-}
-
-fn take(done: &mut Vec<Pattern>) -> Pattern {
-    done.pop().unwrap_or(Pattern::Zero)
-}
-
-/// The bag of so many m and so many n.
-fn bag(m: u32, n: u32) -> Bag {
-    let mut counts = [0; 32];
-    counts[0] = m;
-    counts[1] = n;
-    Bag { counts }
-}
 
 /// The residual of the pattern by the tag is the third.
 fn leaves(

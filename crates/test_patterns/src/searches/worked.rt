@@ -1,5 +1,4 @@
-// Worked rows, with answers by hand. A pattern is spelled with its parts first: `mn.` is m.n, `mn+` is m + n, and `m*` is
-// *m; `$` is the one variable.
+// Worked rows, with answers by hand. Patterns are spelled as `spelling` says.
 ghost use Rattle.std.specs.Prelude.{◌≡◌, ◌^◌, ◌-◌, min, IsTrue};
 ghost use Rattle.pat_words_spec.specs.Flats.{degree_of};
 ghost use Rattle.std.specs.List.{AllByRecursion};
@@ -8,6 +7,7 @@ ghost use Rattle.pat_patterns.specs.Views.{pattern_view, patterns_view};
 ghost use Rattle.pat_inclusion_spec.specs.Points.{grid_fits};
 
 use crate::checking::check;
+use crate::spelling::pattern;
 use pat_counterexample_search::refute;
 use pat_grid_points::has_tags;
 use pat_patterns::{Pattern, is_flat};
@@ -24,33 +24,6 @@ enum Want {
     Inside,
     Word(u32, u32),
     Large,
-}
-
-/// The pattern that is spelled so.
-fn pattern(alloc: Global, text: &str) -> Result<Pattern, AllocError> {
-    let mut done = Vec::new(alloc);
-    for letter in text.bytes() {
-        let right = match letter {
-            b'+' | b'.' => take(&mut done),
-            _ => Pattern::Zero,
-        };
-        let node = match letter {
-            b'1' => Pattern::One,
-            b'm' => Pattern::Tag(0),
-            b'n' => Pattern::Tag(1),
-            b'$' => Pattern::Var(0),
-            b'+' => Pattern::Sum(Arc::new(alloc, take(&mut done))?, Arc::new(alloc, right)?),
-            b'.' => Pattern::Prod(Arc::new(alloc, take(&mut done))?, Arc::new(alloc, right)?),
-            b'*' => Pattern::Star(Arc::new(alloc, take(&mut done))?),
-            _ => Pattern::Zero,
-        };
-        done.push(node)?;
-    }
-    Ok(take(&mut done))
-}
-
-fn take(done: &mut Vec<Pattern>) -> Pattern {
-    done.pop().unwrap_or(Pattern::Zero)
 }
 
 /// So many m at most.

@@ -37,6 +37,7 @@ included-requires-clause-left c =
     let i = slice_index_or c.as_slice-interfaces.result.now k 0 in
     subst (λ e. IsTrue (is_formed S i e)) (sym left_is) at.left
 
+-- Left and right have a goal each, whose `c` is of another type; what both cite stands in `Balancing`.
 pub included-requires-clause-right : goal.included-requires-clause-right
 included-requires-clause-right c =
     let p = program_view c.args.program.now in

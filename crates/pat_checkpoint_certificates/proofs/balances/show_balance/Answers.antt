@@ -31,6 +31,7 @@ show_one-requires-clause-left c =
     ∙ right_at p d x s k a c.index-receivers-place.result c.requires.sides c.requires.at (read_in c.as_slice-receivers.result.now s.receivers k c.index-receivers-place.result c.as_slice-receivers.ensures c.requires.receivers c.index-receivers-place.is) in
     (needed_formed p d x (scope_in c.args.search.now) c.interface_of-interface.result a (pattern_view c.in_ok-left.left) (pattern_view c.in_ok-right.right) own left right c.requires.formed).0
 
+-- Left and right have a goal each, whose `c` is of another type; what both cite stands in `Gathering`.
 pub show_one-requires-clause-right : goal.show_one-requires-clause-right
 show_one-requires-clause-right c =
     let p = program_in c.args.search.now in

@@ -3,10 +3,11 @@ use Rattle.std.proofs.lemmas.Result.{err_from_is_err_and}
 use Rattle.pat_derivations.specs.Views.{derivation_view}
 use Rattle.pat_reduce.specs.Views.{config_view}
 use Rattle.pat_checkpoint_data.specs.Views.{end_view, part_certs_view, checkpoint_view}
+use Rattle.pat_checkpoint_certificates.specs.Bounds.{bound_in}
 use Rattle.pat_checkpoint_certificates.specs.Certified.{IsCertified, IsUnshown}
 use Rattle.pat_checkpoint_certificates.specs.Searches.{program_in}
 use Rattle.pat_checkpoint_certificates.proofs.Errors.{passed}
-use Rattle.pat_checkpoint_certificates.proofs.Certs.{certs_are, is_certified, is_unshown, stands_bare, count_bare}
+use Rattle.pat_checkpoint_certificates.proofs.Certs.{certs_are, lines_shown, is_certified, is_unshown, stands_bare, count_bare}
 use Rattle.pat_checkpoint_certificates.proofs.certifying.certify_with.Goals as goal
 
 pub certify_mailboxes-requires-clause-stands : goal.certify_mailboxes-requires-clause-stands
@@ -49,4 +50,5 @@ returns-clause-certified c =
     let count = count_bare p d (config_view c.args.config) c.args.interfaces c.requires.typed.count bare c.bare_checkpoint-bare.ensures in
     subst (IsCertified p d (config_view c.args.config) c.args.interfaces) (sym c.with_certs.ensures)
     (is_certified p d (config_view c.args.config) c.args.interfaces c.resumed_laws.ensures.written c.checked_laws.ensures.broken c.requires.search.well c.requires.valid c.requires.typed.typed bare ms ks c.bare_checkpoint-bare.ensures
-    (certs_are p d bare ms ks count c.in_ok-mailboxes.ensures.found.certified c.in_ok-parts.ensures.found.certified))
+    (certs_are p d bare ms ks count c.in_ok-mailboxes.ensures.found.certified c.in_ok-parts.ensures.found.certified)
+    (lines_shown p d bare (bound_in p) c.in_ok-mailboxes.ensures.found.showable c.in_ok-parts.ensures.found.showable))

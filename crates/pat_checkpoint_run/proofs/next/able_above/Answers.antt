@@ -9,7 +9,7 @@ use Rattle.pat_core.specs.Views.{program_view}
 use Rattle.pat_reduce.specs.Places.{IsPlace}
 use Rattle.pat_reduce.specs.Views.{config_view, threads_view}
 use Rattle.pat_checkpoint_run.proofs.Nexts.{found, passed, over}
-use Rattle.pat_checkpoint_run.proofs.Places.{Threads, stands_there}
+use Rattle.pat_reduce.proofs.Ascending.{Threads, stands_there}
 use Rattle.pat_checkpoint_run.proofs.next.able_above.Goals as goal
 
 pub loop-place-init : goal.loop-place-init

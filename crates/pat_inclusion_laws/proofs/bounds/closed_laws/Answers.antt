@@ -1,4 +1,5 @@
-use Rattle.pat_inclusion_laws.proofs.ClosedLaws.{derivable_in, in_derivable, flat_closed, derivable_values, values_derivable, known_right, right_known, eval_to, eval_from}
+use Rattle.pat_words_laws.proofs.ClosedPatterns.{flat_closed}
+use Rattle.pat_inclusion_laws.proofs.ClosedLaws.{derivable_in, in_derivable, derivable_values, values_derivable, known_right, right_known, eval_to, eval_from}
 use Rattle.pat_inclusion_laws.proofs.ByTable.{search_law}
 use Rattle.pat_inclusion_laws.proofs.Total.{search_total, points_lie, lie_points}
 use Rattle.pat_inclusion_laws.proofs.bounds.closed_laws.Goals as goal

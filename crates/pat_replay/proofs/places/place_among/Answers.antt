@@ -2,7 +2,8 @@ use Rattle.std.proofs.Common.{◌≡◌, ℕ, ◌<◌, Some, length, get_or, ref
 use Rattle.std.specs.Prelude.{slice_get}
 use Rattle.std.proofs.lemmas.Option.{slice_get-get_or}
 use Rattle.pat_reduce.specs.declared.threads.state.ThreadState.{ThreadState}
-use Rattle.pat_replay.proofs.Halves.{stands_there, in_upper_half, in_lower_half, everywhere, nowhere}
+use Rattle.pat_reduce.proofs.Ascending.{stands_there}
+use Rattle.pat_replay.proofs.Halves.{in_upper_half, in_lower_half, everywhere, nowhere}
 use Rattle.pat_replay.proofs.places.place_among.Goals as goal
 
 pub loop-low-init : goal.loop-low-init

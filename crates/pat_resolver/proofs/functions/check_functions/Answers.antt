@@ -18,6 +18,7 @@ check_decl-requires-clause-names c =
     let e = row_from c.args.decls.now c.loop-decl.decl-index c.decl-item.result c.loop-decl-test.true c.decl-item.is in
     omega (arith, decl_within c.loop-decl.decl-index c.args.decls.now (drop (c.loop-decl.decl-index + 1) c.args.decls.now) c.decl-item.result e, c.requires)
 
+-- What a refused declaration owes stands in `Firsts` and `Definitions`; what is left names the steps of this loop, which makes nothing.
 pub returns-in_err-check_decl : goal.returns-in_err-check_decl
 returns-in_err-check_decl c =
     let names = names_view c.args.heads.now.names in

@@ -8,6 +8,7 @@ use Rattle.pat_resolver_heads.specs.Names.{names_view}
 use Rattle.pat_resolver_heads.specs.Examined.{message_findings}
 use Rattle.pat_resolver_heads.proofs.check.check_messages.Goals as goal
 
+-- What holds of any such loop stands in `Firsts`; what is left names the steps of this one, as with the parameters of a function.
 pub returns-in_err-check_message : goal.returns-in_err-check_message
 returns-in_err-check_message c =
     let p = err_from_is_err_and c.from_residual.result c.from_residual.ensures.1 in

@@ -8,6 +8,7 @@ use Rattle.pat_resolver_heads.specs.Names.{names_view}
 use Rattle.pat_resolver_heads.specs.Examined.{param_findings}
 use Rattle.pat_resolver_heads.proofs.check.check_params.Goals as goal
 
+-- What holds of any such loop stands in `Firsts`; what is left names the steps of this one, as with the messages of an interface.
 pub returns-in_err-check_param : goal.returns-in_err-check_param
 returns-in_err-check_param c =
     let p = err_from_is_err_and c.from_residual.result c.from_residual.ensures.1 in

@@ -1,4 +1,4 @@
-use Rattle.std.proofs.Common.{◌∷◌, List, ℕ, string_bytes, codes}
+use Rattle.std.proofs.Common.{◌∷◌, string_bytes, codes}
 use Rattle.std.specs.Prelude.{IfSome, IfNone}
 use Rattle.pat_session.specs.Allowed.{IsCommand, HasCommand}
 use Rattle.pat_session.proofs.NoCommands.{of_first_and_rest, no_words}

@@ -80,6 +80,7 @@ find_under-requires-clause-lefts c j l =
     subst (λ cs. IsTrue (tags_below most_tags (left_under (value_in (paired vars (measured_list c.in-Some.own))) cs (get_or ns j 0)))) (sym c.as_slice-constraints.ensures)
     (lefts_tagged p q i h c.found_laws.ensures.fits c.fits_law.ensures vars ns vars_are ns_are c.in-Some.own r j l)
 
+-- Lefts and rights have a goal each, whose `c` is of another type; what both cite stands in `rounds_by`.
 pub find_under-requires-clause-rights : goal.find_under-requires-clause-rights
 find_under-requires-clause-rights c j l =
     let q = c.args.problem.now in

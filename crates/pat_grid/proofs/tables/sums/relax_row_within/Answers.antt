@@ -5,6 +5,7 @@ use Rattle.pat_grid.proofs.Relaxing.{moved_both, before_more}
 use Rattle.pat_grid.proofs.Summing.{row_within_kept}
 use Rattle.pat_grid.proofs.tables.sums.relax_row_within.Goals as goal
 
+-- What a loop over rows of any kind owes is `moved_both`; what is left names this loop's steps.
 pub loop-second-preserved : goal.loop-second-preserved
 loop-second-preserved c =
     let g = setting_of c.args.board.now in

@@ -2,6 +2,7 @@ use Rattle.std.proofs.Common.{◌*◌, ◌∙◌, arith}
 use Rattle.pat_grid_points.proofs.InBlocks.{list_count, list_block, list_run, list_same}
 use Rattle.pat_grid_points.proofs.sparse.SparseList.same_until.Goals as goal
 
+-- A `BlockList` owes the same; it reads its starts otherwise. What holds of both stands in `InBlocks`.
 pub get-start-requires : goal.get-start-requires
 get-start-requires g c =
     let s = c.self.inside in

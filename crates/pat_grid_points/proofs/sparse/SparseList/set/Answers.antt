@@ -3,6 +3,7 @@ use Rattle.pat_grid_points.specs.Sparse.{sparse}
 use Rattle.pat_grid_points.proofs.InBlocks.{list_count, list_block, written_set}
 use Rattle.pat_grid_points.proofs.sparse.SparseList.set.Goals as goal
 
+-- A `BlockList` owes the same; it reads its starts otherwise. What holds of both stands in `InBlocks`.
 pub begin-requires-clause-there : goal.begin-requires-clause-there
 begin-requires-clause-there g c =
     let s = c.self.inside in

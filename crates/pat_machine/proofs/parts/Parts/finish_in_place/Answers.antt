@@ -18,6 +18,7 @@ use Rattle.pat_machine.proofs.Finishing.{entry_of, went_after}
 use Rattle.pat_machine.proofs.Naming.{can_be_counted}
 use Rattle.pat_machine.proofs.parts.Parts.finish_in_place.Goals as goal
 
+-- `finish` owes the same of a value that it takes; each answer names the steps of its own function.
 pub share_in_place-requires-clause-well : goal.share_in_place-requires-clause-well
 share_in_place-requires-clause-well c = c.in_ok-prepare.ensures.kept.stands.well
 

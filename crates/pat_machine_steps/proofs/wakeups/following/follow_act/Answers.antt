@@ -53,6 +53,7 @@ returns-in-Spawn c =
       hold = omega arith;
     }
 
+-- Arms count room alike, each over what it did.
 pub returns-in-New : goal.returns-in-New
 returns-in-New c =
     let p = program_view c.args.code.now.program in

@@ -5,6 +5,7 @@ use Rattle.pat_parser_phrases.proofs.Steps.{from_front, fails_from_front, failed
 use Rattle.pat_parser_phrases.proofs.ExpressionsMarks.{only_new, only_new_end}
 use Rattle.pat_parser_phrases.proofs.expressions.simple.new.Goals as goal
 
+-- `free` goes through other states and has other brackets; what holds of both stands in `Steps`.
 pub returns-in_err-open-clause-reads : goal.returns-in_err-open-clause-reads
 returns-in_err-open-clause-reads c = λ fs s.
     let what = m.NewName c.args.from c.args.opened in

@@ -37,6 +37,7 @@ close_with-closed-requires g c =
     let id = ap (λ t. t.id) c.self.view_is in
     c.join_all.ensures.seat.0 ∙ (ap (λ p. p.turn) c.first.view_is ∙ (first.0 ∙ sym id))
 
+-- The three goals behind the close rest on what is told of it. Each has a `c` of another type, so each says it for itself.
 pub unwrap-requires : goal.unwrap-requires
 unwrap-requires g c =
     let whole = split_first c.args.passes.items c.remove.new.self.items c.remove.result (search rules) c.remove.ensures.value c.remove.ensures.items in

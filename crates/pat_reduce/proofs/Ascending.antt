@@ -13,13 +13,13 @@ use Rattle.pat_reduce.specs.Places.{IsPlace}
 abbrev pub Threads : Type 0
 Threads = List (ℕ × ThreadState)
 
-abbrev Ascending : ℕ → Threads → Type 0
+abbrev pub Ascending : ℕ → Threads → Type 0
 Ascending n ts = AscendsFrom n (keys_of (threads_view ts))
 
-apart : (a b : ℕ) → a < b → nat_eq b a ≡ false
+pub apart : (a b : ℕ) → a < b → nat_eq b a ≡ false
 apart a b l = ⊎_elim (λ (y : nat_eq b a ≡ true). let e = eqb-true b a y in absurd (omega arith)) (λ (z : nat_eq b a ≡ false). z) (cases_Bool (nat_eq b a))
 
-at_least : (n : ℕ) (ts : Threads) (i : ℕ) (e : ℕ × ThreadState) → Ascending n ts → slice_get ts i ≡ Some e → n ≤ e.0
+pub at_least : (n : ℕ) (ts : Threads) (i : ℕ) (e : ℕ × ThreadState) → Ascending n ts → slice_get ts i ≡ Some e → n ≤ e.0
 at_least n [] i e a at = absurd cc
 at_least n (x ∷ ts) zero e a at = let same : x.0 ≡ e.0 = ap (λ (q : ℕ × ThreadState). q.0) (same_Some x e at) in let low = a.0 in omega arith
 at_least n (x ∷ ts) (suc i) e a at = let h = at_least (suc x.0) ts i e a.1 at in let low = a.0 in omega arith

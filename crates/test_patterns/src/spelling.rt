@@ -1,6 +1,7 @@
 // Patterns, trees, sets and covers as short texts. A pattern is spelled with its parts first: `mn.` is m.n, `mn+` is m + n, and `m*` is *m;
-// `$` is the one variable. So are trees: `e` and `s` are the empty words of 1 and of a star, `t` is a tag, `l` and `r` choose a side, `b` is
-// both sides, `p` is one part of a star and more, `v` a variable.
+// `$` and `%` are the first and the second variable, and a small letter from `m` on is the tag with its place from `m`. So are trees: `e`
+// and `s` are the empty words of 1 and of a star, `t` is a tag, `l` and `r` choose a side, `b` is both sides, `p` is one part of a star and
+// more, `v` a variable.
 
 use pat_bags::Bag;
 use pat_cover_certificates::CoverEntry;
@@ -27,9 +28,9 @@ pub fn push_letter(alloc: Global, letter: u8, done: &mut Vec<Pattern>) -> Result
     };
     let node = match letter {
         b'1' => Pattern::One,
-        b'm' => Pattern::Tag(0),
-        b'n' => Pattern::Tag(1),
+        b'm'..=b'z' => Pattern::Tag(letter - b'm'),
         b'$' => Pattern::Var(0),
+        b'%' => Pattern::Var(1),
         b'+' => Pattern::Sum(Arc::new(alloc, take(done))?, Arc::new(alloc, right)?),
         b'.' => Pattern::Prod(Arc::new(alloc, take(done))?, Arc::new(alloc, right)?),
         b'*' => Pattern::Star(Arc::new(alloc, take(done))?),

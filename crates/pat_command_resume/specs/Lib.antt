@@ -1,0 +1,4 @@
+pub mod Parts
+pub mod Allowed
+pub mod Answers
+pub mod Gives
