@@ -5,6 +5,7 @@ use Rattle.pat_grid.proofs.Relaxing.{moved_both, before_more}
 use Rattle.pat_grid.proofs.Summing.{rows_within_kept}
 use Rattle.pat_grid.proofs.tables.sums.relax_rows_within.Goals as goal
 
+-- What a loop over rows of any kind owes is `moved_both`, as for the products of parts; what is left names this loop's steps.
 pub relax_row_within-requires-clause-takes : goal.relax_row_within-requires-clause-takes
 relax_row_within-requires-clause-takes c = (c.requires.firsts c.loop-first.first-index c.loop-first-test.true).1
 
