@@ -36,8 +36,8 @@ impl Config {
         }
     }
 
-    // The same of the thread at a place.
-    fn act_at_place(&self, code: &Executable, thread: u32, place: usize) -> Option<Act>
+    /// The least act that is enabled for the thread at this place, if there is one: no thread is searched for.
+    pub fn act_at_place(&self, code: &Executable, thread: u32, place: usize) -> Option<Act>
         requires { IsPlace self.now.threads thread place }
         ensures enabled { EnabledAct (program_view code.now.program) (config_view self.now) thread (option_map act_view result) }
         ensures first { IsFirst (program_view code.now.program) (config_view self.now) thread (option_map act_view result) }
