@@ -43,9 +43,12 @@ fn cuts_show(
     requires tags { (scope_of (program_view program.now) (derivation_view derivation.now)).tags interface ≡ tags }
     requires fits { IsTrue (grid_fits k tags) }
     requires values { IsTrue (values_fit (scope_of (program_view program.now) (derivation_view derivation.now))) }
-    requires left { IsTrue (is_formed (scope_of (program_view program.now) (derivation_view derivation.now)) interface (pattern_view left.now)) }
-    requires right { IsTrue (is_formed (scope_of (program_view program.now) (derivation_view derivation.now)) interface (pattern_view right.now)) }
-    ensures { let s = scope_of (program_view program.now) (derivation_view derivation.now) in IfOk result (λ shown. shown ≡ grid_shows_of s k (s.tags interface) (pattern_view left.now) (pattern_view right.now)) }
+    requires left { IsTrue (is_formed (scope_of (program_view program.now) (derivation_view derivation.now)) interface
+        (pattern_view left.now)) }
+    requires right { IsTrue (is_formed (scope_of (program_view program.now) (derivation_view derivation.now)) interface
+        (pattern_view right.now)) }
+    ensures { let s = scope_of (program_view program.now) (derivation_view derivation.now) in
+        IfOk result (λ shown. shown ≡ grid_shows_of s k (s.tags interface) (pattern_view left.now) (pattern_view right.now)) }
 {
     let names = names_of(alloc, left, right)?;
     let all = names.as_slice();

@@ -88,7 +88,8 @@ fn both_lie_in<'a>(
     second: &Pattern,
     right: &'a Pattern,
 ) -> Result<Option<Inclusion<'a>>, AllocError>
-    ensures { IfOk result (λ o. listed (option_map inclusion_view o) ≡ inclusion interface (prod_of (pattern_view first.now) (pattern_view second.now)) (pattern_view right.now) ∷ []) }
+    ensures { IfOk result (λ o. listed (option_map inclusion_view o)
+        ≡ inclusion interface (prod_of (pattern_view first.now) (pattern_view second.now)) (pattern_view right.now) ∷ []) }
 {
     let first = first.copy()?;
     let second = second.copy()?;
@@ -107,7 +108,8 @@ fn join<'a>(
     body: &'a MailboxType,
     given: &'a MailboxType,
 ) -> Result<Option<Inclusion<'a>>, AllocError>
-    ensures { IfOk result (λ o. listed (option_map inclusion_view o) ≡ join_inclusions (type_view bound.now) (type_view body.now) (type_view given.now)) }
+    ensures { IfOk result (λ o. listed (option_map inclusion_view o)
+        ≡ join_inclusions (type_view bound.now) (type_view body.now) (type_view given.now)) }
 {
     let interface = of_three(bound.interface, body.interface, given.interface);
     match (bound.polarity, body.polarity, given.polarity) {
@@ -140,7 +142,8 @@ fn passed<'a>(
     given: &'a Option<MailboxType>,
     asked: &'a Option<MailboxType>,
 ) -> Option<Inclusion<'a>>
-    ensures { listed (option_map inclusion_view result) ≡ inclusions_of (Pass (option_map type_view given.now) (option_map type_view asked.now)) }
+    ensures { listed (option_map inclusion_view result)
+        ≡ inclusions_of (Pass (option_map type_view given.now) (option_map type_view asked.now)) }
 {
     match given {
         None => None,
@@ -158,7 +161,9 @@ fn divided<'a>(
     bound: Option<&'a MailboxType>,
     body: Option<&'a MailboxType>,
 ) -> Result<Option<Inclusion<'a>>, AllocError>
-    ensures { IfOk result (λ o. listed (option_map inclusion_view o) ≡ inclusions_of (Divide (Some (type_view given.now)) (option_map type_view (option_copied bound.entry)) (option_map type_view (option_copied body.entry)))) }
+    ensures { IfOk result (λ o. listed (option_map inclusion_view o)
+        ≡ inclusions_of (Divide (Some (type_view given.now)) (option_map type_view (option_copied bound.entry))
+        (option_map type_view (option_copied body.entry)))) }
 {
     match bound {
         None => match body {

@@ -85,9 +85,12 @@ fn shown_in(
     requires well { WellFormed (program_view program.now) }
     requires values { IsTrue (values_fit (scope_of (program_view program.now) (derivation_view derivation.now))) }
     requires plain { patterns_view plain.now ≡ all_plain (derivation_view derivation.now).vars }
-    requires left { IsTrue (is_formed_of (scope_of (program_view program.now) (derivation_view derivation.now)) interface (pattern_view left.now)) }
-    requires right { IsTrue (is_formed_of (scope_of (program_view program.now) (derivation_view derivation.now)) interface (pattern_view right.now)) }
-    ensures { IfOk result (Takes (scope_of (program_view program.now) (derivation_view derivation.now)) (Some interface) (pattern_view left.now) (pattern_view right.now) (certs_view certs.now)) }
+    requires left { IsTrue (is_formed_of (scope_of (program_view program.now) (derivation_view derivation.now)) interface
+        (pattern_view left.now)) }
+    requires right { IsTrue (is_formed_of (scope_of (program_view program.now) (derivation_view derivation.now)) interface
+        (pattern_view right.now)) }
+    ensures { IfOk result (Takes (scope_of (program_view program.now) (derivation_view derivation.now)) (Some interface)
+        (pattern_view left.now) (pattern_view right.now) (certs_view certs.now)) }
 {
     if is_trivial(alloc, plain, left, right)? {
         return Ok(Showing::Trivially);
@@ -117,7 +120,8 @@ fn shown(
     requires well { WellFormed (program_view program.now) }
     requires values { IsTrue (values_fit (scope_of (program_view program.now) (derivation_view derivation.now))) }
     requires plain { patterns_view plain.now ≡ all_plain (derivation_view derivation.now).vars }
-    ensures { IfOk result (Takes (scope_of (program_view program.now) (derivation_view derivation.now)) needed.now.interface (side_view needed.now.left) (pattern_view needed.now.right.now) (certs_view certs.now)) }
+    ensures { IfOk result (Takes (scope_of (program_view program.now) (derivation_view derivation.now)) needed.now.interface
+        (side_view needed.now.left) (pattern_view needed.now.right.now) (certs_view certs.now)) }
 {
     match needed.interface {
         None => Ok(Showing::NotShown),
@@ -150,7 +154,8 @@ fn after_inclusion<'a>(
     requires well { WellFormed (program_view program.now) }
     requires values { IsTrue (values_fit (scope_of (program_view program.now) (derivation_view derivation.now))) }
     requires plain { patterns_view plain.now ≡ all_plain (derivation_view derivation.now).vars }
-    ensures { IfOk result (λ o. Leaves (scope_of (program_view program.now) (derivation_view derivation.now)) (inclusions_of (demand_view demand.now)) (certs_view certs.now) (option_map certs_view (option_copied o))) }
+    ensures { IfOk result (λ o. Leaves (scope_of (program_view program.now) (derivation_view derivation.now))
+        (inclusions_of (demand_view demand.now)) (certs_view certs.now) (option_map certs_view (option_copied o))) }
 {
     match inclusion_of(alloc, demand)? {
         None => Ok(Some(certs)),
@@ -171,7 +176,8 @@ fn after_reflexive<'a>(
     needed: Reflexive,
     certs: &'a [Cert],
 ) -> Option<&'a [Cert]>
-    ensures { Leaves (scope_of (program_view program.now) (derivation_view derivation.now)) (reflexive_view needed.entry ∷ []) (certs_view certs.now) (option_map certs_view (option_copied result)) }
+    ensures { Leaves (scope_of (program_view program.now) (derivation_view derivation.now)) (reflexive_view needed.entry ∷ [])
+        (certs_view certs.now) (option_map certs_view (option_copied result)) }
 {
     if is_formed(program, derivation, needed.interface, needed.pattern) {
         Some(certs)
@@ -193,7 +199,8 @@ fn after<'a>(
     requires well { WellFormed (program_view program.now) }
     requires values { IsTrue (values_fit (scope_of (program_view program.now) (derivation_view derivation.now))) }
     requires plain { patterns_view plain.now ≡ all_plain (derivation_view derivation.now).vars }
-    ensures { IfOk result (λ o. Leaves (scope_of (program_view program.now) (derivation_view derivation.now)) (inclusions_of (demand_view demand.now)) (certs_view certs.now) (option_map certs_view (option_copied o))) }
+    ensures { IfOk result (λ o. Leaves (scope_of (program_view program.now) (derivation_view derivation.now))
+        (inclusions_of (demand_view demand.now)) (certs_view certs.now) (option_map certs_view (option_copied o))) }
 {
     match reflexive_of(demand) {
         Some(needed) => Ok(after_reflexive(program, derivation, needed, certs)),

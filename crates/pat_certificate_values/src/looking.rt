@@ -82,7 +82,8 @@ fn is_formed_within(
     interface: u32,
     pattern: &Pattern,
 ) -> bool
-    ensures { result ≡ is_formed_of (scope_of (program_view program.now) (derivation_view derivation.now)) interface (pattern_view pattern.now) }
+    ensures { result ≡ is_formed_of (scope_of (program_view program.now) (derivation_view derivation.now)) interface
+        (pattern_view pattern.now) }
 {
     match pattern {
         Pattern::Zero | Pattern::One => true,

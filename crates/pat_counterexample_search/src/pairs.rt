@@ -19,7 +19,8 @@ pub fn find_pair(
 ) -> Option<(usize, usize)>
     requires board { IsBoard board.now }
     requires all { HasAllEntries (setting_of board.now) entries.now }
-    ensures some { IfSome result (λ pair. (from ≤ pair.0) × ArePair (setting_of board.now) entries.now number size parts.0 pair.0 parts.1 pair.1) }
+    ensures some { IfSome result (λ pair. (from ≤ pair.0)
+        × ArePair (setting_of board.now) entries.now number size parts.0 pair.0 parts.1 pair.1) }
     ensures none { IfNone result ((i j : ℕ) → from ≤ i → ArePair (setting_of board.now) entries.now number size parts.0 i parts.1 j → ⊥) }
 {
     for first in from..board.points {

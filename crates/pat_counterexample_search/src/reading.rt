@@ -115,7 +115,8 @@ fn better(
     requires board { IsBoard board.now }
     requires all { HasAllEntries (setting_of board.now) entries.now }
     requires number { number < board.now.points }
-    ensures { (most : ℕ) → IsBest (setting_of board.now) entries.now left right most number best.found best.above → IsBest (setting_of board.now) entries.now left right most (number + 1) result.found result.above }
+    ensures { (most : ℕ) → IsBest (setting_of board.now) entries.now left right most number best.found best.above
+        → IsBest (setting_of board.now) entries.now left right most (number + 1) result.found result.above }
 {
     let one = entry(board, entries, left, number);
     let other = entry(board, entries, right, number);

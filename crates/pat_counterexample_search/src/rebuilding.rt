@@ -24,7 +24,8 @@ pub fn rebuild(
 ) -> Result<Bound, AllocError>
     requires ready { IsReady board.now entries.now }
     requires place { HasRoom board.now entries.now place (word_of word.old) }
-    ensures { IfOk result (λ tree. Rebuilt (setting_of board.now) place (entry_of (setting_of board.now) entries.now place) (word_of word.old) (bound_view tree) (word_of word.new)) }
+    ensures { IfOk result (λ tree. Rebuilt (setting_of board.now) place (entry_of (setting_of board.now) entries.now place)
+        (word_of word.old) (bound_view tree) (word_of word.new)) }
 {
     match choose(board, entries, place) {
         Choice::Empty => Ok(Bound::Empty),

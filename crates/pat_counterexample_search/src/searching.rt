@@ -40,8 +40,10 @@ pub fn refute(
     requires right { IsTrue (tags_below tags (pattern_view right.now)) }
     requires flat { IsTrue (is_flat (pattern_view right.now)) }
     requires degree { degree_of (pattern_view right.now) < k }
-    ensures answer { IfOk result (λ answer. IsAnswer most_tree_nodes (bounds_of (patterns_view system.now)) (pattern_view left.now) (pattern_view right.now) (search_view answer)) }
-    ensures least { IfOk result (λ answer. IsLeastAnswer (bounds_of (patterns_view system.now)) (pattern_view left.now) (pattern_view right.now) (search_view answer)) }
+    ensures answer { IfOk result (λ answer. IsAnswer most_tree_nodes (bounds_of (patterns_view system.now)) (pattern_view left.now)
+        (pattern_view right.now) (search_view answer)) }
+    ensures least { IfOk result (λ answer. IsLeastAnswer (bounds_of (patterns_view system.now)) (pattern_view left.now)
+        (pattern_view right.now) (search_view answer)) }
 {
     closed_laws();
     let mut symbols = Sequence::new(alloc);

@@ -31,7 +31,8 @@ fn put_var_line(
     interface: u32,
     value: &VarValue,
 ) -> Result<(), AllocError>
-    ensures { OnOk result (out.new.items ≡ out.old.items ++ (var_line (program_view program.now) number (var_view (interface, value.now)) ++ 10 ∷ [])) }
+    ensures { OnOk result (out.new.items ≡ out.old.items
+        ++ (var_line (program_view program.now) number (var_view (interface, value.now)) ++ 10 ∷ [])) }
 {
     put_head(out, b"var ", number)?;
     put_var(alloc, out, program, interface, value)?;
@@ -76,7 +77,8 @@ fn put_vars(
     program: &Program,
     vars: &[(u32, VarValue)],
 ) -> Result<(), AllocError>
-    ensures { OnOk result (out.new.items ≡ out.old.items ++ text_of_lines (numbered (var_line (program_view program.now)) 1 (vars_view vars.now))) }
+    ensures { OnOk result (out.new.items ≡ out.old.items
+        ++ text_of_lines (numbered (var_line (program_view program.now)) 1 (vars_view vars.now))) }
 {
     let mut number: u64 = 1;
     for (interface, value) in vars {
@@ -93,7 +95,8 @@ fn put_nodes(
     program: &Program,
     nodes: &[DerivedNode],
 ) -> Result<(), AllocError>
-    ensures { OnOk result (out.new.items ≡ out.old.items ++ text_of_lines (numbered (node_line (program_view program.now)) 0 (lines_view nodes.now))) }
+    ensures { OnOk result (out.new.items ≡ out.old.items
+        ++ text_of_lines (numbered (node_line (program_view program.now)) 0 (lines_view nodes.now))) }
 {
     let mut number: u64 = 0;
     for node in nodes {

@@ -49,7 +49,9 @@ fn put_mailbox_of(
     polarity: Polarity,
     pattern: &Pattern,
 ) -> Result<(), AllocError>
-    ensures { OnOk result (out.new.items ≡ out.old.items ++ (interface.now.name ++ polarity_mark (polarity_view polarity) ∷ pat_text (print.tag_names (interface_view interface.now)) (pattern_view pattern.now))) }
+    ensures { OnOk result (out.new.items ≡ out.old.items
+        ++ (interface.now.name ++ polarity_mark (polarity_view polarity)
+        ∷ pat_text (print.tag_names (interface_view interface.now)) (pattern_view pattern.now))) }
 {
     put(out, interface.name.as_bytes())?;
     out.push(mark_of(polarity))?;
@@ -65,7 +67,8 @@ fn put_mailbox(
     polarity: Polarity,
     pattern: &Pattern,
 ) -> Result<(), AllocError>
-    ensures { OnOk result (out.new.items ≡ out.old.items ++ mailbox_text (program_view program.now) number (polarity_view polarity) (pattern_view pattern.now)) }
+    ensures { OnOk result (out.new.items ≡ out.old.items
+        ++ mailbox_text (program_view program.now) number (polarity_view polarity) (pattern_view pattern.now)) }
 {
     let interfaces = program.interfaces.as_slice();
     let place = number as usize;
@@ -139,7 +142,8 @@ fn put_more_named(
     program: &Program,
     needs: &[(u32, MailboxType)],
 ) -> Result<(), AllocError>
-    ensures { OnOk result (out.new.items ≡ out.old.items ++ flat_map (λ y. 44 ∷ y) (map (λ f. 32 ∷ named_text (program_view program.now) f) (needs_view needs.now))) }
+    ensures { OnOk result (out.new.items ≡ out.old.items
+        ++ flat_map (λ y. 44 ∷ y) (map (λ f. 32 ∷ named_text (program_view program.now) f) (needs_view needs.now))) }
 {
     for (variable, of) in needs {
         put(out, b", ")?;
@@ -195,7 +199,8 @@ fn put_value(
     interface: &Interface,
     value: &VarValue,
 ) -> Result<(), AllocError>
-    ensures { OnOk result (out.new.items ≡ out.old.items ++ value_text (print.tag_names (interface_view interface.now)) (value_view value.now)) }
+    ensures { OnOk result (out.new.items ≡ out.old.items
+        ++ value_text (print.tag_names (interface_view interface.now)) (value_view value.now)) }
 {
     match value {
         VarValue::Pattern(pattern) => push_pattern(alloc, out, pattern, interface),
@@ -214,7 +219,8 @@ fn put_var_of(
     interface: &Interface,
     value: &VarValue,
 ) -> Result<(), AllocError>
-    ensures { OnOk result (out.new.items ≡ out.old.items ++ (interface.now.name ++ 32 ∷ value_text (print.tag_names (interface_view interface.now)) (value_view value.now))) }
+    ensures { OnOk result (out.new.items ≡ out.old.items
+        ++ (interface.now.name ++ 32 ∷ value_text (print.tag_names (interface_view interface.now)) (value_view value.now))) }
 {
     put(out, interface.name.as_bytes())?;
     out.push(b' ')?;

@@ -212,7 +212,8 @@ fn read_others(
     needs: Sequence<(u32, MailboxType)>,
 ) -> Result<Sequence<(u32, MailboxType)>, Unread>
     requires { length program.now.interfaces < number_count }
-    ensures { Gives needs_view (then_read (needs_view needs) (read_each (reading.read_next (program_view program.now)) (pieces_left 44 others.entry))) result }
+    ensures { Gives needs_view (then_read (needs_view needs)
+        (read_each (reading.read_next (program_view program.now)) (pieces_left 44 others.entry))) result }
 {
     let mut needs = needs;
     let mut rest = others;

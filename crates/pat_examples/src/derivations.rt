@@ -61,7 +61,8 @@ pub fn refused_derivations()
 /// Closed forms, cut words, and covers that show nothing.
 pub fn forms_and_cuts()
     ensures period_left_out { is_cover 1 (sets_of 1 (Star (Tag 0))) (sets_of 1 One) (entry 0 [] ([] ∷ []) ∷ []) ≡ false }
-    ensures large_number { is_cover 1 (sets_of 1 One) (sets_of 1 (Prod (Tag 0) (Star (Tag 0)))) (entry 0 (4294967295 ∷ []) [] ∷ []) ≡ false }
+    ensures large_number { is_cover 1 (sets_of 1 One) (sets_of 1 (Prod (Tag 0) (Star (Tag 0)))) (entry 0 (4294967295 ∷ []) [] ∷ [])
+        ≡ false }
     ensures form_of_star { HasForm 2 (Star (Sum (Tag 0) (Prod (Tag 0) (Star (Tag 1)))))
         ((0 ∷ 0 ∷ [], (1 ∷ 0 ∷ []) ∷ []) ∷ (1 ∷ 0 ∷ [], (1 ∷ 0 ∷ []) ∷ (0 ∷ 1 ∷ []) ∷ []) ∷ []) }
     ensures two_in_any { cuts_lie 1 1 (Prod (Tag 0) (Tag 0)) any ≡ true }

@@ -53,10 +53,12 @@ pub fn tree_of(alloc: Global, input: Input) -> Result<(Tree, u32), FrontError>
 /// The program of the tree of a text that has so many bytes.
 pub fn program_of(alloc: Global, tree: &Tree, end: u32) -> Result<Program, FrontError>
     requires small { tree_size (tree_view tree.now) < most_number }
-    ensures program { (bytes : List ℕ) → IsTreeText bytes (tree_view tree.now) → end ≡ length bytes → IfOk result (λ p. IsProgramText bytes (tree_view tree.now) (program_view p)) }
+    ensures program { (bytes : List ℕ) → IsTreeText bytes (tree_view tree.now) → end ≡ length bytes
+        → IfOk result (λ p. IsProgramText bytes (tree_view tree.now) (program_view p)) }
     ensures places { IfOk result (λ p. places_view p ≡ places (tree_view tree.now)) }
     // All that later calls ask of a program.
-    ensures is_resolved { (bytes : List ℕ) → IsTreeText bytes (tree_view tree.now) → end ≡ length bytes → IfOk result (λ p. IsResolved (program_view p) (places_view p)) }
+    ensures is_resolved { (bytes : List ℕ) → IsTreeText bytes (tree_view tree.now) → end ≡ length bytes
+        → IfOk result (λ p. IsResolved (program_view p) (places_view p)) }
     ensures refused { (bytes : List ℕ) → IsTreeText bytes (tree_view tree.now) → end ≡ length bytes → IfErr result (Explains bytes) }
 {
     match pat_resolver::resolve(alloc, tree, end) {
@@ -68,7 +70,8 @@ pub fn program_of(alloc: Global, tree: &Tree, end: u32) -> Result<Program, Front
 /// Whether the tree of a text that has so many bytes has a program.
 pub fn check_tree(alloc: Global, tree: &Tree, end: u32) -> Result<(), FrontError>
     requires small { tree_size (tree_view tree.now) < most_number }
-    ensures program { (bytes : List ℕ) → IsTreeText bytes (tree_view tree.now) → end ≡ length bytes → OnOk result ((p : AnyProgram) × IsProgramText bytes (tree_view tree.now) p) }
+    ensures program { (bytes : List ℕ) → IsTreeText bytes (tree_view tree.now) → end ≡ length bytes
+        → OnOk result ((p : AnyProgram) × IsProgramText bytes (tree_view tree.now) p) }
     ensures refused { (bytes : List ℕ) → IsTreeText bytes (tree_view tree.now) → end ≡ length bytes → IfErr result (Explains bytes) }
 {
     match pat_resolver::examine(alloc, tree, end) {
@@ -78,7 +81,8 @@ pub fn check_tree(alloc: Global, tree: &Tree, end: u32) -> Result<(), FrontError
 }
 
 fn of_resolver(refusal: ResolveError) -> FrontError
-    ensures { (bytes : List ℕ) (t : AnyTree) (end : ℕ) → IsTreeText bytes t → end ≡ length bytes → ExplainsTree end t refusal → Explains bytes result }
+    ensures { (bytes : List ℕ) (t : AnyTree) (end : ℕ) → IsTreeText bytes t → end ≡ length bytes → ExplainsTree end t refusal
+        → Explains bytes result }
 {
     match refusal {
         ResolveError::Broken { kind, span } => FrontError::Refused(Verdict::Resolve(kind, span)),
@@ -97,7 +101,8 @@ fn of_lexer(refusal: LexError) -> FrontError
 }
 
 fn of_parser(refusal: ParseError) -> FrontError
-    ensures { (bytes : List ℕ) (tokens : List Spanned) → length bytes ≤ limit → Divides bytes tokens → ExplainsTokens (length bytes) tokens refusal → Explains bytes result }
+    ensures { (bytes : List ℕ) (tokens : List Spanned) → length bytes ≤ limit → Divides bytes tokens
+        → ExplainsTokens (length bytes) tokens refusal → Explains bytes result }
 {
     match refusal {
         ParseError::Unexpected(offset) => FrontError::Refused(Verdict::Syntax(offset)),

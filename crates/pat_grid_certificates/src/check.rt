@@ -59,7 +59,9 @@ fn cuts_show(
     requires left { IsTrue (tags_below tags (pattern_view left.now)) }
     requires right { IsTrue (right_tags tags (right_view right.now)) }
     requires values { ValuesFit tags (values_view vars.now) }
-    ensures { let vs = values_view vars.now in IfOk result (λ yes. IsTrue yes ↔ (IsTrue (is_large k vs (right_view right.now)) × CutsLie k tags (subst_of (patterns_of tags vs) (pattern_view left.now)) (right_of tags vs (right_view right.now)))) }
+    ensures { let vs = values_view vars.now in
+        IfOk result (λ yes. IsTrue yes ↔ (IsTrue (is_large k vs (right_view right.now))
+        × CutsLie k tags (subst_of (patterns_of tags vs) (pattern_view left.now)) (right_of tags vs (right_view right.now)))) }
 {
     if !is_large_enough(right, vars, k) {
         return Ok(false);

@@ -138,7 +138,9 @@ fn begin<T: Copy + Drop>(
 ) -> Result<(), AllocError>
     requires there { block < length starts.old }
     requires first { 16 ≤ length blocks.old }
-    ensures ok { (count : ℕ) (common : T) → AreBlocks count common starts.old blocks.old → OnOk result (AreBlocks count common starts.new blocks.new × (sparse count common starts.new blocks.new ≡ sparse count common starts.old blocks.old) × (get_or starts.new block 0 ≡ 0 → ⊥)) }
+    ensures ok { (count : ℕ) (common : T) → AreBlocks count common starts.old blocks.old
+        → OnOk result (AreBlocks count common starts.new blocks.new
+        × (sparse count common starts.new blocks.new ≡ sparse count common starts.old blocks.old) × (get_or starts.new block 0 ≡ 0 → ⊥)) }
     ensures err { OnErr result ((starts.new ≡ starts.old) × (blocks.new ≡ blocks.old)) }
 {
     if starts.as_slice()[block] != 0 {
@@ -179,7 +181,8 @@ pub fn run_of<T: Copy + PartialEq>(blocks: &[T], place: usize) -> usize
 /// The first block past this one that has items of its own.
 fn next_begun(starts: &[usize], block: usize) -> Option<usize>
     requires { block < length starts.now }
-    ensures some { IfSome result (λ next. (block < next) × (next < length starts.now) × ((a : ℕ) → block < a → a < next → get_or starts.now a 0 ≡ 0)) }
+    ensures some { IfSome result (λ next. (block < next) × (next < length starts.now)
+        × ((a : ℕ) → block < a → a < next → get_or starts.now a 0 ≡ 0)) }
     ensures none { IfNone result ((a : ℕ) → block < a → get_or starts.now a 0 ≡ 0) }
 {
     for next in block + 1..starts.len() {

@@ -36,7 +36,8 @@ fn push_digits(
 ) -> Result<(), AllocError>
     requires room { (above + 1) * (k + 1) ≤ most_points }
     requires digit { digit ≤ k }
-    ensures { (n v made : ℕ) → above ≡ summed k n (v / (k + 1)) made → digit ≡ v % (k + 1) → RowTo k (n + 1) v (made * (k + 1)) row.old → OnOk result (RowTo k (n + 1) v ((made + 1) * (k + 1)) row.new) }
+    ensures { (n v made : ℕ) → above ≡ summed k n (v / (k + 1)) made → digit ≡ v % (k + 1) → RowTo k (n + 1) v (made * (k + 1)) row.old
+        → OnOk result (RowTo k (n + 1) v ((made + 1) * (k + 1)) row.new) }
 {
     let most = k as usize;
     for other in 0..most + 1 {

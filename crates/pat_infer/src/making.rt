@@ -49,7 +49,9 @@ fn empty_problem(alloc: Global, program: &Program) -> Result<Problem, AllocError
 /// Walks the functions in order.
 fn walk_all(alloc: Global, signed: &Signed, problem: &mut Problem) -> Result<(), InferError>
     requires { IsSigned signed.now }
-    ensures { Finds signed.now.program.now problem.old problem.new result (found_of_functions (program_view signed.now.program.now) 0 (1 + length problem.old.vars) (program_view signed.now.program.now).functions) }
+    ensures { Finds signed.now.program.now problem.old problem.new result
+        (found_of_functions (program_view signed.now.program.now) 0 (1 + length problem.old.vars)
+        (program_view signed.now.program.now).functions) }
 {
     for number in 0..signed.program.functions.len() {
         walk_at(alloc, signed, number, problem)?;
@@ -66,7 +68,9 @@ fn walk_at(
 ) -> Result<(), InferError>
     requires signed { IsSigned signed.now }
     requires within { number < length signed.now.program.now.functions }
-    ensures { (g : GhostFunction) → slice_get (program_view signed.now.program.now).functions number ≡ Some g → Finds signed.now.program.now problem.old problem.new result (found_of_function (program_view signed.now.program.now) number g (1 + length problem.old.vars)) }
+    ensures { (g : GhostFunction) → slice_get (program_view signed.now.program.now).functions number ≡ Some g
+        → Finds signed.now.program.now problem.old problem.new result
+        (found_of_function (program_view signed.now.program.now) number g (1 + length problem.old.vars)) }
 {
     let function = &signed.program.functions.as_slice()[number];
     let signature = &signed.signatures[number];

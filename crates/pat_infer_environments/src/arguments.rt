@@ -27,8 +27,10 @@ pub fn args_needs(
     types: &[Option<MailboxType>],
     args: &[Expr],
 ) -> Result<Arguments, AllocError>
-    ensures needs { IfOk result (λ r. needs_view r.needs ≡ needs_of_args (types_at (map (option_map type_view) types.now)) 0 (map expr_view args.now)) }
-    ensures twice { IfOk result (λ r. r.has_twice ≡ has_twice (mailbox_args (types_at (map (option_map type_view) types.now)) 0 (map expr_view args.now))) }
+    ensures needs { IfOk result (λ r. needs_view r.needs
+        ≡ needs_of_args (types_at (map (option_map type_view) types.now)) 0 (map expr_view args.now)) }
+    ensures twice { IfOk result (λ r. r.has_twice
+        ≡ has_twice (mailbox_args (types_at (map (option_map type_view) types.now)) 0 (map expr_view args.now))) }
 {
     let mut all = Arguments {
         needs: Sequence::new(alloc),
@@ -55,8 +57,10 @@ pub fn type_at(types: &[Option<MailboxType>], place: usize) -> Option<&MailboxTy
 
 /// Adds what an argument needs, before what those behind it need.
 fn add_argument(of: Option<&MailboxType>, arg: &Expr, all: &mut Arguments) -> Result<(), AllocError>
-    ensures needs { OnOk result (needs_view all.new.needs ≡ with_argument (option_map (λ a. type_view a.now) of.entry) (expr_view arg.now) (needs_view all.old.needs)) }
-    ensures twice { OnOk result (all.new.has_twice ≡ twice_with (option_map (λ a. type_view a.now) of.entry) (expr_view arg.now) (needs_view all.old.needs) all.old.has_twice) }
+    ensures needs { OnOk result (needs_view all.new.needs
+        ≡ with_argument (option_map (λ a. type_view a.now) of.entry) (expr_view arg.now) (needs_view all.old.needs)) }
+    ensures twice { OnOk result (all.new.has_twice
+        ≡ twice_with (option_map (λ a. type_view a.now) of.entry) (expr_view arg.now) (needs_view all.old.needs) all.old.has_twice) }
 {
     match (of, arg) {
         (Some(of), Expr::Var(variable)) => add_variable(of, *variable, all),

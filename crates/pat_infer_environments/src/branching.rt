@@ -61,7 +61,8 @@ pub fn join_branches(
     needs: &[Option<&MailboxType>],
     problem: &mut Problem,
 ) -> Result<Option<MailboxType>, AllocError>
-    ensures { Combines program.now problem.old problem.new result (branches node (1 + length problem.old.vars) variable (column_view needs.now)) }
+    ensures { Combines program.now problem.old problem.new result
+        (branches node (1 + length problem.old.vars) variable (column_view needs.now)) }
 {
     match first_of(needs) {
         None => Ok(None),
@@ -90,7 +91,8 @@ fn send_in(
     first: &MailboxType,
     needs: &[Option<&MailboxType>],
 ) -> Result<Option<MailboxType>, AllocError>
-    ensures { IfOk result (λ o. option_map type_view o ≡ Some (mailbox_type first.now.interface Sending (sum_of_needs (column_view needs.now)) (branch_usage (column_view needs.now)))) }
+    ensures { IfOk result (λ o. option_map type_view o
+        ≡ Some (mailbox_type first.now.interface Sending (sum_of_needs (column_view needs.now)) (branch_usage (column_view needs.now)))) }
 {
     let pattern = sum_of(alloc, needs)?;
     Ok(Some(MailboxType {
@@ -147,7 +149,8 @@ fn receive_in(
     needs: &[Option<&MailboxType>],
     problem: &mut Problem,
 ) -> Result<Option<MailboxType>, AllocError>
-    ensures { Combines program.now problem.old problem.new result (received_in node (1 + length problem.old.vars) variable (type_view first.now) (column_view needs.now)) }
+    ensures { Combines program.now problem.old problem.new result
+        (received_in node (1 + length problem.old.vars) variable (type_view first.now) (column_view needs.now)) }
 {
     let usage = usage_of(needs);
     if have_all(&first.pattern, needs) {
@@ -206,7 +209,8 @@ fn add_each(
     needs: &[Option<&MailboxType>],
     problem: &mut Problem,
 ) -> Result<(), AllocError>
-    ensures { OnOk result (Grows problem.old problem.new [] (map (placed_constraint program.now) (each_receives node number interface (column_view needs.now))) []) }
+    ensures { OnOk result (Grows problem.old problem.new []
+        (map (placed_constraint program.now) (each_receives node number interface (column_view needs.now))) []) }
 {
     let span = node_span(program, node);
     for need in needs {

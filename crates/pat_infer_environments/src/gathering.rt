@@ -25,7 +25,8 @@ pub fn gather_parts(
     body: &[(u32, MailboxType)],
     problem: &mut Problem,
 ) -> Result<Sequence<(u32, MailboxType)>, AllocError>
-    ensures { Gathers program.now problem.old problem.new result (let_gathered node (1 + length problem.old.vars) (needs_view bound.now) (needs_view body.now)) }
+    ensures { Gathers program.now problem.old problem.new result
+        (let_gathered node (1 + length problem.old.vars) (needs_view bound.now) (needs_view body.now)) }
 {
     let names = names_of_parts(alloc, bound, body)?;
     let mut needs = Sequence::new(alloc);
@@ -69,7 +70,8 @@ pub fn gather_branches(
     branches: &[Sequence<(u32, MailboxType)>],
     problem: &mut Problem,
 ) -> Result<Sequence<(u32, MailboxType)>, AllocError>
-    ensures { Gathers program.now problem.old problem.new result (outer_gathered node (1 + length problem.old.vars) (map needs_view branches.now)) }
+    ensures { Gathers program.now problem.old problem.new result
+        (outer_gathered node (1 + length problem.old.vars) (map needs_view branches.now)) }
 {
     let names = names_of(alloc, branches)?;
     let mut needs = Sequence::new(alloc);

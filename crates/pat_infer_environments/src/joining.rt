@@ -27,7 +27,8 @@ pub fn join_parts(
     body: Option<&MailboxType>,
     problem: &mut Problem,
 ) -> Result<Option<MailboxType>, AllocError>
-    ensures { Combines program.now problem.old problem.new result (both_parts node (1 + length problem.old.vars) variable (need_ref bound.entry) (need_ref body.entry)) }
+    ensures { Combines program.now problem.old problem.new result
+        (both_parts node (1 + length problem.old.vars) variable (need_ref bound.entry) (need_ref body.entry)) }
 {
     match (bound, body) {
         (None, None) => Ok(None),
@@ -54,7 +55,9 @@ fn join_needs(
     body: &MailboxType,
     problem: &mut Problem,
 ) -> Result<Option<MailboxType>, AllocError>
-    ensures { Combines program.now problem.old problem.new result (parts_joined node (1 + length problem.old.vars) variable (polarity_view bound.now.polarity) (polarity_view body.now.polarity) (type_view bound.now) (type_view body.now)) }
+    ensures { Combines program.now problem.old problem.new result
+        (parts_joined node (1 + length problem.old.vars) variable (polarity_view bound.now.polarity) (polarity_view body.now.polarity)
+        (type_view bound.now) (type_view body.now)) }
 {
     match (bound.polarity, body.polarity) {
         (Polarity::Sending, Polarity::Sending) => send_both(alloc, bound, body),
@@ -87,7 +90,9 @@ fn send_both(
     bound: &MailboxType,
     body: &MailboxType,
 ) -> Result<Option<MailboxType>, AllocError>
-    ensures { IfOk result (λ o. option_map type_view o ≡ Some (mailbox_type body.now.interface Sending (prod_of (pattern_view bound.now.pattern) (pattern_view body.now.pattern)) (usage_view body.now.usage))) }
+    ensures { IfOk result (λ o. option_map type_view o
+        ≡ Some (mailbox_type body.now.interface Sending (prod_of (pattern_view bound.now.pattern) (pattern_view body.now.pattern))
+        (usage_view body.now.usage))) }
 {
     let first = bound.pattern.copy()?;
     let second = body.pattern.copy()?;
@@ -111,7 +116,8 @@ fn receive(
     received: &Pattern,
     problem: &mut Problem,
 ) -> Result<Option<MailboxType>, AllocError>
-    ensures { Combines program.now problem.old problem.new result (received_by node (1 + length problem.old.vars) variable (type_view of.now) (pattern_view sent.now) (pattern_view received.now)) }
+    ensures { Combines program.now problem.old problem.new result
+        (received_by node (1 + length problem.old.vars) variable (type_view of.now) (pattern_view sent.now) (pattern_view received.now)) }
 {
     let span = node_span(program, node);
     let number = add_variable(

@@ -80,7 +80,9 @@ fn check_found(
 
 /// The first receiving name that isn't needed.
 fn unused(function: usize, binders: &[Binder]) -> Option<usize>
-    ensures { first_of (broken_name UnusedRule function result) ≡ first_of (each_unless (λ b. used_as b.type.polarity b.need) UnusedRule (λ b. AtName function b.name) (map binder_view binders.now)) }
+    ensures { first_of (broken_name UnusedRule function result)
+        ≡ first_of (each_unless (λ b. used_as b.type.polarity b.need) UnusedRule (λ b. AtName function b.name)
+        (map binder_view binders.now)) }
 {
     for binder in binders {
         if !is_used(binder) {
@@ -92,7 +94,9 @@ fn unused(function: usize, binders: &[Binder]) -> Option<usize>
 
 /// The first name that is needed as the other polarity.
 fn turned(function: usize, binders: &[Binder]) -> Option<usize>
-    ensures { first_of (broken_name PolarityRule function result) ≡ first_of (each_unless (λ b. polarity_as b.type.polarity b.need) PolarityRule (λ b. AtName function b.name) (map binder_view binders.now)) }
+    ensures { first_of (broken_name PolarityRule function result)
+        ≡ first_of (each_unless (λ b. polarity_as b.type.polarity b.need) PolarityRule (λ b. AtName function b.name)
+        (map binder_view binders.now)) }
 {
     for binder in binders {
         if !has_polarity(binder) {
@@ -104,7 +108,9 @@ fn turned(function: usize, binders: &[Binder]) -> Option<usize>
 
 /// The first second-class name that is needed as returnable.
 fn returned(function: usize, binders: &[Binder]) -> Option<usize>
-    ensures { first_of (broken_name SecondRule function result) ≡ first_of (each_unless (λ b. usage_as b.type.usage b.need) SecondRule (λ b. AtName function b.name) (map binder_view binders.now)) }
+    ensures { first_of (broken_name SecondRule function result)
+        ≡ first_of (each_unless (λ b. usage_as b.type.usage b.need) SecondRule (λ b. AtName function b.name)
+        (map binder_view binders.now)) }
 {
     for binder in binders {
         if !has_usage(binder) {
@@ -174,7 +180,9 @@ fn constrain_name(
     binder: &Binder,
     problem: &mut Problem,
 ) -> Result<(), AllocError>
-    ensures { OnOk result (Grows problem.old problem.new [] (map (placed_constraint program.now) (name_constraints (AtName function binder.now.name) binder.now.of.interface (polarity_view binder.now.of.polarity) (type_view binder.now.of).pattern (binder_view binder.now).need)) []) }
+    ensures { OnOk result (Grows problem.old problem.new []
+        (map (placed_constraint program.now) (name_constraints (AtName function binder.now.name) binder.now.of.interface
+        (polarity_view binder.now.of.polarity) (type_view binder.now.of).pattern (binder_view binder.now).need)) []) }
 {
     let span = name_span(program, function, binder.name);
     let own = binder.of.pattern.copy()?;

@@ -127,7 +127,8 @@ fn constrain_result(
     asked: &TypeOf,
     problem: &mut Problem,
 ) -> Result<(), InferError>
-    ensures { Adds program.now problem.old problem.new result (result_constraints node (result_view given.now) (result_view asked.now)) (unless (result_agrees (result_view given.now) (result_view asked.now)) PolarityRule (AtNode node)) }
+    ensures { Adds program.now problem.old problem.new result (result_constraints node (result_view given.now) (result_view asked.now))
+        (unless (result_agrees (result_view given.now) (result_view asked.now)) PolarityRule (AtNode node)) }
 {
     match (given, asked) {
         (
@@ -166,7 +167,9 @@ fn constrain_patterns(
     other: Pattern,
     problem: &mut Problem,
 ) -> Result<(), AllocError>
-    ensures { OnOk result (Grows problem.old problem.new [] (placed_constraint program.now (directed node interface (polarity_view polarity) (pattern_view own) (pattern_view other)) ∷ []) []) }
+    ensures { OnOk result (Grows problem.old problem.new []
+        (placed_constraint program.now (directed node interface (polarity_view polarity) (pattern_view own) (pattern_view other))
+        ∷ []) []) }
 {
     let span = node_span(program, node);
     match polarity {
@@ -184,8 +187,10 @@ fn send_args(
     tag: u8,
     args: &[Expr],
 ) -> Result<Arguments, AllocError>
-    ensures needs { IfOk result (λ r. needs_view r.needs ≡ args_needs_of (declared_types (tag_at (program_view program.now) interface tag)) 0 (map expr_view args.now)) }
-    ensures twice { IfOk result (λ r. r.has_twice ≡ has_twice (mailbox_args (declared_types (tag_at (program_view program.now) interface tag)) 0 (map expr_view args.now))) }
+    ensures needs { IfOk result (λ r. needs_view r.needs
+        ≡ args_needs_of (declared_types (tag_at (program_view program.now) interface tag)) 0 (map expr_view args.now)) }
+    ensures twice { IfOk result (λ r. r.has_twice
+        ≡ has_twice (mailbox_args (declared_types (tag_at (program_view program.now) interface tag)) 0 (map expr_view args.now))) }
 {
     let types = types_of_tag(alloc, tag_of(program, interface, tag))?;
     args_needs(alloc, types.as_slice(), args)

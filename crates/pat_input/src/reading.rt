@@ -83,7 +83,8 @@ fn read_piece<S: Source>(
 ) -> Result<usize, InputError>
     requires small { total ≤ 1048576 }
     requires counted { lexer.old.refusal ≡ None → lexer.old.progress.position ≤ total }
-    ensures count { IfOk result (λ count. (piece : List ℕ) × Consumes (S.rest source.old) (S.rest source.new) piece × Fed lexer.old lexer.new piece × (length piece ≡ count)) }
+    ensures count { IfOk result (λ count. (piece : List ℕ) × Consumes (S.rest source.old) (S.rest source.new) piece
+        × Fed lexer.old lexer.new piece × (length piece ≡ count)) }
     ensures end { IfOk result (λ count. count ≡ 0 → IsAtEnd (S.rest source.new)) }
     ensures room { IfOk result (λ count. total + count ≤ 1048577) }
     ensures faults { FaultsAfter (S.faults source.old) (S.faults source.new) result }

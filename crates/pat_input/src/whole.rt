@@ -42,7 +42,8 @@ fn read_more<S: Source>(
     total: usize,
 ) -> Result<usize, InputError>
     requires small { total ≤ whole_limit }
-    ensures count { IfOk result (λ count. (piece : List ℕ) × Consumes (S.rest source.old) (S.rest source.new) piece × (bytes.new.items ≡ bytes.old.items ++ piece) × (length piece ≡ count)) }
+    ensures count { IfOk result (λ count. (piece : List ℕ) × Consumes (S.rest source.old) (S.rest source.new) piece
+        × (bytes.new.items ≡ bytes.old.items ++ piece) × (length piece ≡ count)) }
     ensures end { IfOk result (λ count. count ≡ 0 → IsAtEnd (S.rest source.new)) }
     ensures room { IfOk result (λ count. total + count ≤ 67108865) }
     ensures faults { FaultsAfter (S.faults source.old) (S.faults source.new) result }

@@ -39,8 +39,12 @@ fn broken_by(
     requires well { WellFormed (program_view program.now) }
     requires values { IsTrue (has_values (program_view program.now) (derivation_view derivation.now)) }
     requires tables { AreTables (program_view program.now) (derivation_view derivation.now) tables.now }
-    requires demands { demands_view demands.now ≡ demands_at (program_view program.now) (derivation_view derivation.now) (place number (node_view node.now) (function_view function.now) (line_view line.now)) }
-    ensures { IfOk result (λ o. option_map rule_view o ≡ after_alias (program_view program.now) (derivation_view derivation.now) (place number (node_view node.now) (function_view function.now) (line_view line.now))) }
+    requires demands { demands_view demands.now
+        ≡ demands_at (program_view program.now) (derivation_view derivation.now)
+        (place number (node_view node.now) (function_view function.now) (line_view line.now)) }
+    ensures { IfOk result (λ o. option_map rule_view o
+        ≡ after_alias (program_view program.now) (derivation_view derivation.now)
+        (place number (node_view node.now) (function_view function.now) (line_view line.now))) }
 {
     if !uses_well(demands) {
         return Ok(Some(Rule::Use));
@@ -80,7 +84,9 @@ fn broken_in_place(
     requires tables { AreTables (program_view program.now) (derivation_view derivation.now) tables.now }
     requires node { node_at (program_view program.now) number ≡ Some (node_view node.now) }
     requires function { function_at (program_view program.now) node.now.function ≡ Some (function_view function.now) }
-    ensures { IfOk result (λ o. option_map rule_view o ≡ broken_at (program_view program.now) (derivation_view derivation.now) (place number (node_view node.now) (function_view function.now) (line_view line.now))) }
+    ensures { IfOk result (λ o. option_map rule_view o
+        ≡ broken_at (program_view program.now) (derivation_view derivation.now)
+        (place number (node_view node.now) (function_view function.now) (line_view line.now))) }
 {
     let signatures = tables.signatures.as_slice();
     let above = tables.above.as_slice();
@@ -137,7 +143,9 @@ fn broken_at_node(
     requires values { IsTrue (has_values (program_view program.now) (derivation_view derivation.now)) }
     requires tables { AreTables (program_view program.now) (derivation_view derivation.now) tables.now }
     requires node { node_at (program_view program.now) number ≡ Some (node_view node.now) }
-    ensures { IfOk result (λ o. option_map rule_view o ≡ broken_in (program_view program.now) (derivation_view derivation.now) number (node_view node.now) (function_at (program_view program.now) node.now.function) (option_map line_view (option_copied line.entry))) }
+    ensures { IfOk result (λ o. option_map rule_view o
+        ≡ broken_in (program_view program.now) (derivation_view derivation.now) number (node_view node.now)
+        (function_at (program_view program.now) node.now.function) (option_map line_view (option_copied line.entry))) }
 {
     match function_of(program, node.function) {
         None => Ok(Some(Rule::Shape)),
@@ -162,7 +170,8 @@ pub fn broken_rule(
     requires well { WellFormed (program_view program.now) }
     requires values { IsTrue (has_values (program_view program.now) (derivation_view derivation.now)) }
     requires tables { AreTables (program_view program.now) (derivation_view derivation.now) tables.now }
-    ensures { IfOk result (λ o. option_map rule_view o ≡ broken_rule_of (program_view program.now) (derivation_view derivation.now) number) }
+    ensures { IfOk result (λ o. option_map rule_view o
+        ≡ broken_rule_of (program_view program.now) (derivation_view derivation.now) number) }
 {
     let line = line_of(derivation, number);
     match node_of(program, number) {

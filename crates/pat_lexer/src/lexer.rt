@@ -78,7 +78,8 @@ impl Lexer {
         ensures held { result.now ≡ self.now.progress.held }
         ensures known { (bytes : List ℕ) → HasRead bytes self.now → self.now.refusal ≡ None → Holds bytes self.now.progress }
         // They are the end of the bytes fed that whole pieces lead to, and of which nothing is known to be whole.
-        ensures end { (bytes : List ℕ) → HasRead bytes self.now → self.now.refusal ≡ None → IsHeld bytes self.now.progress.whole result.now }
+        ensures end { (bytes : List ℕ) → HasRead bytes self.now → self.now.refusal ≡ None
+            → IsHeld bytes self.now.progress.whole result.now }
     {
         self.reader.held.as_slice()
     }

@@ -654,7 +654,8 @@ impl Reader {
 
     /// The tokens of the text that ends here.
     pub fn finish(self) -> Result<Vec<Token>, LexError>
-        ensures divided { IfOk result (λ tokens. (text : List ℕ) → Stands (progress self) text [] → Divides text (map token_view tokens.items)) }
+        ensures divided { IfOk result (λ tokens. (text : List ℕ) → Stands (progress self) text []
+            → Divides text (map token_view tokens.items)) }
         ensures refused { IfErr result (λ e. (text : List ℕ) → Stands (progress self) text [] → Explains text e) }
     {
         let mut reader = self;

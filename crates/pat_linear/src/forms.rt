@@ -69,7 +69,8 @@ fn form_of(alloc: Global, p: &Pattern, nodes: usize) -> Result<Sequence<LinearSe
 fn put_form(alloc: Global, p: &Pattern, calls: u32, done: &mut Lists) -> Result<(), FormError>
     requires small { IsTrue (is_small_of (pattern_view p.now)) }
     requires tags { IsTrue (tags_below most_tags (pattern_view p.now)) }
-    ensures { GivesTop result (lists_are_short most_tags (pattern_view p.now)) (sets_of most_tags (pattern_view p.now)) (forms_view done.old) (forms_view done.new) }
+    ensures { GivesTop result (lists_are_short most_tags (pattern_view p.now)) (sets_of most_tags (pattern_view p.now))
+        (forms_view done.old) (forms_view done.new) }
 {
     if calls == 0 {
         return put_deep_form(alloc, p, done);
@@ -108,7 +109,8 @@ fn put_form(alloc: Global, p: &Pattern, calls: u32, done: &mut Lists) -> Result<
 fn put_deep_form(alloc: Global, p: &Pattern, done: &mut Lists) -> Result<(), FormError>
     requires small { IsTrue (is_small_of (pattern_view p.now)) }
     requires tags { IsTrue (tags_below most_tags (pattern_view p.now)) }
-    ensures { GivesTop result (lists_are_short most_tags (pattern_view p.now)) (sets_of most_tags (pattern_view p.now)) (forms_view done.old) (forms_view done.new) }
+    ensures { GivesTop result (lists_are_short most_tags (pattern_view p.now)) (sets_of most_tags (pattern_view p.now))
+        (forms_view done.old) (forms_view done.new) }
 {
     let sets = deep_form(alloc, p)?;
     done.put(sets)?;
@@ -188,7 +190,8 @@ fn multiply(alloc: Global, lower: usize, done: &mut Lists) -> Result<(), FormErr
     requires there { 1 ≤ length done.old }
     requires lower { lower ≤ length (top_of done.old) }
     requires room { HaveRoom (sets_view (take lower (top_of done.old))) (sets_view (drop lower (top_of done.old))) }
-    ensures { let made = products_of most_tags (sets_view (take lower (top_of done.old))) (sets_view (drop lower (top_of done.old))) in GivesTop result (is_short made) made (forms_view (drop 1 done.old)) (forms_view done.new) }
+    ensures { let made = products_of most_tags (sets_view (take lower (top_of done.old))) (sets_view (drop lower (top_of done.old))) in
+        GivesTop result (is_short made) made (forms_view (drop 1 done.old)) (forms_view done.new) }
 {
     let all = done.top();
     if lower == 1 && all.len() <= MOST_SETS {
@@ -205,7 +208,9 @@ fn multiply(alloc: Global, lower: usize, done: &mut Lists) -> Result<(), FormErr
 fn multiply_by_first(alloc: Global, done: &mut Lists) -> Result<(), AllocError>
     requires some { 1 ≤ length (top_of done.old) }
     requires room { HaveRoom (sets_view (take 1 (top_of done.old))) (sets_view (drop 1 (top_of done.old))) }
-    ensures { OnOk result (forms_view done.new ≡ products_of most_tags (sets_view (take 1 (top_of done.old))) (sets_view (drop 1 (top_of done.old))) ∷ forms_view (drop 1 done.old)) }
+    ensures { OnOk result (forms_view done.new
+        ≡ products_of most_tags (sets_view (take 1 (top_of done.old))) (sets_view (drop 1 (top_of done.old)))
+        ∷ forms_view (drop 1 done.old)) }
 {
     let first = done.take_first();
     done.multiply_each(alloc, &first)
@@ -247,7 +252,8 @@ fn is_word(set: &LinearSet) -> bool
 fn repeat_words(alloc: Global, done: &mut Lists) -> Result<(), AllocError>
     requires there { 1 ≤ length done.old }
     requires words { AllByRecursion IsWord (sets_view (top_of done.old)) }
-    ensures { OnOk result (forms_view done.new ≡ times_stars_of most_tags (only_empty_set ∷ []) (sets_view (top_of done.old)) ∷ forms_view (drop 1 done.old)) }
+    ensures { OnOk result (forms_view done.new ≡ times_stars_of most_tags (only_empty_set ∷ []) (sets_view (top_of done.old))
+        ∷ forms_view (drop 1 done.old)) }
 {
     let star = star_of_words(alloc, done.top())?;
     done.empty_top();

@@ -26,7 +26,8 @@ fn put_passed(
     out: &mut Vec<Demand>,
 ) -> Result<(), AllocError>
     requires { vec_len out.old + length names.now ≤ vec_capacity out.old }
-    ensures { OnOk result (demands_view out.new.items ≡ demands_view out.old.items ++ passes_in names.now (needs_view given.now) (needs_view asked.now)) }
+    ensures { OnOk result (demands_view out.new.items ≡ demands_view out.old.items
+        ++ passes_in names.now (needs_view given.now) (needs_view asked.now)) }
 {
     let from = LookUps::new(given);
     let to = LookUps::new(asked);
@@ -46,7 +47,8 @@ pub fn pass_names(
     asked: &[(u32, MailboxType)],
     out: &mut Sequence<Demand>,
 ) -> Result<(), AllocError>
-    ensures { OnOk result (demands_view out.new ≡ demands_view out.old ++ passes_in names.now (needs_view given.now) (needs_view asked.now)) }
+    ensures { OnOk result (demands_view out.new ≡ demands_view out.old
+        ++ passes_in names.now (needs_view given.now) (needs_view asked.now)) }
 {
     if names.is_empty() {
         return Ok(());
@@ -101,7 +103,8 @@ fn put_divided<'a>(
     out: &mut Vec<Demand<'a>>,
 )
     requires { vec_len out.old + length names.now ≤ vec_capacity out.old }
-    ensures { demands_view out.new.items ≡ demands_view out.old.items ++ divides_in names.now but (needs_view given.now) (needs_view bound.now) (needs_view body.now) }
+    ensures { demands_view out.new.items ≡ demands_view out.old.items
+        ++ divides_in names.now but (needs_view given.now) (needs_view bound.now) (needs_view body.now) }
 {
     let whole = LookUps::new(given);
     let first = LookUps::new(bound);
@@ -172,7 +175,8 @@ fn there_names<'a>(
     part: &'a [(u32, MailboxType)],
     out: &mut Sequence<Demand<'a>>,
 ) -> Result<(), AllocError>
-    ensures { OnOk result (demands_view out.new ≡ demands_view out.old ++ theres_in names.now (needs_view given.now) (needs_view part.now)) }
+    ensures { OnOk result (demands_view out.new ≡ demands_view out.old
+        ++ theres_in names.now (needs_view given.now) (needs_view part.now)) }
 {
     out.items.reserve(names.len())?;
     put_there(names, given, part, &mut out.items);
@@ -200,7 +204,8 @@ fn pass_to_env(
     env: &[(u32, MailboxType)],
     out: &mut Sequence<Demand>,
 ) -> Result<(), AllocError>
-    ensures { OnOk result (demands_view out.new ≡ demands_view out.old ++ passes_in (with_others names.now (keys_of (needs_view env.now))) (needs_view given.now) (needs_view env.now)) }
+    ensures { OnOk result (demands_view out.new ≡ demands_view out.old
+        ++ passes_in (with_others names.now (keys_of (needs_view env.now))) (needs_view given.now) (needs_view env.now)) }
 {
     pass_names(names, given, env, out)?;
     let others = others_of(alloc, names, env)?;

@@ -27,7 +27,8 @@ fn function(
     decls: Sequence<Decl>,
     stack: Frames,
 ) -> Result<State, ParseError>
-    ensures read { Parses result (answer (m.state (m.WantName (m.FunctionName (map decl_view decls))) (stack_view stack) 0 0 0) tokens.old) (λ x. answer (state_view x) tokens.new) }
+    ensures read { Parses result (answer (m.state (m.WantName (m.FunctionName (map decl_view decls))) (stack_view stack) 0 0 0) tokens.old)
+        (λ x. answer (state_view x) tokens.new) }
     ensures no_more { length tokens.new.0 ≤ length tokens.old.0 }
 {
     let head = signature(alloc, tokens)?;
@@ -49,7 +50,8 @@ fn declaration(
     kind: TokenKind,
     span: Span,
 ) -> Result<State, ParseError>
-    ensures read { Parses result (after (m.decl_step (stack_view stack) 0 (map decl_view decls) (kind_view kind) (span_view span)) span.from tokens.old) (λ x. answer (state_view x) tokens.new) }
+    ensures read { Parses result (after (m.decl_step (stack_view stack) 0 (map decl_view decls) (kind_view kind)
+        (span_view span)) span.from tokens.old) (λ x. answer (state_view x) tokens.new) }
     ensures no_more { length tokens.new.0 ≤ length tokens.old.0 }
 {
     match kind {
@@ -70,7 +72,8 @@ fn phrase(
     state: State,
     token: Token,
 ) -> Result<State, ParseError>
-    ensures read { Parses result (after (moved (state_view state) (kind_view token.kind) (span_view token.span)) token.span.from tokens.old) (λ x. answer (state_view x) tokens.new) }
+    ensures read { Parses result (after (moved (state_view state) (kind_view token.kind) (span_view token.span)) token.span.from tokens.old)
+        (λ x. answer (state_view x) tokens.new) }
     ensures no_more { length tokens.new.0 ≤ length tokens.old.0 }
 {
     let Token { kind, span } = token;
@@ -119,7 +122,8 @@ pub fn parse(alloc: Global, tokens: Vec<Token>, end: u32) -> Result<Tree, ParseE
     // What the tokens spell is answered, unless memory runs out.
     ensures tree { (t : trees.Tree) → SpellsTree limits (map token_view tokens.items) t → GivesAt tree_view result (Ok t) }
     // So is a token that is unexpected, and the end of the text.
-    ensures unexpected { (o : ℕ) → IsUnexpected limits end (map token_view tokens.items) o → GivesAt tree_view result (Err (m.Unexpected, o)) }
+    ensures unexpected { (o : ℕ) → IsUnexpected limits end (map token_view tokens.items) o
+        → GivesAt tree_view result (Err (m.Unexpected, o)) }
     // So is a token that is too deep.
     ensures too_deep { (o : ℕ) → IsTooDeep limits (map token_view tokens.items) o → GivesAt tree_view result (Err (m.TooDeep, o)) }
     // For each token a tree has four parts at most, counting its terms, expressions, patterns and names.

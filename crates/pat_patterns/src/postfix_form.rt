@@ -57,7 +57,8 @@ fn push_head<'a>(
     waiting: &mut Stack<&'a Pattern>,
     heads: &mut Stack<Head>,
 ) -> Result<(), AllocError>
-    ensures heads { OnOk result (postfix_all (pointed waiting.new) heads.new ≡ postfix_all (pattern_view p.now ∷ pointed waiting.old) heads.old) }
+    ensures heads { OnOk result (postfix_all (pointed waiting.new) heads.new
+        ≡ postfix_all (pattern_view p.now ∷ pointed waiting.old) heads.old) }
     ensures fewer { OnOk result (nodes (pointed waiting.new) < nodes (pattern_view p.now ∷ pointed waiting.old)) }
 {
     match p {

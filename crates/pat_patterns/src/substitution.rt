@@ -32,7 +32,8 @@ fn subst_onto(
     done: &mut Stack<Pattern>,
 ) -> Result<(), AllocError>
     requires { IsTrue (has_values (length values.now) (pattern_view p.now)) }
-    ensures { OnOk result (patterns_view done.new ≡ subst_of (value_at (patterns_view values.now)) (pattern_view p.now) ∷ patterns_view done.old) }
+    ensures { OnOk result (patterns_view done.new ≡ subst_of (value_at (patterns_view values.now)) (pattern_view p.now)
+        ∷ patterns_view done.old) }
 {
     match p {
         Pattern::Zero => done.push(Pattern::Zero),

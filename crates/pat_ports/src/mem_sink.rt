@@ -41,7 +41,15 @@ impl MemSink {
         room: usize,
     ) -> Result<Self, AllocError>
         requires { 0 < piece }
-        ensures { IfOk result (λ s. s ≡ record { taken = []; piece = piece; room = room; failing = failing.items; call = Some 1; faults = 0 }) }
+        ensures { IfOk result (λ s. s ≡ record {
+          taken = [];
+          piece = piece;
+          room = room;
+          failing = failing.items;
+          call = Some 1;
+          faults
+              = 0;
+        }) }
     {
         Ok(MemSink {
             buffer: vec![in alloc; 0; room]?,

@@ -36,7 +36,15 @@ impl MemSource {
     /// A source of these bytes that has failed at no call. It takes no memory.
     pub fn new(bytes: Vec<u8>, piece: usize, failing: Vec<u64>) -> Self
         requires { 0 < piece }
-        ensures { result ≡ record { rest = bytes.items; piece = piece; failing = failing.items; call = Some 1; faults = 0; reach = Reach.Before } }
+        ensures { result ≡ record {
+          rest = bytes.items;
+          piece = piece;
+          failing = failing.items;
+          call = Some 1;
+          faults = 0;
+          reach
+              = Reach.Before;
+        } }
     {
         MemSource {
             bytes,

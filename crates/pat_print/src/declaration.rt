@@ -39,7 +39,8 @@ fn put_interface(
     name: &Name,
     messages: &Sequence<TreeMessage>,
 ) -> Result<(), AllocError>
-    ensures { OnOk result (out.new.items ≡ out.old.items ++ bytes_of (decl_onto (InterfaceDecl (name_view name.now) (map message_view messages.now)))) }
+    ensures { OnOk result (out.new.items ≡ out.old.items
+        ++ bytes_of (decl_onto (InterfaceDecl (name_view name.now) (map message_view messages.now)))) }
 {
     out.extend_from_slice(b"interface ")?;
     put_name(out, name)?;
@@ -69,7 +70,8 @@ fn put_function(
     of: &TreeType,
     body: &Term,
 ) -> Result<(), AllocError>
-    ensures { OnOk result (out.new.items ≡ out.old.items ++ bytes_of (decl_onto (DefDecl (name_view name.now) (map param_view params.now) (type_view of.now) (term_view body.now)))) }
+    ensures { OnOk result (out.new.items ≡ out.old.items
+        ++ bytes_of (decl_onto (DefDecl (name_view name.now) (map param_view params.now) (type_view of.now) (term_view body.now)))) }
 {
     out.extend_from_slice(b"def ")?;
     put_name(out, name)?;

@@ -98,7 +98,8 @@ fn put_binding(
 /// Appends a bound term, in braces where it is a let or a sequence itself.
 #[cycle(term)]
 fn put_bound(alloc: Global, out: &mut Vec<u8>, bound: &Term) -> Result<(), AllocError>
-    ensures { OnOk result (out.new.items ≡ out.old.items ++ bytes_of (braced (opens_simple (term_view bound.now)) (term_onto (term_view bound.now)))) }
+    ensures { OnOk result (out.new.items ≡ out.old.items
+        ++ bytes_of (braced (opens_simple (term_view bound.now)) (term_onto (term_view bound.now)))) }
 {
     if is_let(bound) {
         put_block(alloc, out, bound)
@@ -147,7 +148,8 @@ fn put_received(
     names: &Sequence<Name>,
     from: &Name,
 ) -> Result<(), AllocError>
-    ensures { OnOk result (out.new.items ≡ out.old.items ++ bytes_of (received_onto (name_view tag.now) (map name_view names.now) (name_view from.now))) }
+    ensures { OnOk result (out.new.items ≡ out.old.items
+        ++ bytes_of (received_onto (name_view tag.now) (map name_view names.now) (name_view from.now))) }
 {
     out.extend_from_slice(b"receive ")?;
     put_name(out, tag)?;
@@ -244,7 +246,8 @@ fn put_send(
     tag: &Name,
     args: &Sequence<TreeExpr>,
 ) -> Result<(), AllocError>
-    ensures { OnOk result (out.new.items ≡ out.old.items ++ bytes_of (term_onto (SendTerm (name_view target.now) (name_view tag.now) (map expr_view args.now) nowhere))) }
+    ensures { OnOk result (out.new.items ≡ out.old.items
+        ++ bytes_of (term_onto (SendTerm (name_view target.now) (name_view tag.now) (map expr_view args.now) nowhere))) }
 {
     put_name(out, target)?;
     out.extend_from_slice(b" ! ")?;
@@ -259,7 +262,8 @@ fn put_call(
     name: &Name,
     args: &Sequence<TreeExpr>,
 ) -> Result<(), AllocError>
-    ensures { OnOk result (out.new.items ≡ out.old.items ++ bytes_of (term_onto (CallTerm (name_view name.now) (map expr_view args.now) nowhere))) }
+    ensures { OnOk result (out.new.items ≡ out.old.items
+        ++ bytes_of (term_onto (CallTerm (name_view name.now) (map expr_view args.now) nowhere))) }
 {
     put_name(out, name)?;
     put_arguments(alloc, out, args)

@@ -49,5 +49,6 @@ pub fn text_round_trip_law()
 /// aside: so also that of a tree which was made, and stands at no places.
 pub fn bare_round_trip_law()
     ensures again { (lim : Limits) (m : Tree) → CanBeSpelled lim m → ReadsAs lim (canonical_text m) m }
-    ensures texts { (lim : Limits) (text : List ℕ) (ts : List Spanned) (m : Tree) → Divides text ts → SpellsTree lim ts m → CanBeSpelled lim m }
+    ensures texts { (lim : Limits) (text : List ℕ) (ts : List Spanned) (m : Tree) → Divides text ts → SpellsTree lim ts m
+        → CanBeSpelled lim m }
 {}

@@ -41,7 +41,8 @@ impl Config {
         requires { IsPlace self.now.threads thread place }
         ensures enabled { EnabledAct (program_view code.now.program) (config_view self.now) thread (option_map act_view result) }
         ensures first { IsFirst (program_view code.now.program) (config_view self.now) thread (option_map act_view result) }
-        ensures least { IsOrdered (config_view self.now) → IsLeast (program_view code.now.program) (config_view self.now) thread (option_map act_view result) }
+        ensures least { IsOrdered (config_view self.now)
+            → IsLeast (program_view code.now.program) (config_view self.now) thread (option_map act_view result) }
     {
         let state = state_at(self.threads.as_slice(), thread, place);
         self.act_of(code, thread, state)
@@ -64,7 +65,10 @@ impl Config {
     }
 
     fn act_of(&self, code: &Executable, thread: u32, state: &ThreadState) -> Option<Act>
-        ensures { option_map act_view result ≡ act_at (config_view self.now) thread (guard_at (redex (program_view code.now.program) (control_view state.now.control))) (plain_act (program_view code.now.program) (redex (program_view code.now.program) (control_view state.now.control)) (map frame_view state.now.frames)) }
+        ensures { option_map act_view result ≡ act_at (config_view self.now) thread
+            (guard_at (redex (program_view code.now.program) (control_view state.now.control)))
+            (plain_act (program_view code.now.program) (redex (program_view code.now.program) (control_view state.now.control))
+            (map frame_view state.now.frames)) }
     {
         match guard_of(code, &state.control) {
             Some(guard) => self.guard_act(&guard, thread),

@@ -106,7 +106,8 @@ impl Config {
         place: usize,
     ) -> Result<(), StepError>
         requires { IsPlace self.old.threads thread place }
-        ensures { StepGives config_view (after_step (program_view code.now.program) (config_view self.old) (record { thread = thread; act = ActLocal })) self.old self.new result }
+        ensures { StepGives config_view (after_step (program_view code.now.program) (config_view self.old)
+            (record { thread = thread; act = ActLocal })) self.old self.new result }
     {
         self.threads.items[place].1.step_locally(alloc, code)
     }
@@ -120,7 +121,8 @@ impl Config {
     ) -> Result<(), StepError>
         requires place { IsPlace self.old.threads thread place }
         requires room { self.old.next_mailbox < most_number }
-        ensures { StepGives config_view (after_step (program_view code.now.program) (config_view self.old) (record { thread = thread; act = ActNew })) self.old self.new result }
+        ensures { StepGives config_view (after_step (program_view code.now.program) (config_view self.old)
+            (record { thread = thread; act = ActNew })) self.old self.new result }
     {
         let state = state_at(self.threads.as_slice(), thread, place);
         if !makes_mailbox(code, &state.control) {
@@ -143,7 +145,8 @@ impl Config {
     ) -> Result<(), StepError>
         requires place { IsPlace self.old.threads thread place }
         requires room { self.old.next_message < most_number }
-        ensures { StepGives config_view (after_step (program_view code.now.program) (config_view self.old) (record { thread = thread; act = ActSend })) self.old self.new result }
+        ensures { StepGives config_view (after_step (program_view code.now.program) (config_view self.old)
+            (record { thread = thread; act = ActSend })) self.old self.new result }
     {
         let state = state_at(self.threads.as_slice(), thread, place);
         match next_message(alloc, code, &state.control, self.next_message) {
@@ -168,7 +171,8 @@ impl Config {
     ) -> Result<(), StepError>
         requires place { IsPlace self.old.threads thread place }
         requires room { self.old.next_thread < most_number }
-        ensures { StepGives config_view (after_step (program_view code.now.program) (config_view self.old) (record { thread = thread; act = ActSpawn })) self.old self.new result }
+        ensures { StepGives config_view (after_step (program_view code.now.program) (config_view self.old)
+            (record { thread = thread; act = ActSpawn })) self.old self.new result }
     {
         let state = state_at(self.threads.as_slice(), thread, place);
         match next_thread(alloc, code, &state.control) {
@@ -193,7 +197,8 @@ impl Config {
         place: usize,
     ) -> Result<(), StepError>
         requires { IsPlace self.old.threads thread place }
-        ensures { StepGives config_view (after_step (program_view code.now.program) (config_view self.old) (record { thread = thread; act = ActPrint })) self.old self.new result }
+        ensures { StepGives config_view (after_step (program_view code.now.program) (config_view self.old)
+            (record { thread = thread; act = ActPrint })) self.old self.new result }
     {
         let state = state_at(self.threads.as_slice(), thread, place);
         match next_line(alloc, code, &state.control) {
@@ -210,7 +215,8 @@ impl Config {
     // The thread at a place ends.
     fn end(&mut self, code: &Executable, thread: u32, place: usize) -> Result<(), StepError>
         requires { IsPlace self.old.threads thread place }
-        ensures { StepGives config_view (after_step (program_view code.now.program) (config_view self.old) (record { thread = thread; act = ActEnd })) self.old self.new result }
+        ensures { StepGives config_view (after_step (program_view code.now.program) (config_view self.old)
+            (record { thread = thread; act = ActEnd })) self.old self.new result }
     {
         if !is_over(code, &self.threads.items[place].1) {
             return Err(StepError::Disabled);
@@ -228,7 +234,8 @@ impl Config {
         place: usize,
     ) -> Result<(), StepError>
         requires { IsPlace self.old.threads thread place }
-        ensures { StepGives config_view (after_step (program_view code.now.program) (config_view self.old) (record { thread = thread; act = ActFree })) self.old self.new result }
+        ensures { StepGives config_view (after_step (program_view code.now.program) (config_view self.old)
+            (record { thread = thread; act = ActFree })) self.old self.new result }
     {
         let state = state_at(self.threads.as_slice(), thread, place);
         match self.after_free(alloc, code, thread, &state.control) {
@@ -249,7 +256,8 @@ impl Config {
         thread: u32,
         control: &Control,
     ) -> Result<(u32, Control), StepError>
-        ensures { Gives freed_view (redex_freed (program_view code.now.program) (config_view self.now) thread (redex (program_view code.now.program) (control_view control.now))) result }
+        ensures { Gives freed_view (redex_freed (program_view code.now.program) (config_view self.now) thread
+            (redex (program_view code.now.program) (control_view control.now))) result }
     {
         match guard_of(code, control) {
             Some(guard) => match guard.free {
@@ -275,7 +283,8 @@ impl Config {
         number: u32,
     ) -> Result<(), StepError>
         requires { IsPlace self.old.threads thread place }
-        ensures { StepGives config_view (after_step (program_view code.now.program) (config_view self.old) (record { thread = thread; act = ActReceive number })) self.old self.new result }
+        ensures { StepGives config_view (after_step (program_view code.now.program) (config_view self.old)
+            (record { thread = thread; act = ActReceive number })) self.old self.new result }
     {
         let state = state_at(self.threads.as_slice(), thread, place);
         let messages = self.messages.as_slice();
@@ -301,7 +310,8 @@ pub fn state_at(threads: &[(u32, ThreadState)], thread: u32, place: usize) -> &T
 // The thread at a place goes on with this control.
 fn set_control(threads: &mut Sequence<(u32, ThreadState)>, place: usize, control: Control)
     requires { place < length threads.old }
-    ensures { (e : ℕ × StateOf) → slice_get threads.old place ≡ Some e → threads.new ≡ slice_set threads.old place (e.0, record { control = control; frames = e.1.frames }) }
+    ensures { (e : ℕ × StateOf) → slice_get threads.old place ≡ Some e
+        → threads.new ≡ slice_set threads.old place (e.0, record { control = control; frames = e.1.frames }) }
 {
     threads.items[place].1.control = control;
 }

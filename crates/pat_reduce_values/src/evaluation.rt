@@ -67,7 +67,8 @@ fn operate<'a>(
     left: Option<ValueRef<'a>>,
     right: Option<ValueRef<'a>>,
 ) -> Option<ValueRef<'a>>
-    ensures { option_map reference_view result ≡ apply_values (op_view op) (option_map reference_view left.entry) (option_map reference_view right.entry) }
+    ensures { option_map reference_view result
+        ≡ apply_values (op_view op) (option_map reference_view left.entry) (option_map reference_view right.entry) }
 {
     match (left, right) {
         (Some(ValueRef::Int(m)), Some(ValueRef::Int(n))) => Some(operate_on_integers(op, m, n)),

@@ -58,7 +58,8 @@ fn do_task<'a>(
     left: &mut Bag,
     took: &mut bool,
 ) -> Result<bool, AllocError>
-    ensures { IfOk result (λ yes. Does (patterns_view system.now) (task_view task.entry) yes (tasks_view tasks.old) took.old (word_of left.old) (tasks_view tasks.new) took.new (word_of left.new)) }
+    ensures { IfOk result (λ yes. Does (patterns_view system.now) (task_view task.entry) yes (tasks_view tasks.old) took.old
+        (word_of left.old) (tasks_view tasks.new) took.new (word_of left.new)) }
 {
     match task {
         Task::Walk(tree, p) => open(system, tree, p, tasks),
@@ -95,7 +96,8 @@ fn open<'a>(
     p: &'a Pattern,
     tasks: &mut Stack<Task<'a>>,
 ) -> Result<bool, AllocError>
-    ensures { Opens result (opened (patterns_view system.now) (bound_view tree.now) (pattern_view p.now)) (tasks_view tasks.old) (tasks_view tasks.new) }
+    ensures { Opens result (opened (patterns_view system.now) (bound_view tree.now) (pattern_view p.now)) (tasks_view tasks.old)
+        (tasks_view tasks.new) }
 {
     match tree {
         Bound::Empty => Ok(matches!(p, Pattern::One)),
@@ -153,7 +155,8 @@ fn open_bound<'a>(
     number: u32,
     tasks: &mut Stack<Task<'a>>,
 ) -> Result<bool, AllocError>
-    ensures { Opens result (opened_bound (bound_view part.now) (slice_get (patterns_view system.now) number)) (tasks_view tasks.old) (tasks_view tasks.new) }
+    ensures { Opens result (opened_bound (bound_view part.now) (slice_get (patterns_view system.now) number)) (tasks_view tasks.old)
+        (tasks_view tasks.new) }
 {
     match system.get(number as usize) {
         None => Ok(false),

@@ -47,11 +47,16 @@ fn examine<'a>(
     requires same { length params.now ≡ length head.now.params }
     requires none { scope.old ≡ [] }
     requires names { length params.now + binders_in (term_view body.now) < 2 ^ 32 }
-    ensures found { Meets result (term_findings (heads_view heads.now) (params_scope (map sort_view head.now.params) (map param_view params.now)) (length params.now) (kind_of (sort_view head.now.result)) (term_view body.now)) }
+    ensures found { Meets result (term_findings (heads_view heads.now)
+        (params_scope (map sort_view head.now.params) (map param_view params.now)) (length params.now) (kind_of (sort_view head.now.result))
+        (term_view body.now)) }
     ensures scope { OnOk result (scope_view scope.new ≡ params_scope (map sort_view head.now.params) (map param_view params.now)) }
     ensures count { OnOk result (length scope.new ≡ length params.now) }
-    ensures kinds { IfOk result (λ v. map kind_view v.kinds ≡ map kind_of (map sort_view head.now.params) ++ vars_of (heads_view heads.now) (params_scope (map sort_view head.now.params) (map param_view params.now)) (length params.now) (term_view body.now)) }
-    ensures spans { IfOk result (λ v. map span_view v.spans ≡ map (λ p. p.name.span) (map param_view params.now) ++ var_places (term_view body.now)) }
+    ensures kinds { IfOk result (λ v. map kind_view v.kinds ≡ map kind_of (map sort_view head.now.params)
+        ++ vars_of (heads_view heads.now) (params_scope (map sort_view head.now.params) (map param_view params.now)) (length params.now)
+        (term_view body.now)) }
+    ensures spans { IfOk result (λ v. map span_view v.spans ≡ map (λ p. p.name.span) (map param_view params.now)
+        ++ var_places (term_view body.now)) }
 {
     let mut variables = bind_params(alloc, scope, params, head.params.as_slice())?;
     check_body(
@@ -77,9 +82,13 @@ fn number<'a>(
     requires room { length numbering.old.nodes + nodes_in (term_view body.now) < number_count }
     requires names { params + binders_in (term_view body.now) < number_count }
     requires count { length numbering.old.scope ≡ params }
-    requires kinds { HasAt (map kind_view context.now.kinds.now) params (vars_of (heads_view context.now.heads.now) (scope_view numbering.old.scope) params (term_view body.now)) }
-    ensures nodes { OnOk result (map node_view numbering.new.nodes ≡ map node_view numbering.old.nodes ++ nodes_of (heads_view context.now.heads.now) context.now.function (scope_view numbering.old.scope) (length numbering.old.nodes) params (kind_view kind) (term_view body.now)) }
-    ensures places { OnOk result (map (λ d. span_view d.span) numbering.new.nodes ≡ map (λ d. span_view d.span) numbering.old.nodes ++ node_places (term_view body.now)) }
+    requires kinds { HasAt (map kind_view context.now.kinds.now) params
+        (vars_of (heads_view context.now.heads.now) (scope_view numbering.old.scope) params (term_view body.now)) }
+    ensures nodes { OnOk result (map node_view numbering.new.nodes ≡ map node_view numbering.old.nodes
+        ++ nodes_of (heads_view context.now.heads.now) context.now.function (scope_view numbering.old.scope)
+        (length numbering.old.nodes) params (kind_view kind) (term_view body.now)) }
+    ensures places { OnOk result (map (λ d. span_view d.span) numbering.new.nodes ≡ map (λ d. span_view d.span) numbering.old.nodes
+        ++ node_places (term_view body.now)) }
     ensures scope { OnOk result (numbering.new.scope ≡ []) }
 {
     numbering.next = params as u32;
@@ -102,11 +111,18 @@ fn resolve_function<'a>(
     requires none { numbering.old.scope ≡ [] }
     requires names { length params.now + binders_in (term_view body.now) < 2 ^ 32 }
     requires room { length numbering.old.nodes + nodes_in (term_view body.now) < 2 ^ 32 }
-    ensures found { Meets result (body_findings (names_view heads.now.names) (heads_view heads.now) (definition_view name.now params.now outcome.now body.now)) }
-    ensures function { IfOk result (λ f. function_view f ≡ function_of (names_view heads.now.names) (heads_view heads.now) (length numbering.old.nodes) (definition_view name.now params.now outcome.now body.now)) }
-    ensures function_places { IfOk result (λ f. function_places f ≡ written_places (definition_view name.now params.now outcome.now body.now)) }
-    ensures nodes { OnOk result (map node_view numbering.new.nodes ≡ map node_view numbering.old.nodes ++ function_nodes (names_view heads.now.names) (heads_view heads.now) function (length numbering.old.nodes) (definition_view name.now params.now outcome.now body.now)) }
-    ensures node_places { OnOk result (map (λ d. span_view d.span) numbering.new.nodes ≡ map (λ d. span_view d.span) numbering.old.nodes ++ node_places (term_view body.now)) }
+    ensures found { Meets result (body_findings (names_view heads.now.names) (heads_view heads.now)
+        (definition_view name.now params.now outcome.now body.now)) }
+    ensures function { IfOk result (λ f. function_view f
+        ≡ function_of (names_view heads.now.names) (heads_view heads.now) (length numbering.old.nodes)
+        (definition_view name.now params.now outcome.now body.now)) }
+    ensures function_places { IfOk result (λ f. function_places f
+        ≡ written_places (definition_view name.now params.now outcome.now body.now)) }
+    ensures nodes { OnOk result (map node_view numbering.new.nodes ≡ map node_view numbering.old.nodes
+        ++ function_nodes (names_view heads.now.names) (heads_view heads.now) function (length numbering.old.nodes)
+        (definition_view name.now params.now outcome.now body.now)) }
+    ensures node_places { OnOk result (map (λ d. span_view d.span) numbering.new.nodes ≡ map (λ d. span_view d.span) numbering.old.nodes
+        ++ node_places (term_view body.now)) }
     ensures scope { OnOk result (numbering.new.scope ≡ []) }
 {
     let head = number_head(alloc, heads, params, outcome)?;
@@ -147,11 +163,19 @@ fn resolve_decl<'a>(
     requires functions { length made.old.functions + 1 < 2 ^ 32 }
     requires names { decl_size (decl_view decl.now) < 2 ^ 32 }
     requires room { length made.old.numbering.nodes + nodes_in_all (definitions_of (decl_view decl.now ∷ [])) < 2 ^ 32 }
-    ensures found { Meets result (bodies_findings (names_view heads.now.names) (heads_view heads.now) (definitions_of (decl_view decl.now ∷ []))) }
-    ensures functions { OnOk result (map function_view made.new.functions ≡ map function_view made.old.functions ++ functions_from (names_view heads.now.names) (heads_view heads.now) (length made.old.numbering.nodes) (definitions_of (decl_view decl.now ∷ []))) }
-    ensures function_places { OnOk result (map function_places made.new.functions ≡ map function_places made.old.functions ++ map written_places (definitions_of (decl_view decl.now ∷ []))) }
-    ensures nodes { OnOk result (map node_view made.new.numbering.nodes ≡ map node_view made.old.numbering.nodes ++ nodes_from (names_view heads.now.names) (heads_view heads.now) (length made.old.functions) (length made.old.numbering.nodes) (definitions_of (decl_view decl.now ∷ []))) }
-    ensures node_places { OnOk result (map (λ d. span_view d.span) made.new.numbering.nodes ≡ map (λ d. span_view d.span) made.old.numbering.nodes ++ flat_map (λ d. node_places d.body) (definitions_of (decl_view decl.now ∷ []))) }
+    ensures found { Meets result (bodies_findings (names_view heads.now.names) (heads_view heads.now)
+        (definitions_of (decl_view decl.now ∷ []))) }
+    ensures functions { OnOk result (map function_view made.new.functions ≡ map function_view made.old.functions
+        ++ functions_from (names_view heads.now.names) (heads_view heads.now) (length made.old.numbering.nodes)
+        (definitions_of (decl_view decl.now ∷ []))) }
+    ensures function_places { OnOk result (map function_places made.new.functions ≡ map function_places made.old.functions
+        ++ map written_places (definitions_of (decl_view decl.now ∷ []))) }
+    ensures nodes { OnOk result (map node_view made.new.numbering.nodes ≡ map node_view made.old.numbering.nodes
+        ++ nodes_from (names_view heads.now.names) (heads_view heads.now) (length made.old.functions) (length made.old.numbering.nodes)
+        (definitions_of (decl_view decl.now ∷ []))) }
+    ensures node_places { OnOk result (map (λ d. span_view d.span) made.new.numbering.nodes
+        ≡ map (λ d. span_view d.span) made.old.numbering.nodes
+        ++ flat_map (λ d. node_places d.body) (definitions_of (decl_view decl.now ∷ []))) }
     ensures scope { OnOk result (made.new.numbering.scope ≡ []) }
 {
     match decl {
@@ -218,7 +242,8 @@ fn check_function<'a>(
 ) -> Result<(), ResolveError>
     requires none { scope.old ≡ [] }
     requires names { length params.now + binders_in (term_view body.now) < 2 ^ 32 }
-    ensures found { (name : AnyName) → Meets result (body_findings (names_view heads.now.names) (heads_view heads.now) (definition_view name params.now outcome.now body.now)) }
+    ensures found { (name : AnyName) → Meets result
+        (body_findings (names_view heads.now.names) (heads_view heads.now) (definition_view name params.now outcome.now body.now)) }
     ensures scope { OnOk result (scope.new ≡ []) }
 {
     let head = number_head(alloc, heads, params, outcome)?;
@@ -236,7 +261,8 @@ fn check_decl<'a>(
 ) -> Result<(), ResolveError>
     requires none { scope.old ≡ [] }
     requires names { decl_size (decl_view decl.now) < 2 ^ 32 }
-    ensures found { Meets result (bodies_findings (names_view heads.now.names) (heads_view heads.now) (definitions_of (decl_view decl.now ∷ []))) }
+    ensures found { Meets result (bodies_findings (names_view heads.now.names) (heads_view heads.now)
+        (definitions_of (decl_view decl.now ∷ []))) }
     ensures scope { OnOk result (scope.new ≡ []) }
 {
     match decl {
@@ -253,7 +279,8 @@ fn check_decl<'a>(
 /// Examines the bodies of all functions in the order of the text.
 pub fn check_functions(alloc: Global, heads: &Heads, decls: &[Decl]) -> Result<(), ResolveError>
     requires { tree_size (map decl_view decls.now) < most_number }
-    ensures { Meets result (bodies_findings (names_view heads.now.names) (heads_view heads.now) (definitions_of (map decl_view decls.now))) }
+    ensures { Meets result (bodies_findings (names_view heads.now.names) (heads_view heads.now)
+        (definitions_of (map decl_view decls.now))) }
 {
     let mut scope = ScopeTable::new(alloc);
     for decl in decls {

@@ -80,7 +80,8 @@ fn heads_and_main<'a>(
     end: u32,
 ) -> Result<(Heads<'a>, u32), ResolveError>
     requires { tree_size (tree_view tree.now) < most_number }
-    ensures found { Meets result (heads_findings (interface_names (tree_view tree.now)) [] [] (tree_view tree.now) ++ main_findings end (main_of (tree_view tree.now))) }
+    ensures found { Meets result (heads_findings (interface_names (tree_view tree.now)) [] [] (tree_view tree.now)
+        ++ main_findings end (main_of (tree_view tree.now))) }
     ensures names { IfOk result (λ r. names_view r.0.names ≡ interface_names (tree_view tree.now)) }
     ensures heads { IfOk result (λ r. heads_view r.0 ≡ heads_of (tree_view tree.now)) }
     ensures payloads { IfOk result (λ r. map interface_places r.0.interfaces ≡ payload_places (tree_view tree.now)) }
@@ -93,7 +94,13 @@ fn heads_and_main<'a>(
 
 // The parts of a program put together.
 fn assembled(heads: Heads, main: u32, made: Resolution) -> Program
-    ensures { result ≡ record { interfaces = heads.entry.interfaces; functions = made.entry.functions; main = main; nodes = made.entry.numbering.nodes } }
+    ensures { result ≡ record {
+      interfaces = heads.entry.interfaces;
+      functions = made.entry.functions;
+      main = main;
+      nodes
+          = made.entry.numbering.nodes;
+    } }
 {
     Program {
         interfaces: heads.interfaces,

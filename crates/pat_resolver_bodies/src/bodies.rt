@@ -59,9 +59,14 @@ fn check_term<'a>(
     term: &'a Term,
 ) -> Result<Kind, ResolveError>
     requires { length variables.old.kinds + binders_in (term_view term.now) < number_count }
-    ensures found { Meets result (term_findings (heads_view heads.now) (scope_view scope.old) (length variables.old.kinds) (term_need (heads_view heads.now) (scope_view scope.old) (length variables.old.kinds) (option_map kind_view need) (term_view term.now)) (term_view term.now)) }
-    ensures kind { IfOk result (λ k. kind_view k ≡ term_need (heads_view heads.now) (scope_view scope.old) (length variables.old.kinds) (option_map kind_view need) (term_view term.now)) }
-    ensures kinds { OnOk result (map kind_view variables.new.kinds ≡ map kind_view variables.old.kinds ++ vars_of (heads_view heads.now) (scope_view scope.old) (length variables.old.kinds) (term_view term.now)) }
+    ensures found { Meets result (term_findings (heads_view heads.now) (scope_view scope.old) (length variables.old.kinds)
+        (term_need (heads_view heads.now) (scope_view scope.old) (length variables.old.kinds) (option_map kind_view need)
+        (term_view term.now)) (term_view term.now)) }
+    ensures kind { IfOk result (λ k. kind_view k
+        ≡ term_need (heads_view heads.now) (scope_view scope.old) (length variables.old.kinds) (option_map kind_view need)
+        (term_view term.now)) }
+    ensures kinds { OnOk result (map kind_view variables.new.kinds ≡ map kind_view variables.old.kinds
+        ++ vars_of (heads_view heads.now) (scope_view scope.old) (length variables.old.kinds) (term_view term.now)) }
     ensures spans { OnOk result (map span_view variables.new.spans ≡ map span_view variables.old.spans ++ var_places (term_view term.now)) }
     ensures count { OnOk result (length variables.new.kinds ≡ length variables.old.kinds + binders_in (term_view term.now)) }
     ensures scope { OnOk result (scope.new ≡ scope.old) }
@@ -88,11 +93,18 @@ fn check_bound<'a>(
     bound: &'a Term,
 ) -> Result<(), ResolveError>
     requires { length variables.old.kinds + bound_binders (option_map name_view name.now) (term_view bound.now) < number_count }
-    ensures found { Meets result (bound_findings (heads_view heads.now) (scope_view scope.old) (length variables.old.kinds) (option_map name_view name.now) (term_view bound.now)) }
-    ensures kinds { OnOk result (map kind_view variables.new.kinds ≡ map kind_view variables.old.kinds ++ bound_vars (heads_view heads.now) (scope_view scope.old) (length variables.old.kinds) (option_map name_view name.now) (term_view bound.now)) }
-    ensures spans { OnOk result (map span_view variables.new.spans ≡ map span_view variables.old.spans ++ bound_places (option_map name_view name.now) (term_view bound.now)) }
-    ensures count { OnOk result (length variables.new.kinds ≡ length variables.old.kinds + bound_binders (option_map name_view name.now) (term_view bound.now)) }
-    ensures scope { OnOk result (scope_view scope.new ≡ bound_scope (heads_view heads.now) (scope_view scope.old) (length variables.old.kinds) (option_map name_view name.now) (term_view bound.now)) }
+    ensures found { Meets result (bound_findings (heads_view heads.now) (scope_view scope.old) (length variables.old.kinds)
+        (option_map name_view name.now) (term_view bound.now)) }
+    ensures kinds { OnOk result (map kind_view variables.new.kinds ≡ map kind_view variables.old.kinds
+        ++ bound_vars (heads_view heads.now) (scope_view scope.old) (length variables.old.kinds) (option_map name_view name.now)
+        (term_view bound.now)) }
+    ensures spans { OnOk result (map span_view variables.new.spans ≡ map span_view variables.old.spans
+        ++ bound_places (option_map name_view name.now) (term_view bound.now)) }
+    ensures count { OnOk result (length variables.new.kinds ≡ length variables.old.kinds
+        + bound_binders (option_map name_view name.now) (term_view bound.now)) }
+    ensures scope { OnOk result (scope_view scope.new
+        ≡ bound_scope (heads_view heads.now) (scope_view scope.old) (length variables.old.kinds) (option_map name_view name.now)
+        (term_view bound.now)) }
     ensures above { OnOk result (IsAbove scope.old scope.new) }
 {
     match name {
@@ -116,11 +128,18 @@ fn check_named<'a>(
     bound: &'a Term,
 ) -> Result<(), ResolveError>
     requires { length variables.old.kinds + bound_binders (Some (name_view name.now)) (term_view bound.now) < number_count }
-    ensures found { Meets result (bound_findings (heads_view heads.now) (scope_view scope.old) (length variables.old.kinds) (Some (name_view name.now)) (term_view bound.now)) }
-    ensures kinds { OnOk result (map kind_view variables.new.kinds ≡ map kind_view variables.old.kinds ++ bound_vars (heads_view heads.now) (scope_view scope.old) (length variables.old.kinds) (Some (name_view name.now)) (term_view bound.now)) }
-    ensures spans { OnOk result (map span_view variables.new.spans ≡ map span_view variables.old.spans ++ bound_places (Some (name_view name.now)) (term_view bound.now)) }
-    ensures count { OnOk result (length variables.new.kinds ≡ length variables.old.kinds + bound_binders (Some (name_view name.now)) (term_view bound.now)) }
-    ensures scope { OnOk result (scope_view scope.new ≡ bound_scope (heads_view heads.now) (scope_view scope.old) (length variables.old.kinds) (Some (name_view name.now)) (term_view bound.now)) }
+    ensures found { Meets result (bound_findings (heads_view heads.now) (scope_view scope.old) (length variables.old.kinds)
+        (Some (name_view name.now)) (term_view bound.now)) }
+    ensures kinds { OnOk result (map kind_view variables.new.kinds ≡ map kind_view variables.old.kinds
+        ++ bound_vars (heads_view heads.now) (scope_view scope.old) (length variables.old.kinds) (Some (name_view name.now))
+        (term_view bound.now)) }
+    ensures spans { OnOk result (map span_view variables.new.spans ≡ map span_view variables.old.spans
+        ++ bound_places (Some (name_view name.now)) (term_view bound.now)) }
+    ensures count { OnOk result (length variables.new.kinds ≡ length variables.old.kinds
+        + bound_binders (Some (name_view name.now)) (term_view bound.now)) }
+    ensures scope { OnOk result (scope_view scope.new
+        ≡ bound_scope (heads_view heads.now) (scope_view scope.old) (length variables.old.kinds) (Some (name_view name.now))
+        (term_view bound.now)) }
     ensures above { OnOk result (IsAbove scope.old scope.new) }
 {
     let number = variables.kinds.len();
@@ -144,9 +163,14 @@ fn check_form<'a>(
 ) -> Result<Kind, ResolveError>
     requires shape { is_let (term_view term.now) ≡ false }
     requires fits { length variables.old.kinds + binders_in (term_view term.now) < number_count }
-    ensures found { Meets result (term_findings (heads_view heads.now) (scope_view scope.old) (length variables.old.kinds) (term_need (heads_view heads.now) (scope_view scope.old) (length variables.old.kinds) (option_map kind_view need) (term_view term.now)) (term_view term.now)) }
-    ensures kind { IfOk result (λ k. kind_view k ≡ term_need (heads_view heads.now) (scope_view scope.old) (length variables.old.kinds) (option_map kind_view need) (term_view term.now)) }
-    ensures kinds { OnOk result (map kind_view variables.new.kinds ≡ map kind_view variables.old.kinds ++ vars_of (heads_view heads.now) (scope_view scope.old) (length variables.old.kinds) (term_view term.now)) }
+    ensures found { Meets result (term_findings (heads_view heads.now) (scope_view scope.old) (length variables.old.kinds)
+        (term_need (heads_view heads.now) (scope_view scope.old) (length variables.old.kinds) (option_map kind_view need)
+        (term_view term.now)) (term_view term.now)) }
+    ensures kind { IfOk result (λ k. kind_view k
+        ≡ term_need (heads_view heads.now) (scope_view scope.old) (length variables.old.kinds) (option_map kind_view need)
+        (term_view term.now)) }
+    ensures kinds { OnOk result (map kind_view variables.new.kinds ≡ map kind_view variables.old.kinds
+        ++ vars_of (heads_view heads.now) (scope_view scope.old) (length variables.old.kinds) (term_view term.now)) }
     ensures spans { OnOk result (map span_view variables.new.spans ≡ map span_view variables.old.spans ++ var_places (term_view term.now)) }
     ensures count { OnOk result (length variables.new.kinds ≡ length variables.old.kinds + binders_in (term_view term.now)) }
     ensures scope { OnOk result (scope.new ≡ scope.old) }
@@ -207,11 +231,20 @@ fn check_clauses<'a>(
     clauses: &'a [TreeClause],
 ) -> Result<Option<Kind>, ResolveError>
     requires { length variables.old.kinds + clauses_binders_in (listed (map clause_view clauses.now)) < number_count }
-    ensures found { Meets result (clauses_findings (heads_view heads.now) interface (scope_view scope.old) (length variables.old.kinds) (clauses_need (heads_view heads.now) interface (scope_view scope.old) (length variables.old.kinds) (option_map kind_view need) (listed (map clause_view clauses.now))) no_earlier (listed (map clause_view clauses.now))) }
-    ensures kind { IfOk result (λ o. option_map kind_view o ≡ of_bodies (has_body (listed (map clause_view clauses.now))) (clauses_need (heads_view heads.now) interface (scope_view scope.old) (length variables.old.kinds) (option_map kind_view need) (listed (map clause_view clauses.now)))) }
-    ensures kinds { OnOk result (map kind_view variables.new.kinds ≡ map kind_view variables.old.kinds ++ clauses_vars_of (heads_view heads.now) interface (scope_view scope.old) (length variables.old.kinds) (listed (map clause_view clauses.now))) }
-    ensures spans { OnOk result (map span_view variables.new.spans ≡ map span_view variables.old.spans ++ clauses_var_places (listed (map clause_view clauses.now))) }
-    ensures count { OnOk result (length variables.new.kinds ≡ length variables.old.kinds + clauses_binders_in (listed (map clause_view clauses.now))) }
+    ensures found { Meets result (clauses_findings (heads_view heads.now) interface (scope_view scope.old) (length variables.old.kinds)
+        (clauses_need (heads_view heads.now) interface (scope_view scope.old) (length variables.old.kinds) (option_map kind_view need)
+        (listed (map clause_view clauses.now))) no_earlier (listed (map clause_view clauses.now))) }
+    ensures kind { IfOk result (λ o. option_map kind_view o
+        ≡ of_bodies (has_body (listed (map clause_view clauses.now)))
+        (clauses_need (heads_view heads.now) interface (scope_view scope.old) (length variables.old.kinds) (option_map kind_view need)
+        (listed (map clause_view clauses.now)))) }
+    ensures kinds { OnOk result (map kind_view variables.new.kinds ≡ map kind_view variables.old.kinds
+        ++ clauses_vars_of (heads_view heads.now) interface (scope_view scope.old) (length variables.old.kinds)
+        (listed (map clause_view clauses.now))) }
+    ensures spans { OnOk result (map span_view variables.new.spans ≡ map span_view variables.old.spans
+        ++ clauses_var_places (listed (map clause_view clauses.now))) }
+    ensures count { OnOk result (length variables.new.kinds ≡ length variables.old.kinds
+        + clauses_binders_in (listed (map clause_view clauses.now))) }
     ensures scope { OnOk result (scope.new ≡ scope.old) }
 {
     let mut seen = Seen::new(alloc);
@@ -237,10 +270,16 @@ fn check_clause<'a>(
     clause: &'a TreeClause,
 ) -> Result<Option<Kind>, ResolveError>
     requires { length variables.old.kinds + clause_binders (clause_view clause.now) < number_count }
-    ensures found { Meets result (clause_findings (heads_view heads.now) interface (scope_view scope.old) (length variables.old.kinds) (clause_need (heads_view heads.now) interface (scope_view scope.old) (length variables.old.kinds) (option_map kind_view need) (clause_view clause.now)) (clause_view clause.now)) }
-    ensures kind { IfOk result (λ o. option_map kind_view o ≡ option_map (needed (option_map kind_view need)) (clause_kind (heads_view heads.now) interface (scope_view scope.old) (length variables.old.kinds) (clause_view clause.now))) }
-    ensures kinds { OnOk result (map kind_view variables.new.kinds ≡ map kind_view variables.old.kinds ++ clause_vars (heads_view heads.now) interface (scope_view scope.old) (length variables.old.kinds) (clause_view clause.now)) }
-    ensures spans { OnOk result (map span_view variables.new.spans ≡ map span_view variables.old.spans ++ clause_places (clause_view clause.now)) }
+    ensures found { Meets result (clause_findings (heads_view heads.now) interface (scope_view scope.old) (length variables.old.kinds)
+        (clause_need (heads_view heads.now) interface (scope_view scope.old) (length variables.old.kinds) (option_map kind_view need)
+        (clause_view clause.now)) (clause_view clause.now)) }
+    ensures kind { IfOk result (λ o. option_map kind_view o
+        ≡ option_map (needed (option_map kind_view need))
+        (clause_kind (heads_view heads.now) interface (scope_view scope.old) (length variables.old.kinds) (clause_view clause.now))) }
+    ensures kinds { OnOk result (map kind_view variables.new.kinds ≡ map kind_view variables.old.kinds
+        ++ clause_vars (heads_view heads.now) interface (scope_view scope.old) (length variables.old.kinds) (clause_view clause.now)) }
+    ensures spans { OnOk result (map span_view variables.new.spans ≡ map span_view variables.old.spans
+        ++ clause_places (clause_view clause.now)) }
     ensures count { OnOk result (length variables.new.kinds ≡ length variables.old.kinds + clause_binders (clause_view clause.now)) }
     ensures scope { OnOk result (scope.new ≡ scope.old) }
 {

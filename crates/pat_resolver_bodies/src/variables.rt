@@ -31,7 +31,8 @@ pub fn bind<'a>(
     kind: Kind,
 ) -> Result<(), AllocError>
     requires { length variables.old.kinds < number_count }
-    ensures scope { OnOk result (scope.new ≡ record { name = name.now.text; number = length variables.old.kinds; kind = kind } ∷ scope.old) }
+    ensures scope { OnOk result (scope.new ≡ record { name = name.now.text; number = length variables.old.kinds; kind = kind }
+        ∷ scope.old) }
     ensures kinds { OnOk result (variables.new.kinds ≡ variables.old.kinds ++ kind ∷ []) }
     ensures spans { OnOk result (variables.new.spans ≡ variables.old.spans ++ name.now.span ∷ []) }
 {

@@ -173,7 +173,8 @@ fn check_written(
     pattern: &Option<TreePattern>,
     span: Span,
 ) -> Result<(), ResolveError>
-    ensures { Meets result (written_pattern_findings tags.now (polarity_view polarity) (option_map pattern_view pattern.now) (span_view span)) }
+    ensures { Meets result (written_pattern_findings tags.now (polarity_view polarity) (option_map pattern_view pattern.now)
+        (span_view span)) }
 {
     match pattern {
         None => Ok(()),

@@ -45,8 +45,10 @@ fn number_interface(
     interfaces: &mut Sequence<Interface>,
 ) -> Result<(), AllocError>
     requires { All (λ t. length t.tags ≤ 32) names.now.interfaces }
-    ensures numbers { OnOk result (map interface_view interfaces.new ≡ map interface_view interfaces.old ++ interfaces_of (names_view names.now) (decl_view decl.now ∷ [])) }
-    ensures places { OnOk result (map interface_places interfaces.new ≡ map interface_places interfaces.old ++ payload_places (decl_view decl.now ∷ [])) }
+    ensures numbers { OnOk result (map interface_view interfaces.new ≡ map interface_view interfaces.old
+        ++ interfaces_of (names_view names.now) (decl_view decl.now ∷ [])) }
+    ensures places { OnOk result (map interface_places interfaces.new ≡ map interface_places interfaces.old
+        ++ payload_places (decl_view decl.now ∷ [])) }
 {
     match decl {
         Decl::Interface { name, messages } => {
@@ -66,7 +68,8 @@ fn number_tags(
 ) -> Result<Sequence<TagDecl>, AllocError>
     requires { All (λ t. length t.tags ≤ 32) names.now.interfaces }
     ensures numbers { IfOk result (λ ts. map tag_view ts ≡ map (tag_of (names_view names.now)) (map message_view messages.now)) }
-    ensures places { IfOk result (λ ts. map (λ t. map sort_place t.payloads) ts ≡ map (λ m. map type_place m.payloads) (map message_view messages.now)) }
+    ensures places { IfOk result (λ ts. map (λ t. map sort_place t.payloads) ts
+        ≡ map (λ m. map type_place m.payloads) (map message_view messages.now)) }
 {
     let mut tags = Sequence::new(alloc);
     for message in messages {
@@ -105,9 +108,12 @@ fn number_signature<'a>(
     signatures: &mut Sequence<Signature<'a>>,
 ) -> Result<(), AllocError>
     requires { All (λ t. length t.tags ≤ 32) names.now.interfaces }
-    ensures numbers { OnOk result (map signature_view signatures.new ≡ map signature_view signatures.old ++ map (signature_of (names_view names.now)) (definitions_of (decl_view decl.now ∷ []))) }
-    ensures params { OnOk result (map param_places signatures.new ≡ map param_places signatures.old ++ map written_params (definitions_of (decl_view decl.now ∷ []))) }
-    ensures results { OnOk result (map result_place signatures.new ≡ map result_place signatures.old ++ map written_result (definitions_of (decl_view decl.now ∷ []))) }
+    ensures numbers { OnOk result (map signature_view signatures.new ≡ map signature_view signatures.old
+        ++ map (signature_of (names_view names.now)) (definitions_of (decl_view decl.now ∷ []))) }
+    ensures params { OnOk result (map param_places signatures.new ≡ map param_places signatures.old
+        ++ map written_params (definitions_of (decl_view decl.now ∷ []))) }
+    ensures results { OnOk result (map result_place signatures.new ≡ map result_place signatures.old
+        ++ map written_result (definitions_of (decl_view decl.now ∷ []))) }
     ensures few { OnOk result (length signatures.new ≤ length signatures.old + 1) }
 {
     match decl {

@@ -89,7 +89,8 @@ fn put_values(
     variables: &[u32],
     own: Sequence<VarValue>,
 )
-    ensures { length own ≡ length variables.now → vars_view values.new ≡ put_lines interface variables.now (map value_view own) (vars_view values.old) }
+    ensures { length own ≡ length variables.now
+        → vars_view values.new ≡ put_lines interface variables.now (map value_view own) (vars_view values.old) }
 {
     let mut own = own;
     while let Some(value) = own.pop() {

@@ -47,7 +47,9 @@ impl<'a> Part<'a> {
 
 /// How many nodes and levels a sum or a product of the two has as it stands; `None` where that is too large.
 fn both_sizes(left: &Measured, right: &Measured) -> Option<(u32, u32)>
-    ensures some { IfSome result (λ n. (n.0 ≡ 1 + (size_of (measured_view left.now) + size_of (measured_view right.now))) × (n.1 ≡ 1 + max (levels_of (measured_view left.now)) (levels_of (measured_view right.now))) × (both_fit (measured_view left.now) (measured_view right.now) ≡ true)) }
+    ensures some { IfSome result (λ n. (n.0 ≡ 1 + (size_of (measured_view left.now) + size_of (measured_view right.now)))
+        × (n.1 ≡ 1 + max (levels_of (measured_view left.now)) (levels_of (measured_view right.now)))
+        × (both_fit (measured_view left.now) (measured_view right.now) ≡ true)) }
     ensures none { IfNone result (both_fit (measured_view left.now) (measured_view right.now) ≡ false) }
 {
     if left.nodes >= MOST_NODES || right.nodes >= MOST_NODES - left.nodes {

@@ -46,9 +46,14 @@ pub fn find(
     requires as_many { length variables.now ≡ length values.now }
     requires values { (k : ℕ) → IsTrue (tags_below most_tags (value_in (paired variables.now (measured_list values.now)) k)) }
     requires numbers { (j : ℕ) → j < length numbers.now → get_or numbers.now j 0 < length constraints.now }
-    requires lefts { (j : ℕ) → j < length numbers.now → IsTrue (tags_below most_tags (left_under (value_in (paired variables.now (measured_list values.now))) constraints.now (get_or numbers.now j 0))) }
-    requires rights { (j : ℕ) → j < length numbers.now → IsTrue (tags_below most_tags (right_under (value_in (paired variables.now (measured_list values.now))) constraints.now (get_or numbers.now j 0))) }
-    ensures { IfOk result (Finds (value_in (paired variables.now (measured_list values.now))) constraints.now numbers.now (length numbers.now)) }
+    requires lefts { (j : ℕ) → j < length numbers.now
+        → IsTrue (tags_below most_tags (left_under (value_in (paired variables.now (measured_list values.now))) constraints.now
+        (get_or numbers.now j 0))) }
+    requires rights { (j : ℕ) → j < length numbers.now
+        → IsTrue (tags_below most_tags (right_under (value_in (paired variables.now (measured_list values.now))) constraints.now
+        (get_or numbers.now j 0))) }
+    ensures { IfOk result (Finds (value_in (paired variables.now (measured_list values.now))) constraints.now numbers.now
+        (length numbers.now)) }
 {
     let forms = value_forms(alloc, variables, values)?;
     let by = Assignment {
@@ -68,8 +73,10 @@ fn find_by(
 ) -> Result<Finding, AllocError>
     requires by { IsAssignment by.now }
     requires numbers { (j : ℕ) → j < length numbers.now → get_or numbers.now j 0 < length constraints.now }
-    requires lefts { (j : ℕ) → j < length numbers.now → IsTrue (tags_below most_tags (left_under (values_by by.now) constraints.now (get_or numbers.now j 0))) }
-    requires rights { (j : ℕ) → j < length numbers.now → IsTrue (tags_below most_tags (right_under (values_by by.now) constraints.now (get_or numbers.now j 0))) }
+    requires lefts { (j : ℕ) → j < length numbers.now
+        → IsTrue (tags_below most_tags (left_under (values_by by.now) constraints.now (get_or numbers.now j 0))) }
+    requires rights { (j : ℕ) → j < length numbers.now
+        → IsTrue (tags_below most_tags (right_under (values_by by.now) constraints.now (get_or numbers.now j 0))) }
     ensures { IfOk result (Finds (values_by by.now) constraints.now numbers.now (length numbers.now)) }
 {
     let mut found = Finding::Covered;
@@ -91,7 +98,8 @@ fn find_next(
     requires number { number < length constraints.now }
     requires left { IsTrue (tags_below most_tags (left_under (values_by by.now) constraints.now number)) }
     requires right { IsTrue (tags_below most_tags (right_under (values_by by.now) constraints.now number)) }
-    ensures { IfOk result (Follows number (left_under (values_by by.now) constraints.now number) (right_under (values_by by.now) constraints.now number) before) }
+    ensures { IfOk result (Follows number (left_under (values_by by.now) constraints.now number)
+        (right_under (values_by by.now) constraints.now number) before) }
 {
     let constraint = &constraints[number];
     find_one(alloc, before, number, constraint, by)
@@ -108,7 +116,8 @@ fn find_one(
     requires by { IsAssignment by.now }
     requires left { IsTrue (tags_below most_tags (subst_of (values_by by.now) (pattern_view constraint.now.left))) }
     requires right { IsTrue (tags_below most_tags (subst_of (values_by by.now) (right_pattern (right_view constraint.now.right)))) }
-    ensures { IfOk result (Follows number (subst_of (values_by by.now) (pattern_view constraint.now.left)) (subst_of (values_by by.now) (right_pattern (right_view constraint.now.right))) before) }
+    ensures { IfOk result (Follows number (subst_of (values_by by.now) (pattern_view constraint.now.left))
+        (subst_of (values_by by.now) (right_pattern (right_view constraint.now.right))) before) }
 {
     if let Finding::TooLarge = before {
         return Ok(Finding::TooLarge);
@@ -138,7 +147,8 @@ fn find_against(
     requires by { IsAssignment by.now }
     requires left { IsTrue (tags_below most_tags (subst_of (values_by by.now) (pattern_view left.now))) }
     requires right { length (side_sets right) < 2 ^ 32 }
-    ensures { (f : Pat) → Some (side_sets right.entry) ≡ closed_form most_tags f → IfOk result (Follows number (subst_of (values_by by.now) (pattern_view left.now)) f before) }
+    ensures { (f : Pat) → Some (side_sets right.entry) ≡ closed_form most_tags f
+        → IfOk result (Follows number (subst_of (values_by by.now) (pattern_view left.now)) f before) }
 {
     match left_form(alloc, left, by)? {
         Some(form) => find_covering(alloc, before, number, form, right),
@@ -155,7 +165,8 @@ fn find_covering(
     right: SideForm,
 ) -> Result<Finding, AllocError>
     requires { length (side_sets right) < 2 ^ 32 }
-    ensures { (e f : Pat) → Some (side_sets left.entry) ≡ closed_form most_tags e → Some (side_sets right.entry) ≡ closed_form most_tags f → IfOk result (Follows number e f before) }
+    ensures { (e f : Pat) → Some (side_sets left.entry) ≡ closed_form most_tags e → Some (side_sets right.entry) ≡ closed_form most_tags f
+        → IfOk result (Follows number e f before) }
 {
     match before {
         Finding::Covered => find_first(alloc, number, left.as_slice(), right.as_slice()),
@@ -172,7 +183,8 @@ fn find_first(
     right: &[LinearSet],
 ) -> Result<Finding, AllocError>
     requires { length right.now < 2 ^ 32 }
-    ensures { (e f : Pat) → Some (sets_view left.now) ≡ closed_form most_tags e → Some (sets_view right.now) ≡ closed_form most_tags f → IfOk result (Follows number e f Finding.Covered) }
+    ensures { (e f : Pat) → Some (sets_view left.now) ≡ closed_form most_tags e → Some (sets_view right.now) ≡ closed_form most_tags f
+        → IfOk result (Follows number e f Finding.Covered) }
 {
     if is_covered(alloc, left, right)? {
         Ok(Finding::Covered)

@@ -59,7 +59,8 @@ pub fn value_forms(
     requires ascending { IsAscending variables.now }
     requires as_many { length variables.now ≡ length values.now }
     requires tags { (k : ℕ) → IsTrue (tags_below most_tags (value_in (paired variables.now (measured_list values.now)) k)) }
-    ensures { IfOk result (λ forms. forms_list forms ≡ map (λ k. closed_form most_tags (value_in (paired variables.now (measured_list values.now)) k)) variables.now) }
+    ensures { IfOk result (λ forms. forms_list forms
+        ≡ map (λ k. closed_form most_tags (value_in (paired variables.now (measured_list values.now)) k)) variables.now) }
 {
     let mut forms = Sequence::new(alloc);
     for variable in variables {
@@ -79,7 +80,8 @@ fn value_form(
     requires ascending { IsAscending variables.now }
     requires as_many { length variables.now ≡ length values.now }
     requires tags { IsTrue (tags_below most_tags (value_in (paired variables.now (measured_list values.now)) variable)) }
-    ensures { IfOk result (λ form. form_view form ≡ closed_form most_tags (value_in (paired variables.now (measured_list values.now)) variable)) }
+    ensures { IfOk result (λ form. form_view form
+        ≡ closed_form most_tags (value_in (paired variables.now (measured_list values.now)) variable)) }
 {
     let side = Pattern::Var(variable);
     side_form(alloc, &side, &Replacement::All(variables, values))
@@ -109,7 +111,8 @@ pub fn right_form<'a>(
 ) -> Result<Option<SideForm<'a>>, AllocError>
     requires by { IsAssignment by.now }
     requires tags { IsTrue (tags_below most_tags (subst_of (values_by by.now) (right_pattern (right_view side.now)))) }
-    ensures { IfOk result (λ form. side_view form ≡ closed_form most_tags (subst_of (values_by by.now) (right_pattern (right_view side.now)))) }
+    ensures { IfOk result (λ form. side_view form
+        ≡ closed_form most_tags (subst_of (values_by by.now) (right_pattern (right_view side.now)))) }
 {
     match side {
         Right::Var(variable) => variable_form(alloc, *variable, by),

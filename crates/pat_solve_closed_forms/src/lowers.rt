@@ -27,7 +27,8 @@ pub fn round_values(
     requires index { IsIndexOf problem.now index.now }
     requires ascending { IsAscending variables.now }
     requires each { (j : ℕ) → j < length variables.now → get_or variables.now j 0 ≤ length problem.now.vars }
-    ensures { (cs : List GhostConstraint) → map (lowers_by cs) variables.now ≡ map (lower_of (sides_list problem.now.constraints)) variables.now → IfOk result (RoundsGive cs variables.now) }
+    ensures { (cs : List GhostConstraint) → map (lowers_by cs) variables.now
+        ≡ map (lower_of (sides_list problem.now.constraints)) variables.now → IfOk result (RoundsGive cs variables.now) }
 {
     let lowers = lower_bounds(alloc, index, problem, variables)?;
     match lowers {
@@ -44,7 +45,8 @@ fn rounds_by(
 ) -> Result<Option<Sequence<Measured>>, AllocError>
     requires ascending { IsAscending variables.now }
     requires as_many { length variables.now ≡ length lowers }
-    ensures { (cs : List GhostConstraint) → map (lowers_by cs) variables.now ≡ measured_list lowers → IfOk result (RoundsGive cs variables.now) }
+    ensures { (cs : List GhostConstraint) → map (lowers_by cs) variables.now ≡ measured_list lowers
+        → IfOk result (RoundsGive cs variables.now) }
 {
     match assigned(alloc, variables, lowers.as_slice()) {
         Ok(values) => Ok(Some(values)),

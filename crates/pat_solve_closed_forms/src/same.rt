@@ -24,7 +24,8 @@ pub fn sides_are_same(
     by: &Assignment,
 ) -> Result<bool, AllocError>
     requires { IsAssignment by.now }
-    ensures { IfOk result (λ yes. IsTrue yes → subst_of (values_by by.now) (pattern_view left.now) ≡ subst_of (values_by by.now) (right_pattern (right_view right.now))) }
+    ensures { IfOk result (λ yes. IsTrue yes
+        → subst_of (values_by by.now) (pattern_view left.now) ≡ subst_of (values_by by.now) (right_pattern (right_view right.now))) }
 {
     let values = Replacement::All(by.variables, by.values);
     let left = replaced(alloc, left, &values)?;

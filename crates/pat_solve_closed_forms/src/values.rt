@@ -71,9 +71,14 @@ fn find_under(
     requires as_many { length variables.now ≡ length values }
     requires values { (k : ℕ) → IsTrue (tags_below most_tags (value_in (paired variables.now (measured_list values)) k)) }
     requires numbers { (j : ℕ) → j < length numbers.now → get_or numbers.now j 0 < length constraints.now }
-    requires lefts { (j : ℕ) → j < length numbers.now → IsTrue (tags_below most_tags (left_under (value_in (paired variables.now (measured_list values))) constraints.now (get_or numbers.now j 0))) }
-    requires rights { (j : ℕ) → j < length numbers.now → IsTrue (tags_below most_tags (right_under (value_in (paired variables.now (measured_list values))) constraints.now (get_or numbers.now j 0))) }
-    ensures { IfOk result (AnswersBy (Finds (value_in (paired variables.now (measured_list values))) constraints.now numbers.now (length numbers.now)) values) }
+    requires lefts { (j : ℕ) → j < length numbers.now
+        → IsTrue (tags_below most_tags (left_under (value_in (paired variables.now (measured_list values))) constraints.now
+        (get_or numbers.now j 0))) }
+    requires rights { (j : ℕ) → j < length numbers.now
+        → IsTrue (tags_below most_tags (right_under (value_in (paired variables.now (measured_list values))) constraints.now
+        (get_or numbers.now j 0))) }
+    ensures { IfOk result (AnswersBy (Finds (value_in (paired variables.now (measured_list values))) constraints.now numbers.now
+        (length numbers.now)) values) }
 {
     let found = find(alloc, constraints, numbers, variables, values.as_slice())?;
     Ok(answer(found, values))

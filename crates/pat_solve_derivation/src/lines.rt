@@ -31,7 +31,8 @@ pub fn bare_lines(
 /// Puts certificates in the place of those of the line at this place.
 fn put_at(lines: &mut [DerivedNode], place: usize, certs: Sequence<Cert>)
     requires { place < length lines.old }
-    ensures { (l : GhostLine) → slice_get (lines_view lines.old) place ≡ Some l → lines_view lines.new ≡ slice_set (lines_view lines.old) place (line_with l (certs_view certs)) }
+    ensures { (l : GhostLine) → slice_get (lines_view lines.old) place ≡ Some l
+        → lines_view lines.new ≡ slice_set (lines_view lines.old) place (line_with l (certs_view certs)) }
 {
     let_go(mem::replace(&mut lines[place].certs, certs));
 }

@@ -34,7 +34,8 @@ pub fn derivation_of(
     requires clean { (inferred (program_view program.now)).findings ≡ [] }
     requires problem { IsProblemOf program.now problem }
     requires solution { IsSolution (program_view program.now) solution }
-    ensures made { IfOk result (λ d. IsDerived (program_view program.now) (vars_view solution.values) (forms_of solution.bounds) (derivation_view d)) }
+    ensures made { IfOk result (λ d. IsDerived (program_view program.now) (vars_view solution.values) (forms_of solution.bounds)
+        (derivation_view d)) }
     ensures valid { IfOk result (λ d. IsValid (program_view program.now) (derivation_view d)) }
 {
     answer_laws();
@@ -70,7 +71,11 @@ fn derived(
 /// The derivation with these certificates in place of its own.
 fn completed(derivation: Derivation, certs: Sequence<Sequence<Cert>>) -> Derivation
     requires { length certs ≤ length derivation.nodes }
-    ensures { derivation_view result ≡ record { vars = vars_view derivation.vars; lines = with_certs (lines_view derivation.nodes) (map certs_view certs) } }
+    ensures { derivation_view result ≡ record {
+      vars = vars_view derivation.vars;
+      lines
+          = with_certs (lines_view derivation.nodes) (map certs_view certs);
+    } }
 {
     let (vars, nodes) = derivation.into_parts();
     let mut lines = nodes.items;

@@ -38,7 +38,9 @@ fn certs_at(
     requires node { node_at (program_view solved.now.program.now) number ≡ Some (node_view node.now) }
     requires function { function_at (program_view solved.now.program.now) node.now.function ≡ Some (function_view function.now) }
     requires line { line_at (derivation_view solved.now.derivation.now) number ≡ Some (line_view line.now) }
-    ensures { IfOk result (λ certs. AreCertsFor (scope_in solved.now) (forms_in solved.now) (needed_at (program_view solved.now.program.now) (derivation_view solved.now.derivation.now).vars number (node_view node.now) (function_view function.now)) (certs_view certs)) }
+    ensures { IfOk result (λ certs. AreCertsFor (scope_in solved.now) (forms_in solved.now)
+        (needed_at (program_view solved.now.program.now) (derivation_view solved.now.derivation.now).vars number (node_view node.now)
+        (function_view function.now)) (certs_view certs)) }
 {
     derived_laws();
     let all = demands(
@@ -86,7 +88,8 @@ fn certs_of(
     requires bare { IsBare (program_view solved.now.program.now) (forms_in solved.now) (derivation_view solved.now.derivation.now) }
     requires signatures { map signature_view signatures.now ≡ opened_from 1 (program_view solved.now.program.now).functions }
     requires within { number < length solved.now.program.now.nodes }
-    ensures { IfOk result (λ certs. HasCerts (program_view solved.now.program.now) (derivation_view solved.now.derivation.now).vars (forms_in solved.now) number (certs_view certs)) }
+    ensures { IfOk result (λ certs. HasCerts (program_view solved.now.program.now) (derivation_view solved.now.derivation.now).vars
+        (forms_in solved.now) number (certs_view certs)) }
 {
     let node = node_of(solved.program, number);
     let line = line_of(solved.derivation, number);
@@ -103,7 +106,8 @@ fn certs_of_each(
     requires solved { IsSolved solved.now }
     requires bare { IsBare (program_view solved.now.program.now) (forms_in solved.now) (derivation_view solved.now.derivation.now) }
     requires signatures { map signature_view signatures.now ≡ opened_from 1 (program_view solved.now.program.now).functions }
-    ensures { IfOk result (λ all. AreMade (program_view solved.now.program.now) (derivation_view solved.now.derivation.now).vars (forms_in solved.now) (map certs_view all)) }
+    ensures { IfOk result (λ all. AreMade (program_view solved.now.program.now) (derivation_view solved.now.derivation.now).vars
+        (forms_in solved.now) (map certs_view all)) }
 {
     let mut all = Sequence::new(alloc);
     for number in 0..solved.program.nodes.len() {
@@ -123,7 +127,8 @@ pub fn all_certs(
     requires well { WellFormed (program_view program.now) }
     requires values { IsTrue (values_fit (scope_of (program_view program.now) (derivation_view derivation.now))) }
     requires bare { IsBare (program_view program.now) (forms_of bounds.now) (derivation_view derivation.now) }
-    ensures { IfOk result (λ all. AreMade (program_view program.now) (derivation_view derivation.now).vars (forms_of bounds.now) (map certs_view all)) }
+    ensures { IfOk result (λ all. AreMade (program_view program.now) (derivation_view derivation.now).vars (forms_of bounds.now)
+        (map certs_view all)) }
 {
     let signatures = signatures(alloc, program.functions.as_slice())?;
     let plain = plain_values(alloc, derivation)?;

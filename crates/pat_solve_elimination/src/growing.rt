@@ -28,7 +28,8 @@ pub struct Growth {
 impl Growth {
     /// With a part more; `None` where these are too many nodes.
     pub(crate) fn with(self, nodes: u32, levels: u32) -> Option<Growth>
-        ensures { IfSome result (λ next. (next.nodes ≡ self.nodes + nodes) × (next.nodes ≤ most_nodes) × (next.levels ≡ max self.levels levels)) }
+        ensures { IfSome result (λ next. (next.nodes ≡ self.nodes + nodes) × (next.nodes ≤ most_nodes)
+            × (next.levels ≡ max self.levels levels)) }
     {
         let nodes = self.nodes.saturating_add(nodes);
         if nodes > MOST_NODES {
@@ -81,10 +82,16 @@ fn grow<'a>(
 ) -> Result<Option<Growth>, AllocError>
     requires ascending { IsAscending variables.now }
     requires as_many { length variables.now ≡ length values.now }
-    ensures nodes { let vs = paired variables.now (measured_list values.now) in IfOk result (λ made. IfSome made (λ next. (next.nodes + all_grown vs (pointed waiting.new) ≡ growth.nodes + all_grown vs (pattern_view part.now ∷ pointed waiting.old)) × (next.nodes ≤ most_nodes))) }
+    ensures nodes { let vs = paired variables.now (measured_list values.now) in
+        IfOk result (λ made. IfSome made (λ next.
+        (next.nodes + all_grown vs (pointed waiting.new) ≡ growth.nodes + all_grown vs (pattern_view part.now ∷ pointed waiting.old))
+        × (next.nodes ≤ most_nodes))) }
     ensures levels { IfOk result (λ made. IfSome made (λ next. growth.levels ≤ next.levels)) }
-    ensures settled { let vs = paired variables.now (measured_list values.now) in IfOk result (λ made. IfSome made (λ next. (k : ℕ) → Settled vs next.levels k ⊎ (any_has k (pointed waiting.new) ≡ any_has k (pattern_view part.now ∷ pointed waiting.old)))) }
-    ensures fewer { IfOk result (λ made. IfSome made (λ next. nodes (pointed waiting.new) < nodes (pattern_view part.now ∷ pointed waiting.old))) }
+    ensures settled { let vs = paired variables.now (measured_list values.now) in
+        IfOk result (λ made. IfSome made (λ next. (k : ℕ)
+        → Settled vs next.levels k ⊎ (any_has k (pointed waiting.new) ≡ any_has k (pattern_view part.now ∷ pointed waiting.old)))) }
+    ensures fewer { IfOk result (λ made. IfSome made
+        (λ next. nodes (pointed waiting.new) < nodes (pattern_view part.now ∷ pointed waiting.old))) }
 {
     match part {
         Pattern::Zero | Pattern::One | Pattern::Tag(_) => Ok(growth.with(1, 1)),
@@ -110,7 +117,8 @@ fn grow_by_value(
 ) -> Option<Growth>
     requires ascending { IsAscending variables.now }
     requires as_many { length variables.now ≡ length values.now }
-    ensures nodes { let vs = paired variables.now (measured_list values.now) in IfSome result (λ next. (next.nodes ≡ growth.nodes + size_of (listed_in vs variable)) × (next.nodes ≤ most_nodes)) }
+    ensures nodes { let vs = paired variables.now (measured_list values.now) in
+        IfSome result (λ next. (next.nodes ≡ growth.nodes + size_of (listed_in vs variable)) × (next.nodes ≤ most_nodes)) }
     ensures levels { IfSome result (λ next. growth.levels ≤ next.levels) }
     ensures settled { let vs = paired variables.now (measured_list values.now) in IfSome result (λ next. Settled vs next.levels variable) }
 {

@@ -69,7 +69,9 @@ fn mark_part<'a>(
     requires ascending { IsAscending variables.now }
     requires many { length marks.old.items ≡ length variables.now }
     ensures more { OnOk result (MarksMore from marks.old.items marks.new.items) }
-    ensures marked { OnOk result ((i : ℕ) → from ≤ i → i < length variables.now → any_has (get_or variables.now i 0) (pattern_view part.now ∷ pointed waiting.old) ≡ true → is_marked marks.new.items i ≡ false → any_has (get_or variables.now i 0) (pointed waiting.new) ≡ true) }
+    ensures marked { OnOk result ((i : ℕ) → from ≤ i → i < length variables.now
+        → any_has (get_or variables.now i 0) (pattern_view part.now ∷ pointed waiting.old) ≡ true → is_marked marks.new.items i ≡ false
+        → any_has (get_or variables.now i 0) (pointed waiting.new) ≡ true) }
     ensures fewer { OnOk result (nodes (pointed waiting.new) < nodes (pattern_view part.now ∷ pointed waiting.old)) }
 {
     match part {
@@ -95,7 +97,8 @@ fn mark_variable(variable: u32, variables: &[u32], from: usize, marks: &mut Vec<
     requires ascending { IsAscending variables.now }
     requires many { length marks.old.items ≡ length variables.now }
     ensures more { MarksMore from marks.old.items marks.new.items }
-    ensures marked { (i : ℕ) → from ≤ i → i < length variables.now → get_or variables.now i 0 ≡ variable → is_marked marks.new.items i ≡ true }
+    ensures marked { (i : ℕ) → from ≤ i → i < length variables.now → get_or variables.now i 0 ≡ variable
+        → is_marked marks.new.items i ≡ true }
 {
     match find_variable(variables, variable) {
         Some(place) => {

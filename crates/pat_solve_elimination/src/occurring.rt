@@ -22,7 +22,8 @@ pub fn next_place(
     requires within { from ≤ length variables.now }
     ensures from { IfOk result (λ place. from ≤ place) }
     ensures within { IfOk result (λ place. place ≤ length variables.now) }
-    ensures absent { IfOk result (λ place. (j : ℕ) → from ≤ j → j < place → has_var (get_or variables.now j 0) (pattern_view p.now) ≡ false) }
+    ensures absent { IfOk result (λ place. (j : ℕ) → from ≤ j → j < place
+        → has_var (get_or variables.now j 0) (pattern_view p.now) ≡ false) }
 {
     let mut place = variables.len();
     let mut waiting = Stack::new(alloc);
@@ -45,7 +46,9 @@ fn look<'a>(
     requires within { place ≤ length variables.now }
     ensures from { IfOk result (λ next. from ≤ place → from ≤ next) }
     ensures within { IfOk result (λ next. next ≤ place) }
-    ensures absent { IfOk result (λ next. (j : ℕ) → from ≤ j → j < next → any_has (get_or variables.now j 0) (pointed waiting.new) ≡ any_has (get_or variables.now j 0) (pattern_view part.now ∷ pointed waiting.old)) }
+    ensures absent { IfOk result (λ next. (j : ℕ) → from ≤ j → j < next
+        → any_has (get_or variables.now j 0) (pointed waiting.new)
+        ≡ any_has (get_or variables.now j 0) (pattern_view part.now ∷ pointed waiting.old)) }
     ensures fewer { IfOk result (λ next. nodes (pointed waiting.new) < nodes (pattern_view part.now ∷ pointed waiting.old)) }
 {
     match part {

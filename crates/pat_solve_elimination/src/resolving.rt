@@ -37,8 +37,11 @@ pub fn resolved(
     requires rebuilt { AllByRecursion IsRebuilt (measured_list values.now) }
     ensures many { IfOk result (λ made. IfSome made (λ rs. length rs ≡ length variables.now)) }
     ensures some { IfOk result (λ made. IfSome made (λ rs. paired variables.now (measured_list values.now) ≡ [] → ⊥)) }
-    ensures fits { IfOk result (λ made. IfSome made (λ rs. turn_fits (paired variables.now (measured_list values.now)) (measured_view f.now) ≡ true)) }
-    ensures same { IfOk result (λ made. IfSome made (λ rs. subst_of (listed_in (paired variables.now (measured_list rs))) (measured_view f.now) ≡ put_in_turn (paired variables.now (measured_list values.now)) (measured_view f.now))) }
+    ensures fits { IfOk result (λ made. IfSome made
+        (λ rs. turn_fits (paired variables.now (measured_list values.now)) (measured_view f.now) ≡ true)) }
+    ensures same { IfOk result (λ made. IfSome made
+        (λ rs. subst_of (listed_in (paired variables.now (measured_list rs))) (measured_view f.now)
+        ≡ put_in_turn (paired variables.now (measured_list values.now)) (measured_view f.now))) }
 {
     if variables.is_empty() {
         return Ok(None);
@@ -65,7 +68,8 @@ fn resolved_places(
     requires rebuilt { AllByRecursion IsRebuilt (measured_list values.now) }
     requires many { length marks.now ≡ length variables.now }
     requires closed { AreClosed variables.now (measured_list values.now) (length variables.now) marks.now }
-    ensures { IfOk result (λ made. IfSome made (λ known. AreResolved variables.now (measured_list values.now) marks.now 0 (measured_list known.values) known.weights)) }
+    ensures { IfOk result (λ made. IfSome made
+        (λ known. AreResolved variables.now (measured_list values.now) marks.now 0 (measured_list known.values) known.weights)) }
 {
     let mut known = nothing_known(alloc, variables.len())?;
     let mut place = variables.len();
@@ -133,7 +137,9 @@ fn resolve(
     requires so_many { length known.now.values ≡ length variables.now }
     requires weights { length known.now.weights ≡ length variables.now }
     requires rebuilt { AllByRecursion IsRebuilt (measured_list values.now) }
-    ensures { let n = place + 1 in IfOk result (λ made. IfSome made (λ new. Resolves (drop n variables.now) (drop n (measured_list known.now.values)) (drop n known.now.weights) (get_or (measured_list values.now) place Zero) (measured_view new.0) new.1)) }
+    ensures { let n = place + 1 in IfOk result
+        (λ made. IfSome made (λ new. Resolves (drop n variables.now) (drop n (measured_list known.now.values)) (drop n known.now.weights)
+        (get_or (measured_list values.now) place Zero) (measured_view new.0) new.1)) }
 {
     let later = place + 1;
     let settled = known.values.as_slice();
@@ -159,7 +165,8 @@ fn put_later(
     requires as_many { length variables.now ≡ length settled.now }
     requires weights { length variables.now ≡ length weights.now }
     requires own { IsRebuilt (measured_view value.now) }
-    ensures { IfOk result (λ made. IfSome made (λ new. Resolves variables.now (measured_list settled.now) weights.now (measured_view value.now) (measured_view new.0) new.1)) }
+    ensures { IfOk result (λ made. IfSome made
+        (λ new. Resolves variables.now (measured_list settled.now) weights.now (measured_view value.now) (measured_view new.0) new.1)) }
 {
     if has_none(value, variables) {
         let same = Growth {

@@ -31,7 +31,8 @@ pub fn in_turn(
     requires ascending { IsAscending variables.now }
     requires as_many { length variables.now ≡ length values.now }
     requires rebuilt { AllByRecursion IsRebuilt (measured_list values.now) }
-    ensures { let vs = paired variables.now (measured_list values.now) in Gives result (turn_fits vs (measured_view f.now)) (put_in_turn vs (measured_view f.now)) }
+    ensures { let vs = paired variables.now (measured_list values.now) in
+        Gives result (turn_fits vs (measured_view f.now)) (put_in_turn vs (measured_view f.now)) }
 {
     if may_grow(alloc, variables, values, f)? {
         return at_once(alloc, variables, values, f);
@@ -54,7 +55,9 @@ fn by_settled(
 ) -> Result<Measured, RoundError>
     requires ascending { IsAscending variables.now }
     requires as_many { length variables.now ≡ length settled.now }
-    ensures { (vs : Values) → (vs ≡ [] → ⊥) → turn_fits vs (measured_view f.now) ≡ true → subst_of (listed_in (paired variables.now (measured_list settled.now))) (measured_view f.now) ≡ put_in_turn vs (measured_view f.now) → Gives result (turn_fits vs (measured_view f.now)) (put_in_turn vs (measured_view f.now)) }
+    ensures { (vs : Values) → (vs ≡ [] → ⊥) → turn_fits vs (measured_view f.now) ≡ true
+        → subst_of (listed_in (paired variables.now (measured_list settled.now))) (measured_view f.now)
+        ≡ put_in_turn vs (measured_view f.now) → Gives result (turn_fits vs (measured_view f.now)) (put_in_turn vs (measured_view f.now)) }
 {
     let part = replaced(alloc, &f.pattern, &Replacement::Listed(variables, settled))?;
     kept(part)
@@ -71,7 +74,8 @@ pub fn in_turn_rebuilt(
     requires as_many { length variables.now ≡ length values.now }
     requires rebuilt { AllByRecursion IsRebuilt (measured_list values.now) }
     requires own { IsRebuilt (measured_view f.now) }
-    ensures { let vs = paired variables.now (measured_list values.now) in Gives result (turn_fits vs (measured_view f.now)) (put_in_turn vs (measured_view f.now)) }
+    ensures { let vs = paired variables.now (measured_list values.now) in
+        Gives result (turn_fits vs (measured_view f.now)) (put_in_turn vs (measured_view f.now)) }
 {
     if has_none(f, variables) {
         return Ok(f.copy()?);
@@ -90,7 +94,8 @@ fn at_once(
     requires as_many { length variables.now ≡ length values.now }
     requires rebuilt { AllByRecursion IsRebuilt (measured_list values.now) }
     requires may { MayGrow (paired variables.now (measured_list values.now)) (measured_view f.now) }
-    ensures { let vs = paired variables.now (measured_list values.now) in Gives result (turn_fits vs (measured_view f.now)) (put_in_turn vs (measured_view f.now)) }
+    ensures { let vs = paired variables.now (measured_list values.now) in
+        Gives result (turn_fits vs (measured_view f.now)) (put_in_turn vs (measured_view f.now)) }
 {
     let part = replaced(alloc, &f.pattern, &Replacement::Listed(variables, values))?;
     kept(part)
@@ -106,7 +111,8 @@ fn turns(
     requires ascending { IsAscending variables.now }
     requires as_many { length variables.now ≡ length values.now }
     requires rebuilt { AllByRecursion IsRebuilt (measured_list values.now) }
-    ensures { let vs = paired variables.now (measured_list values.now) in Gives result (turn_fits vs (measured_view f)) (put_in_turn vs (measured_view f)) }
+    ensures { let vs = paired variables.now (measured_list values.now) in
+        Gives result (turn_fits vs (measured_view f)) (put_in_turn vs (measured_view f)) }
 {
     let mut made = f;
     let mut place = 0;
@@ -127,7 +133,8 @@ fn turn(
 ) -> Result<Measured, RoundError>
     requires as_many { length variables.now ≡ length values.now }
     requires place { place < length variables.now }
-    ensures { let next = put_one_of (get_or variables.now place 0) (get_or (measured_list values.now) place Zero) (measured_view made.now) in Gives result (is_small next) next }
+    ensures { let next = put_one_of (get_or variables.now place 0) (get_or (measured_list values.now) place Zero)
+        (measured_view made.now) in Gives result (is_small next) next }
 {
     let value = &values[place];
     put_one(alloc, variables[place], value, made)

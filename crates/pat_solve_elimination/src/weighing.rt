@@ -25,8 +25,10 @@ pub fn weigh(
 ) -> Result<Option<Growth>, AllocError>
     requires ascending { IsAscending variables.now }
     requires as_many { length variables.now ≡ length weights.now }
-    ensures nodes { IfOk result (λ whole. IfSome whole (λ w. (weighed (nodes_by variables.now weights.now) (measured_view f.now) ≤ w.nodes) × (w.nodes ≤ most_nodes))) }
-    ensures levels { IfOk result (λ whole. IfSome whole (λ w. (deep (levels_by variables.now weights.now) (measured_view f.now) ≤ w.levels) × (w.levels ≤ most_levels))) }
+    ensures nodes { IfOk result (λ whole. IfSome whole
+        (λ w. (weighed (nodes_by variables.now weights.now) (measured_view f.now) ≤ w.nodes) × (w.nodes ≤ most_nodes))) }
+    ensures levels { IfOk result (λ whole. IfSome whole
+        (λ w. (deep (levels_by variables.now weights.now) (measured_view f.now) ≤ w.levels) × (w.levels ≤ most_levels))) }
 {
     let mut growth = Growth {
         nodes: 0,
@@ -68,10 +70,16 @@ fn weigh_part<'a>(
 ) -> Result<Option<Growth>, AllocError>
     requires ascending { IsAscending variables.now }
     requires as_many { length variables.now ≡ length weights.now }
-    ensures nodes { let w = nodes_by variables.now weights.now in IfOk result (λ made. IfSome made (λ next. (next.nodes + all_weighed w (pointed waiting.new) ≡ growth.nodes + all_weighed w (pattern_view part.now ∷ pointed waiting.old)) × (next.nodes ≤ most_nodes))) }
+    ensures nodes { let w = nodes_by variables.now weights.now in
+        IfOk result (λ made. IfSome made (λ next.
+        (next.nodes + all_weighed w (pointed waiting.new) ≡ growth.nodes + all_weighed w (pattern_view part.now ∷ pointed waiting.old))
+        × (next.nodes ≤ most_nodes))) }
     ensures levels { IfOk result (λ made. IfSome made (λ next. growth.levels ≤ next.levels)) }
-    ensures settled { let d = levels_by variables.now weights.now in IfOk result (λ made. IfSome made (λ next. (k : ℕ) → (d k ≤ next.levels) ⊎ (any_has k (pointed waiting.new) ≡ any_has k (pattern_view part.now ∷ pointed waiting.old)))) }
-    ensures fewer { IfOk result (λ made. IfSome made (λ next. nodes (pointed waiting.new) < nodes (pattern_view part.now ∷ pointed waiting.old))) }
+    ensures settled { let d = levels_by variables.now weights.now in
+        IfOk result (λ made. IfSome made (λ next. (k : ℕ)
+        → (d k ≤ next.levels) ⊎ (any_has k (pointed waiting.new) ≡ any_has k (pattern_view part.now ∷ pointed waiting.old)))) }
+    ensures fewer { IfOk result (λ made. IfSome made
+        (λ next. nodes (pointed waiting.new) < nodes (pattern_view part.now ∷ pointed waiting.old))) }
 {
     // `growing` walks so too; what its walk keeps true is of values in place of weights.
     match part {
@@ -98,7 +106,8 @@ fn weigh_variable(
 ) -> Option<Growth>
     requires ascending { IsAscending variables.now }
     requires as_many { length variables.now ≡ length weights.now }
-    ensures nodes { IfSome result (λ next. (next.nodes ≡ growth.nodes + nodes_by variables.now weights.now variable) × (next.nodes ≤ most_nodes)) }
+    ensures nodes { IfSome result (λ next. (next.nodes ≡ growth.nodes + nodes_by variables.now weights.now variable)
+        × (next.nodes ≤ most_nodes)) }
     ensures levels { IfSome result (λ next. (growth.levels ≤ next.levels) × (levels_by variables.now weights.now variable ≤ next.levels)) }
 {
     match find_variable(variables, variable) {

@@ -119,9 +119,11 @@ pub fn search_batch(
     requires sides { AllByRecursion (IsSearchable k tags) (picked (sides_list constraints.now) numbers.now) }
     requires from { from ≤ to }
     requires to { to ≤ length numbers.now }
-    requires found { AreFound (bounds_of (patterns_view system.now)) (renamed_by (place_in variables.now)) (picked (sides_list constraints.now) numbers.now) numbers.now from (findings_view findings) }
+    requires found { AreFound (bounds_of (patterns_view system.now)) (renamed_by (place_in variables.now))
+        (picked (sides_list constraints.now) numbers.now) numbers.now from (findings_view findings) }
     ensures least { IfOk result (λ r. from ≡ 0 → AreLeastOf k tags (patterns_view system.now) r.0) }
-    ensures found { IfOk result (λ r. AreFound (bounds_of (patterns_view system.now)) (renamed_by (place_in variables.now)) (picked (sides_list constraints.now) numbers.now) numbers.now to (findings_view r.1)) }
+    ensures found { IfOk result (λ r. AreFound (bounds_of (patterns_view system.now)) (renamed_by (place_in variables.now))
+        (picked (sides_list constraints.now) numbers.now) numbers.now to (findings_view r.1)) }
 {
     closed_laws();
     let mut symbols = Sequence::new(alloc);
@@ -242,7 +244,10 @@ fn read_each(
 ) -> Result<Findings, AllocError>
     requires ready { IsReady board.now entries.now }
     requires within { from + length sides.now ≤ length numbers.now }
-    ensures { (lower : ℕ → Pat) (rename : Pat → Pat) (zs : List GhostConstraint) → AreReady board.now entries.now lower rename zs numbers.now from sides.now → AreFound lower rename (picked zs numbers.now) numbers.now from (findings_view findings) → IfOk result (λ f. AreFound lower rename (picked zs numbers.now) numbers.now (from + length sides.now) (findings_view f)) }
+    ensures { (lower : ℕ → Pat) (rename : Pat → Pat) (zs : List GhostConstraint)
+        → AreReady board.now entries.now lower rename zs numbers.now from sides.now
+        → AreFound lower rename (picked zs numbers.now) numbers.now from (findings_view findings)
+        → IfOk result (λ f. AreFound lower rename (picked zs numbers.now) numbers.now (from + length sides.now) (findings_view f)) }
 {
     let mut found = findings;
     for place in 0..sides.len() {

@@ -37,7 +37,8 @@ fn keep_first(
     number: usize,
     found: Refutation,
 ) -> Option<(usize, Refutation)>
-    ensures { option_map refuted_view result ≡ first_or (option_map refuted_view refuted) (number, word_of found.word, bound_view found.tree) }
+    ensures { option_map refuted_view result
+        ≡ first_or (option_map refuted_view refuted) (number, word_of found.word, bound_view found.tree) }
 {
     match refuted {
         None => Some((number, found)),

@@ -26,8 +26,10 @@ pub fn lay_each(
     symbols: &mut Sequence<Symbol>,
 ) -> Result<Sequence<Option<(usize, usize)>>, AllocError>
     requires { IsAscending variables.now }
-    ensures symbols { OnOk result (symbols_view symbols.new ≡ laid_sides (renamed_by (place_in variables.now)) (symbols_view symbols.old) (picked (sides_list constraints.now) numbers.now)) }
-    ensures places { IfOk result (λ sides. sides ≡ all_places (renamed_by (place_in variables.now)) (symbols_view symbols.old) (picked (sides_list constraints.now) numbers.now)) }
+    ensures symbols { OnOk result (symbols_view symbols.new
+        ≡ laid_sides (renamed_by (place_in variables.now)) (symbols_view symbols.old) (picked (sides_list constraints.now) numbers.now)) }
+    ensures places { IfOk result (λ sides. sides
+        ≡ all_places (renamed_by (place_in variables.now)) (symbols_view symbols.old) (picked (sides_list constraints.now) numbers.now)) }
 {
     let mut sides = Sequence::new(alloc);
     for number in numbers {
@@ -46,8 +48,10 @@ fn lay_at(
     symbols: &mut Sequence<Symbol>,
 ) -> Result<Option<(usize, usize)>, AllocError>
     requires { IsAscending variables.now }
-    ensures symbols { OnOk result (symbols_view symbols.new ≡ laid_side (renamed_by (place_in variables.now)) (symbols_view symbols.old) (side_at (sides_list constraints.now) number)) }
-    ensures places { IfOk result (λ side. side ≡ side_places (renamed_by (place_in variables.now)) (symbols_view symbols.old) (side_at (sides_list constraints.now) number)) }
+    ensures symbols { OnOk result (symbols_view symbols.new
+        ≡ laid_side (renamed_by (place_in variables.now)) (symbols_view symbols.old) (side_at (sides_list constraints.now) number)) }
+    ensures places { IfOk result (λ side. side
+        ≡ side_places (renamed_by (place_in variables.now)) (symbols_view symbols.old) (side_at (sides_list constraints.now) number)) }
 {
     match constraints.get(number) {
         None => lay_zeros(alloc, symbols),
@@ -60,8 +64,10 @@ fn lay_zeros(
     alloc: Global,
     symbols: &mut Sequence<Symbol>,
 ) -> Result<Option<(usize, usize)>, AllocError>
-    ensures symbols { OnOk result (symbols_view symbols.new ≡ laid_both (symbols_view symbols.old) (pattern_view Pattern.Zero) (pattern_view Pattern.Zero)) }
-    ensures places { IfOk result (λ side. side ≡ last_both (symbols_view symbols.old) (pattern_view Pattern.Zero) (pattern_view Pattern.Zero)) }
+    ensures symbols { OnOk result (symbols_view symbols.new
+        ≡ laid_both (symbols_view symbols.old) (pattern_view Pattern.Zero) (pattern_view Pattern.Zero)) }
+    ensures places { IfOk result (λ side. side
+        ≡ last_both (symbols_view symbols.old) (pattern_view Pattern.Zero) (pattern_view Pattern.Zero)) }
 {
     lay_both(alloc, &Pattern::Zero, &Pattern::Zero, symbols)
 }
@@ -73,8 +79,10 @@ fn lay_sides(
     symbols: &mut Sequence<Symbol>,
 ) -> Result<Option<(usize, usize)>, AllocError>
     requires { IsAscending variables.now }
-    ensures symbols { OnOk result (symbols_view symbols.new ≡ laid_side (renamed_by (place_in variables.now)) (symbols_view symbols.old) (sides_view constraint.now)) }
-    ensures places { IfOk result (λ side. side ≡ side_places (renamed_by (place_in variables.now)) (symbols_view symbols.old) (sides_view constraint.now)) }
+    ensures symbols { OnOk result (symbols_view symbols.new
+        ≡ laid_side (renamed_by (place_in variables.now)) (symbols_view symbols.old) (sides_view constraint.now)) }
+    ensures places { IfOk result (λ side. side
+        ≡ side_places (renamed_by (place_in variables.now)) (symbols_view symbols.old) (sides_view constraint.now)) }
 {
     match &constraint.right {
         Right::Var(_) => Ok(None),
@@ -92,7 +100,8 @@ fn lay_both(
     right: &Pattern,
     symbols: &mut Sequence<Symbol>,
 ) -> Result<Option<(usize, usize)>, AllocError>
-    ensures symbols { OnOk result (symbols_view symbols.new ≡ laid_both (symbols_view symbols.old) (pattern_view left.now) (pattern_view right.now)) }
+    ensures symbols { OnOk result (symbols_view symbols.new
+        ≡ laid_both (symbols_view symbols.old) (pattern_view left.now) (pattern_view right.now)) }
     ensures places { IfOk result (λ side. side ≡ last_both (symbols_view symbols.old) (pattern_view left.now) (pattern_view right.now)) }
 {
     let one = lay_out(alloc, left, Role::Lower, symbols)?;

@@ -38,7 +38,8 @@ pub fn search_each(
     requires system { AllByRecursion (λ e. IsTrue (tags_below tags e)) (patterns_view system.now) }
     requires sides { AllByRecursion (IsSearchable k tags) (picked (sides_list constraints.now) numbers.now) }
     ensures least { IfOk result (λ r. AreLeastOf k tags (patterns_view system.now) r.0) }
-    ensures found { IfOk result (λ r. AreFound (bounds_of (patterns_view system.now)) (renamed_by (place_in variables.now)) (picked (sides_list constraints.now) numbers.now) numbers.now (length numbers.now) (findings_view r.1)) }
+    ensures found { IfOk result (λ r. AreFound (bounds_of (patterns_view system.now)) (renamed_by (place_in variables.now))
+        (picked (sides_list constraints.now) numbers.now) numbers.now (length numbers.now) (findings_view r.1)) }
 {
     let none = Findings {
         refuted: None,

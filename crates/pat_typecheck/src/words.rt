@@ -40,7 +40,9 @@ pub fn refuted_words(
 ) -> Result<Vec<u8>, AllocError>
     requires well { WellFormed (program_view program.now) }
     requires there { constraint.now.interface < length program.now.interfaces }
-    ensures { IfOk result (λ text. text.items ≡ refuted_words_of (tag_names_of (program_view program.now) constraint.now.interface) (word_of word.now) (right_view constraint.now.right)) }
+    ensures { IfOk result (λ text. text.items
+        ≡ refuted_words_of (tag_names_of (program_view program.now) constraint.now.interface) (word_of word.now)
+        (right_view constraint.now.right)) }
 {
     let interface = interface_at(program, constraint.interface);
     words_by(alloc, interface, word, &constraint.right)
@@ -65,7 +67,8 @@ fn words_by(
     right: &Right,
 ) -> Result<Vec<u8>, AllocError>
     requires { length interface.now.tags ≤ 32 }
-    ensures { IfOk result (λ text. text.items ≡ refuted_words_of (tag_names (interface_view interface.now)) (word_of word.now) (right_view right.now)) }
+    ensures { IfOk result (λ text. text.items
+        ≡ refuted_words_of (tag_names (interface_view interface.now)) (word_of word.now) (right_view right.now)) }
 {
     let mut text = b": word".to_vec(alloc)?;
     push_word(&mut text, interface.tags.as_slice(), word)?;
@@ -120,7 +123,8 @@ fn push_right(
     interface: &Interface,
     right: &Right,
 ) -> Result<(), AllocError>
-    ensures { OnOk result (text.new.items ≡ text.old.items ++ right_words (tag_names (interface_view interface.now)) (right_view right.now)) }
+    ensures { OnOk result (text.new.items ≡ text.old.items
+        ++ right_words (tag_names (interface_view interface.now)) (right_view right.now)) }
 {
     text.extend_from_slice(b" not in ")?;
     match right {

@@ -41,7 +41,8 @@ pub fn copied(pattern: &Pattern) -> Result<Option<Built>, AllocError>
 fn join_sum(alloc: Global, left: Built, right: Built) -> Result<Option<Built>, AllocError>
     requires left { IsCounted left }
     requires right { IsCounted right }
-    requires is { sum_of (pattern_view left.pattern) (pattern_view right.pattern) ≡ Pat.Sum (pattern_view left.pattern) (pattern_view right.pattern) }
+    requires is { sum_of (pattern_view left.pattern) (pattern_view right.pattern)
+        ≡ Pat.Sum (pattern_view left.pattern) (pattern_view right.pattern) }
     ensures { IfOk result (Limits (sum_of (pattern_view left.pattern) (pattern_view right.pattern))) }
 {
     let size = 1 + left.size + right.size;
@@ -74,7 +75,8 @@ pub fn sum(alloc: Global, left: Built, right: Built) -> Result<Option<Built>, Al
 fn join_product(alloc: Global, left: Built, right: Built) -> Result<Option<Built>, AllocError>
     requires left { IsCounted left }
     requires right { IsCounted right }
-    requires is { prod_of (pattern_view left.pattern) (pattern_view right.pattern) ≡ Pat.Prod (pattern_view left.pattern) (pattern_view right.pattern) }
+    requires is { prod_of (pattern_view left.pattern) (pattern_view right.pattern)
+        ≡ Pat.Prod (pattern_view left.pattern) (pattern_view right.pattern) }
     ensures { IfOk result (Limits (prod_of (pattern_view left.pattern) (pattern_view right.pattern))) }
 {
     let size = 1 + left.size + right.size;
@@ -145,7 +147,8 @@ pub fn sum_within(
 
 fn zero_if(part: Built) -> Option<Built>
     requires { IsCounted part }
-    ensures { (e : Pat) → most_nodes < size_of e → Limits (prod_of e (pattern_view part.pattern)) result × Limits (prod_of (pattern_view part.pattern) e) result }
+    ensures { (e : Pat) → most_nodes < size_of e → Limits (prod_of e (pattern_view part.pattern)) result
+        × Limits (prod_of (pattern_view part.pattern) e) result }
 {
     if part.pattern.is_zero() {
         Some(part)

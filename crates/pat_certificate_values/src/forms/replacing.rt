@@ -68,7 +68,8 @@ fn replace_onto(
 ) -> Result<(), AllocError>
     requires well { WellFormed (program_view program.now) }
     requires limited { AllByRecursion IsLimited done.old }
-    ensures { OnOk result (Puts (subst_of (pattern_of (scope_of (program_view program.now) (derivation_view derivation.now))) (pattern_view pattern.now)) done.old done.new) }
+    ensures { OnOk result (Puts (subst_of (pattern_of (scope_of (program_view program.now) (derivation_view derivation.now)))
+        (pattern_view pattern.now)) done.old done.new) }
 {
     match pattern {
         Pattern::Zero => done.push(Some(leaf(Pattern::Zero))),
@@ -112,7 +113,8 @@ fn put_value(
     done: &mut Stack<Option<Built>>,
 ) -> Result<(), AllocError>
     requires { WellFormed (program_view program.now) }
-    ensures { OnOk result (Puts (pattern_of (scope_of (program_view program.now) (derivation_view derivation.now)) number) done.old done.new) }
+    ensures { OnOk result (Puts (pattern_of (scope_of (program_view program.now)
+        (derivation_view derivation.now)) number) done.old done.new) }
 {
     let value = value_of(alloc, program, derivation, number)?;
     done.push(value)
@@ -122,7 +124,8 @@ fn put_value(
 fn put_sum(alloc: Global, done: &mut Stack<Option<Built>>) -> Result<(), AllocError>
     requires two { 2 ≤ length done.old }
     requires limited { AllByRecursion IsLimited done.old }
-    ensures { OnOk result ((e f : Pat) (rest middle : List (Option BuiltValue)) → Puts e rest middle → Puts f middle done.old → Puts (sum_of e f) rest done.new) }
+    ensures { OnOk result ((e f : Pat) (rest middle : List (Option BuiltValue)) → Puts e rest middle → Puts f middle done.old
+        → Puts (sum_of e f) rest done.new) }
 {
     let right = take(done);
     let left = take(done);
@@ -134,7 +137,8 @@ fn put_sum(alloc: Global, done: &mut Stack<Option<Built>>) -> Result<(), AllocEr
 fn put_product(alloc: Global, done: &mut Stack<Option<Built>>) -> Result<(), AllocError>
     requires two { 2 ≤ length done.old }
     requires limited { AllByRecursion IsLimited done.old }
-    ensures { OnOk result ((e f : Pat) (rest middle : List (Option BuiltValue)) → Puts e rest middle → Puts f middle done.old → Puts (prod_of e f) rest done.new) }
+    ensures { OnOk result ((e f : Pat) (rest middle : List (Option BuiltValue)) → Puts e rest middle → Puts f middle done.old
+        → Puts (prod_of e f) rest done.new) }
 {
     let right = take(done);
     let left = take(done);

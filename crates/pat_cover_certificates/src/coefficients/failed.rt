@@ -76,7 +76,8 @@ pub fn has_failed(failed: &[Option<Note>], place: usize, left: &Bag) -> bool
 
 /// Whether the note in the slot says so.
 fn is_noted_at(failed: &[Option<Note>], slot: usize, place: usize, left: &Bag) -> bool
-    ensures { IsTrue result → (v : NoteData) × (slice_get failed.now slot ≡ Some (Some v)) × (v.place ≡ place) × (word_of v.left ≡ word_of left.now) }
+    ensures { IsTrue result → (v : NoteData) × (slice_get failed.now slot ≡ Some (Some v)) × (v.place ≡ place)
+        × (word_of v.left ≡ word_of left.now) }
 {
     match failed.get(slot) {
         None => false,

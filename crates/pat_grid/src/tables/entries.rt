@@ -64,7 +64,8 @@ fn unknown_until(board: &Board, entries: &SparseList<u16>, s: usize, number: usi
     requires number { number < board.now.points }
     ensures past { number < result }
     ensures within { result ≤ board.now.points }
-    ensures same { (c : ℕ) → number ≤ c → c < result → entry_at (setting_of board.now) entries.now s c ≡ entry_at (setting_of board.now) entries.now s number }
+    ensures same { (c : ℕ) → number ≤ c → c < result
+        → entry_at (setting_of board.now) entries.now s c ≡ entry_at (setting_of board.now) entries.now s number }
 {
     if s >= board.symbols.len() {
         return number + 1;

@@ -76,7 +76,8 @@ fn pass(
     requires board { IsBoard board.now }
     requires users { HasUsers (setting_of board.now) users.now }
     requires stands { Stands (setting_of board.now) sizes.old waits.old }
-    ensures { IfOk result (λ changed. Passed (setting_of board.now) (length board.now.symbols.now) sizes.old.entries sizes.new waits.new changed) }
+    ensures { IfOk result (λ changed. Passed (setting_of board.now)
+        (length board.now.symbols.now) sizes.old.entries sizes.new waits.new changed) }
 {
     let mut changed = false;
     for s in 0..board.symbols.len() {

@@ -58,7 +58,8 @@ fn relax_part_at(
     requires all { HasAllEntries (setting_of board.now) sizes.old.entries }
     requires place { IsPlace board.now s number }
     requires takes { TakesPart (setting_of board.now) s part }
-    ensures { let g = setting_of board.now in OnOk result (Moved g s (part ≡ s → ⊥) (PartAt g s part number) sizes.old changed.old sizes.new changed.new) }
+    ensures { let g = setting_of board.now in
+        OnOk result (Moved g s (part ≡ s → ⊥) (PartAt g s part number) sizes.old changed.old sizes.new changed.new) }
 {
     let size = entry(board, &sizes.entries, part, number);
     if size > board.limit + 1 {

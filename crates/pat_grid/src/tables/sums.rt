@@ -102,10 +102,14 @@ fn relax_many(
     requires all { HasAllEntries (setting_of board.now) sizes.old.entries }
     requires there { s < length board.now.symbols.now }
     requires apart { AreOthers parts.0 parts.1 s }
-    requires firsts { (i : ℕ) → i < length firsts.now → (get_or firsts.now i 0 < board.now.points) × TakesParts (setting_of board.now) s parts.0 parts.1 (get_or firsts.now i 0) }
+    requires firsts { (i : ℕ) → i < length firsts.now → (get_or firsts.now i 0 < board.now.points)
+        × TakesParts (setting_of board.now) s parts.0 parts.1 (get_or firsts.now i 0) }
     requires seconds { (j : ℕ) → j < length seconds.now → get_or seconds.now j 0 < board.now.points }
-    requires known { let g = setting_of board.now in AreKnown g parts.0 firsts.now sizes.old.entries × AreKnown g parts.1 seconds.now sizes.old.entries }
-    ensures { let g = setting_of board.now in OnOk result (Moved g s (AreOthers parts.0 parts.1 s) (RowsBefore g s parts.0 parts.1 firsts.now seconds.now (length firsts.now)) sizes.old changed.old sizes.new changed.new) }
+    requires known { let g = setting_of board.now in AreKnown g parts.0 firsts.now sizes.old.entries
+        × AreKnown g parts.1 seconds.now sizes.old.entries }
+    ensures { let g = setting_of board.now in
+        OnOk result (Moved g s (AreOthers parts.0 parts.1 s)
+        (RowsBefore g s parts.0 parts.1 firsts.now seconds.now (length firsts.now)) sizes.old changed.old sizes.new changed.new) }
 {
     relax_within(alloc, board, sizes, s, parts, firsts, seconds, changed)?;
     reach_sums(alloc, board, sizes, s, parts, firsts, seconds, changed)
@@ -167,10 +171,14 @@ fn relax_again(
     requires board { IsBoard board.now }
     requires all { HasAllEntries (setting_of board.now) sizes.old.entries }
     requires there { s < length board.now.symbols.now }
-    requires firsts { (i : ℕ) → i < length firsts.now → (get_or firsts.now i 0 < board.now.points) × TakesParts (setting_of board.now) s part s (get_or firsts.now i 0) }
+    requires firsts { (i : ℕ) → i < length firsts.now → (get_or firsts.now i 0 < board.now.points)
+        × TakesParts (setting_of board.now) s part s (get_or firsts.now i 0) }
     requires seconds { (j : ℕ) → j < length seconds.now → get_or seconds.now j 0 < board.now.points }
-    requires known { let g = setting_of board.now in AreKnown g part firsts.now sizes.old.entries × AreKnown g s seconds.now sizes.old.entries }
-    ensures { let g = setting_of board.now in OnOk result (Moved g s ⊥ (RowsBefore g s part s firsts.now seconds.now (length firsts.now)) sizes.old changed.old sizes.new changed.new) }
+    requires known { let g = setting_of board.now in AreKnown g part firsts.now sizes.old.entries
+        × AreKnown g s seconds.now sizes.old.entries }
+    ensures { let g = setting_of board.now in
+        OnOk result (Moved g s ⊥ (RowsBefore g s part s firsts.now seconds.now
+        (length firsts.now)) sizes.old changed.old sizes.new changed.new) }
 {
     let mut lowered = false;
     relax_within(
@@ -205,9 +213,12 @@ fn relax_within(
     requires board { IsBoard board.now }
     requires all { HasAllEntries (setting_of board.now) sizes.old.entries }
     requires there { s < length board.now.symbols.now }
-    requires firsts { (i : ℕ) → i < length firsts.now → (get_or firsts.now i 0 < board.now.points) × TakesParts (setting_of board.now) s parts.0 parts.1 (get_or firsts.now i 0) }
+    requires firsts { (i : ℕ) → i < length firsts.now → (get_or firsts.now i 0 < board.now.points)
+        × TakesParts (setting_of board.now) s parts.0 parts.1 (get_or firsts.now i 0) }
     requires seconds { (j : ℕ) → j < length seconds.now → get_or seconds.now j 0 < board.now.points }
-    ensures { let g = setting_of board.now in OnOk result (Moved g s (AreOthers parts.0 parts.1 s) (RowsWithin g s parts.0 parts.1 firsts.now seconds.now (length firsts.now)) sizes.old changed.old sizes.new changed.new) }
+    ensures { let g = setting_of board.now in
+        OnOk result (Moved g s (AreOthers parts.0 parts.1 s)
+        (RowsWithin g s parts.0 parts.1 firsts.now seconds.now (length firsts.now)) sizes.old changed.old sizes.new changed.new) }
 {
     let ones = kept_below(alloc, board, &sizes.entries, parts.0, board.limit, firsts)?;
     let others = kept_below(alloc, board, &sizes.entries, parts.1, board.limit, seconds)?;
@@ -236,9 +247,12 @@ fn relax_rows_within(
     requires board { IsBoard board.now }
     requires all { HasAllEntries (setting_of board.now) sizes.old.entries }
     requires there { s < length board.now.symbols.now }
-    requires firsts { (i : ℕ) → i < length firsts.now → (get_or firsts.now i 0 < board.now.points) × TakesParts (setting_of board.now) s parts.0 parts.1 (get_or firsts.now i 0) }
+    requires firsts { (i : ℕ) → i < length firsts.now → (get_or firsts.now i 0 < board.now.points)
+        × TakesParts (setting_of board.now) s parts.0 parts.1 (get_or firsts.now i 0) }
     requires seconds { (j : ℕ) → j < length seconds.now → get_or seconds.now j 0 < board.now.points }
-    ensures { let g = setting_of board.now in OnOk result (Moved g s (AreOthers parts.0 parts.1 s) (RowsWithin g s parts.0 parts.1 firsts.now seconds.now (length firsts.now)) sizes.old changed.old sizes.new changed.new) }
+    ensures { let g = setting_of board.now in
+        OnOk result (Moved g s (AreOthers parts.0 parts.1 s)
+        (RowsWithin g s parts.0 parts.1 firsts.now seconds.now (length firsts.now)) sizes.old changed.old sizes.new changed.new) }
 {
     for first in firsts {
         relax_row_within(board, sizes, s, parts, *first, seconds, changed)?;
@@ -291,7 +305,9 @@ fn relax_row_within(
     requires place { IsPlace board.now s first }
     requires takes { TakesParts (setting_of board.now) s parts.0 parts.1 first }
     requires seconds { (j : ℕ) → j < length seconds.now → get_or seconds.now j 0 < board.now.points }
-    ensures { let g = setting_of board.now in OnOk result (Moved g s (AreOthers parts.0 parts.1 s) (RowWithin g s parts.0 parts.1 first seconds.now (length seconds.now)) sizes.old changed.old sizes.new changed.new) }
+    ensures { let g = setting_of board.now in
+        OnOk result (Moved g s (AreOthers parts.0 parts.1 s)
+        (RowWithin g s parts.0 parts.1 first seconds.now (length seconds.now)) sizes.old changed.old sizes.new changed.new) }
 {
     for second in seconds {
         relax_pair_within(board, sizes, s, parts, first, *second, changed)?;
@@ -313,7 +329,9 @@ fn relax_pair_within(
     requires place { IsPlace board.now s first }
     requires takes { TakesParts (setting_of board.now) s parts.0 parts.1 first }
     requires second { second < board.now.points }
-    ensures { let g = setting_of board.now in OnOk result (Moved g s (AreOthers parts.0 parts.1 s) (WithinAt g s parts.0 parts.1 first second) sizes.old changed.old sizes.new changed.new) }
+    ensures { let g = setting_of board.now in
+        OnOk result (Moved g s (AreOthers parts.0 parts.1 s)
+        (WithinAt g s parts.0 parts.1 first second) sizes.old changed.old sizes.new changed.new) }
 {
     let one = entry(board, &sizes.entries, parts.0, first) as u32;
     let other = entry(board, &sizes.entries, parts.1, second) as u32;
@@ -337,11 +355,14 @@ fn reach_sums(
     requires board { IsBoard board.now }
     requires all { HasAllEntries (setting_of board.now) sizes.old.entries }
     requires there { s < length board.now.symbols.now }
-    requires firsts { (i : ℕ) → i < length firsts.now → (get_or firsts.now i 0 < board.now.points) × TakesParts (setting_of board.now) s parts.0 parts.1 (get_or firsts.now i 0) }
+    requires firsts { (i : ℕ) → i < length firsts.now → (get_or firsts.now i 0 < board.now.points)
+        × TakesParts (setting_of board.now) s parts.0 parts.1 (get_or firsts.now i 0) }
     requires seconds { (j : ℕ) → j < length seconds.now → get_or seconds.now j 0 < board.now.points }
-    requires known { let g = setting_of board.now in AreKnown g parts.0 firsts.now sizes.old.entries × AreKnown g parts.1 seconds.now sizes.old.entries }
+    requires known { let g = setting_of board.now in AreKnown g parts.0 firsts.now sizes.old.entries
+        × AreKnown g parts.1 seconds.now sizes.old.entries }
     requires within { RowsWithin (setting_of board.now) s parts.0 parts.1 firsts.now seconds.now (length firsts.now) sizes.old.entries }
-    ensures { let g = setting_of board.now in OnOk result (Moved g s (Unit {0}) (HasSums g s firsts.now seconds.now) sizes.old changed.old sizes.new changed.new) }
+    ensures { let g = setting_of board.now in
+        OnOk result (Moved g s (Unit {0}) (HasSums g s firsts.now seconds.now) sizes.old changed.old sizes.new changed.new) }
 {
     let numbers = list_sums(alloc, firsts, seconds, board.k, board.tags)?;
     for number in numbers.as_slice() {
@@ -360,8 +381,10 @@ fn reach_if(
     requires board { IsBoard board.now }
     requires all { HasAllEntries (setting_of board.now) sizes.old.entries }
     requires place { IsPlace board.now s number }
-    requires step { let g = setting_of board.now in board.now.limit + 1 < entry_at g sizes.old.entries s number → Step g (table_of g sizes.old.entries) s (point_of g.bound g.tags number) (board.now.limit + 1) }
-    ensures moved { let g = setting_of board.now in OnOk result (Moved g s (Unit {0}) (λ es. entry_at g es s number ≤ g.limit + 1) sizes.old changed.old sizes.new changed.new) }
+    requires step { let g = setting_of board.now in board.now.limit + 1 < entry_at g sizes.old.entries s number
+        → Step g (table_of g sizes.old.entries) s (point_of g.bound g.tags number) (board.now.limit + 1) }
+    ensures moved { let g = setting_of board.now in
+        OnOk result (Moved g s (Unit {0}) (λ es. entry_at g es s number ≤ g.limit + 1) sizes.old changed.old sizes.new changed.new) }
     ensures kept { OnOk result (KeepsKnown (setting_of board.now) sizes.old.entries sizes.new.entries) }
 {
     if entry(board, &sizes.entries, s, number) <= board.limit + 1 {

@@ -86,7 +86,8 @@ fn relax_one(
     requires all { HasAllEntries (setting_of board.now) sizes.old.entries }
     requires there { s < length board.now.symbols.now }
     requires symbol { symbol_in (setting_of board.now).flat s ≡ OneSymbol }
-    ensures { OnOk result (Moved (setting_of board.now) s (IsNoPart (setting_of board.now) s) (ClosedAt (setting_of board.now) s) sizes.old changed.old sizes.new changed.new) }
+    ensures { OnOk result (Moved (setting_of board.now) s (IsNoPart (setting_of board.now) s)
+        (ClosedAt (setting_of board.now) s) sizes.old changed.old sizes.new changed.new) }
 {
     lower(board, sizes, s, 0, 1, changed)
 }
@@ -102,7 +103,8 @@ fn relax_tag(
     requires all { HasAllEntries (setting_of board.now) sizes.old.entries }
     requires there { s < length board.now.symbols.now }
     requires symbol { symbol_in (setting_of board.now).flat s ≡ TagSymbol tag }
-    ensures { OnOk result (Moved (setting_of board.now) s (IsNoPart (setting_of board.now) s) (ClosedAt (setting_of board.now) s) sizes.old changed.old sizes.new changed.new) }
+    ensures { OnOk result (Moved (setting_of board.now) s (IsNoPart (setting_of board.now) s)
+        (ClosedAt (setting_of board.now) s) sizes.old changed.old sizes.new changed.new) }
 {
     let number = number_of(&Bag::one(tag), board.k, board.tags);
     lower(board, sizes, s, number, 1, changed)
@@ -122,7 +124,8 @@ fn relax_sum(
     requires lists { HasLists (setting_of board.now) sizes.old }
     requires there { s < length board.now.symbols.now }
     requires symbol { symbol_in (setting_of board.now).flat s ≡ SumSymbol left right }
-    ensures { OnOk result (Moved (setting_of board.now) s (IsNoPart (setting_of board.now) s) (ClosedAt (setting_of board.now) s) sizes.old changed.old sizes.new changed.new) }
+    ensures { OnOk result (Moved (setting_of board.now) s (IsNoPart (setting_of board.now) s)
+        (ClosedAt (setting_of board.now) s) sizes.old changed.old sizes.new changed.new) }
 {
     relax_part(board, sizes, listed, s, left, changed)?;
     relax_part(board, sizes, listed, s, right, changed)
@@ -143,7 +146,8 @@ fn relax_product(
     requires lists { HasLists (setting_of board.now) sizes.old }
     requires there { s < length board.now.symbols.now }
     requires symbol { symbol_in (setting_of board.now).flat s ≡ ProdSymbol parts.0 parts.1 }
-    ensures { OnOk result (Moved (setting_of board.now) s (IsNoPart (setting_of board.now) s) (ClosedAt (setting_of board.now) s) sizes.old changed.old sizes.new changed.new) }
+    ensures { OnOk result (Moved (setting_of board.now) s (IsNoPart (setting_of board.now) s)
+        (ClosedAt (setting_of board.now) s) sizes.old changed.old sizes.new changed.new) }
 {
     known(board, sizes, parts.0, 0, firsts)?;
     known(board, sizes, parts.1, 0, seconds)?;
@@ -176,7 +180,8 @@ fn relax_star(
     requires lists { HasLists (setting_of board.now) sizes.old }
     requires there { s < length board.now.symbols.now }
     requires symbol { symbol_in (setting_of board.now).flat s ≡ StarSymbol part }
-    ensures { OnOk result (Moved (setting_of board.now) s (IsNoPart (setting_of board.now) s) (ClosedAt (setting_of board.now) s) sizes.old changed.old sizes.new changed.new) }
+    ensures { OnOk result (Moved (setting_of board.now) s (IsNoPart (setting_of board.now) s)
+        (ClosedAt (setting_of board.now) s) sizes.old changed.old sizes.new changed.new) }
 {
     known(board, sizes, part, 1, listed)?;
     let firsts = listed.as_slice();
@@ -206,7 +211,8 @@ fn relax_turn(
     requires lists { HasLists (setting_of board.now) sizes.old }
     requires place { IsPlace board.now s first }
     requires takes { TakesParts (setting_of board.now) s part s first }
-    ensures { OnOk result (Moved (setting_of board.now) s ⊥ (WholeRow (setting_of board.now) s part s first) sizes.old changed.old sizes.new changed.new) }
+    ensures { OnOk result (Moved (setting_of board.now) s ⊥
+        (WholeRow (setting_of board.now) s part s first) sizes.old changed.old sizes.new changed.new) }
 {
     known(board, sizes, s, 0, listed)?;
     let seconds = listed.as_slice();
@@ -232,7 +238,8 @@ fn relax_lower(
     requires lists { HasLists (setting_of board.now) sizes.old }
     requires there { s < length board.now.symbols.now }
     requires symbol { symbol_in (setting_of board.now).flat s ≡ LowerSymbol variable }
-    ensures { OnOk result (Moved (setting_of board.now) s (IsNoPart (setting_of board.now) s) (ClosedAt (setting_of board.now) s) sizes.old changed.old sizes.new changed.new) }
+    ensures { OnOk result (Moved (setting_of board.now) s (IsNoPart (setting_of board.now) s)
+        (ClosedAt (setting_of board.now) s) sizes.old changed.old sizes.new changed.new) }
 {
     relax_part(board, sizes, listed, s, root_of(board, variable), changed)
 }
@@ -258,7 +265,8 @@ fn relax_given(
     requires all { HasAllEntries (setting_of board.now) sizes.old.entries }
     requires there { s < length board.now.symbols.now }
     requires symbol { symbol_in (setting_of board.now).flat s ≡ GivenSymbol variable }
-    ensures { OnOk result (Moved (setting_of board.now) s (IsNoPart (setting_of board.now) s) (ClosedAt (setting_of board.now) s) sizes.old changed.old sizes.new changed.new) }
+    ensures { OnOk result (Moved (setting_of board.now) s (IsNoPart (setting_of board.now) s)
+        (ClosedAt (setting_of board.now) s) sizes.old changed.old sizes.new changed.new) }
 {
     if variable < board.given.len() {
         let given = &board.given[variable];
@@ -280,8 +288,10 @@ fn relax_held(
     requires all { HasAllEntries (setting_of board.now) sizes.old.entries }
     requires there { s < length board.now.symbols.now }
     requires counted { length held.now ≡ board.now.points }
-    requires takes { (table : Table) (c : ℕ) → c < board.now.points → get_or held.now c false ≡ true → Step (setting_of board.now) table s (point_of board.now.k board.now.tags c) 1 }
-    ensures { OnOk result (Moved (setting_of board.now) s (Unit {0}) (HeldBefore (setting_of board.now) s held.now board.now.points) sizes.old changed.old sizes.new changed.new) }
+    requires takes { (table : Table) (c : ℕ) → c < board.now.points → get_or held.now c false ≡ true
+        → Step (setting_of board.now) table s (point_of board.now.k board.now.tags c) 1 }
+    ensures { OnOk result (Moved (setting_of board.now) s (Unit {0})
+        (HeldBefore (setting_of board.now) s held.now board.now.points) sizes.old changed.old sizes.new changed.new) }
 {
     let mut number = next_held(held, 0);
     while number < board.points {

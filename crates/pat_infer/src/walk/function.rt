@@ -56,7 +56,9 @@ fn binders_of(
     signature: &Signature,
     needs: &[(u32, MailboxType)],
 ) -> Result<Sequence<Binder>, AllocError>
-    ensures { IfOk result (λ bs. map binder_view bs ≡ names_bound (types_at (signature_view signature.now).params) 0 (param_names 0 (function_view function.now).params) (needs_view needs.now)) }
+    ensures { IfOk result (λ bs. map binder_view bs
+        ≡ names_bound (types_at (signature_view signature.now).params) 0 (param_names 0 (function_view function.now).params)
+        (needs_view needs.now)) }
 {
     bind_parameters(
         alloc,
@@ -73,7 +75,9 @@ fn bind_parameters(
     types: &[Option<MailboxType>],
     needs: &[(u32, MailboxType)],
 ) -> Result<Sequence<Binder>, AllocError>
-    ensures { IfOk result (λ bs. map binder_view bs ≡ names_bound (types_at (map (option_map type_view) types.now)) 0 (param_names 0 (map sort_view params.now)) (needs_view needs.now)) }
+    ensures { IfOk result (λ bs. map binder_view bs
+        ≡ names_bound (types_at (map (option_map type_view) types.now)) 0 (param_names 0 (map sort_view params.now))
+        (needs_view needs.now)) }
 {
     let mut binders = Sequence::new(alloc);
     for place in 0..params.len() {

@@ -80,7 +80,9 @@ struct Chain {
 }
 
 fn chain_of(alloc: Global, program: &Program, levels: usize, node: u32) -> Result<Chain, AllocError>
-    ensures climbs { IfOk result (λ c. (t : types.TypeOf) (k : ℕ) → climbed (program_view program.now) t k c.level c.lets (walk_of c.level (program_view program.now) c.last t k) ≡ walk_of levels (program_view program.now) node t k) }
+    ensures climbs { IfOk result (λ c. (t : types.TypeOf) (k : ℕ)
+        → climbed (program_view program.now) t k c.level c.lets (walk_of c.level (program_view program.now) c.last t k)
+        ≡ walk_of levels (program_view program.now) node t k) }
     ensures count { IfOk result (λ c. length c.lets + c.level ≡ levels) }
     ensures last { IfOk result (λ c. next_body c.level (node_at (program_view program.now) c.last) ≡ None) }
 {
@@ -131,7 +133,8 @@ fn walk_inner(
 ) -> Result<Sequence<(u32, MailboxType)>, InferError>
     requires signed { IsSigned signed.now }
     requires last { next_body level (node_at (program_view signed.now.program.now) node) ≡ None }
-    ensures { Infers signed.now.program.now problem.old problem.new result (walk_of level (program_view signed.now.program.now) node (result_view asked.now) (1 + length problem.old.vars)) }
+    ensures { Infers signed.now.program.now problem.old problem.new result
+        (walk_of level (program_view signed.now.program.now) node (result_view asked.now) (1 + length problem.old.vars)) }
 {
     if level == 0 {
         Ok(Sequence::new(alloc))
@@ -153,7 +156,9 @@ fn close_lets(
 ) -> Result<Sequence<(u32, MailboxType)>, InferError>
     requires signed { IsSigned signed.now }
     requires fits { length lets + level < 18446744073709551616 }
-    ensures { (first : GhostProblem) (r : Found) → IsWalked signed.now.program.now first problem.old inner r → Infers signed.now.program.now first problem.new result (climbed (program_view signed.now.program.now) (result_view asked.now) (1 + length first.vars) level lets r) }
+    ensures { (first : GhostProblem) (r : Found) → IsWalked signed.now.program.now first problem.old inner r
+        → Infers signed.now.program.now first problem.new result
+        (climbed (program_view signed.now.program.now) (result_view asked.now) (1 + length first.vars) level lets r) }
 {
     let mut left = lets;
     let mut at = level;
@@ -177,7 +182,8 @@ fn walk_last(
 ) -> Result<Sequence<(u32, MailboxType)>, InferError>
     requires signed { IsSigned signed.now }
     requires last { node_body (node_at (program_view signed.now.program.now) node) ≡ None }
-    ensures { Infers signed.now.program.now problem.old problem.new result (walk_of (suc levels) (program_view signed.now.program.now) node (result_view asked.now) (1 + length problem.old.vars)) }
+    ensures { Infers signed.now.program.now problem.old problem.new result
+        (walk_of (suc levels) (program_view signed.now.program.now) node (result_view asked.now) (1 + length problem.old.vars)) }
 {
     match node_of(signed.program, node) {
         None => Ok(Sequence::new(alloc)),
@@ -211,7 +217,8 @@ fn keep_node(
     needs: &[(u32, MailboxType)],
     problem: &mut Problem,
 ) -> Result<(), AllocError>
-    ensures { OnOk result (Grows problem.old problem.new [] [] ((node, record { result = result_view asked.now; needs = needs_view needs.now }) ∷ [])) }
+    ensures { OnOk result (Grows problem.old problem.new [] []
+        ((node, record { result = result_view asked.now; needs = needs_view needs.now }) ∷ [])) }
 {
     let result = asked.copy()?;
     let env = copy_needs(alloc, needs)?;
@@ -231,7 +238,9 @@ fn walk_core(
 ) -> Result<Sequence<(u32, MailboxType)>, InferError>
     requires signed { IsSigned signed.now }
     requires last { core_body (core_view there.now.core) ≡ None }
-    ensures { Infers signed.now.program.now problem.old problem.new result (core_found (program_view signed.now.program.now) (walk_of levels (program_view signed.now.program.now)) there.now.function node (1 + length problem.old.vars) (result_view asked.now) (core_view there.now.core)) }
+    ensures { Infers signed.now.program.now problem.old problem.new result
+        (core_found (program_view signed.now.program.now) (walk_of levels (program_view signed.now.program.now)) there.now.function node
+        (1 + length problem.old.vars) (result_view asked.now) (core_view there.now.core)) }
 {
     let program = signed.program;
     match &there.core {
@@ -342,7 +351,10 @@ fn walk_choice(
     problem: &mut Problem,
 ) -> Result<Sequence<(u32, MailboxType)>, InferError>
     requires { IsSigned signed.now }
-    ensures { Infers signed.now.program.now problem.old problem.new result (if_from node (1 + length problem.old.vars) (walk_arms (walk_of levels (program_view signed.now.program.now)) (result_view asked.now) (1 + length problem.old.vars) (two_branches yes no))) }
+    ensures { Infers signed.now.program.now problem.old problem.new result
+        (if_from node (1 + length problem.old.vars)
+        (walk_arms (walk_of levels (program_view signed.now.program.now)) (result_view asked.now) (1 + length problem.old.vars)
+        (two_branches yes no))) }
 {
     let branches = [
         Branch {
@@ -371,7 +383,13 @@ fn walk_guard(
     problem: &mut Problem,
 ) -> Result<Sequence<(u32, MailboxType)>, InferError>
     requires { IsSigned signed.now }
-    ensures { Infers signed.now.program.now problem.old problem.new result (guard_found (program_view signed.now.program.now) guarded.now.function guarded.now.node (1 + length problem.old.vars + length (walk_arms (walk_of levels (program_view signed.now.program.now)) (result_view asked.now) (1 + length problem.old.vars) (branches_in free (map clause_view guarded.now.clauses.now))).vars) guarded.now.variable (pattern_view guarded.now.pattern.now) guarded.now.interface guarded.now.has_free (map clause_view guarded.now.clauses.now) (walk_arms (walk_of levels (program_view signed.now.program.now)) (result_view asked.now) (1 + length problem.old.vars) (branches_in free (map clause_view guarded.now.clauses.now)))) }
+    ensures { Infers signed.now.program.now problem.old problem.new result
+        (guard_found (program_view signed.now.program.now) guarded.now.function guarded.now.node
+        (1 + length problem.old.vars + length (walk_arms (walk_of levels (program_view signed.now.program.now)) (result_view asked.now)
+        (1 + length problem.old.vars) (branches_in free (map clause_view guarded.now.clauses.now))).vars) guarded.now.variable
+        (pattern_view guarded.now.pattern.now) guarded.now.interface guarded.now.has_free (map clause_view guarded.now.clauses.now)
+        (walk_arms (walk_of levels (program_view signed.now.program.now)) (result_view asked.now) (1 + length problem.old.vars)
+        (branches_in free (map clause_view guarded.now.clauses.now)))) }
 {
     let branches = branches_of(alloc, free, guarded.clauses)?;
     let arms = walk_branches(alloc, signed, levels, branches.as_slice(), asked, problem)?;
@@ -404,7 +422,9 @@ fn add_branch<'a>(
     clause: &'a Clause,
     branches: &mut Vec<Branch<'a>>,
 ) -> Result<Option<u32>, AllocError>
-    ensures { IfOk result (λ w. (rest : List CodeClause) → map branch_view branches.new.items ++ branches_in w (map clause_view rest) ≡ map branch_view branches.old.items ++ branches_in waiting (clause_view clause.now ∷ map clause_view rest)) }
+    ensures { IfOk result (λ w. (rest : List CodeClause)
+        → map branch_view branches.new.items ++ branches_in w (map clause_view rest) ≡ map branch_view branches.old.items
+        ++ branches_in waiting (clause_view clause.now ∷ map clause_view rest)) }
 {
     match waiting {
         None => {
@@ -444,7 +464,9 @@ fn walk_branches<'a>(
     problem: &mut Problem,
 ) -> Result<Sequence<WalkedArm<'a>>, InferError>
     requires { IsSigned signed.now }
-    ensures { InfersArms signed.now.program.now problem.old problem.new result (walk_arms (walk_of levels (program_view signed.now.program.now)) (result_view asked.now) (1 + length problem.old.vars) (map branch_view branches.now)) }
+    ensures { InfersArms signed.now.program.now problem.old problem.new result
+        (walk_arms (walk_of levels (program_view signed.now.program.now)) (result_view asked.now) (1 + length problem.old.vars)
+        (map branch_view branches.now)) }
 {
     let mut arms = Sequence::new(alloc);
     for branch in branches {
@@ -469,7 +491,10 @@ fn close_let(
     problem: &mut Problem,
 ) -> Result<Sequence<(u32, MailboxType)>, InferError>
     requires { IsSigned signed.now }
-    ensures { (first : GhostProblem) (r : Found) → IsWalked signed.now.program.now first problem.old body r → Infers signed.now.program.now first problem.new result (let_around (program_view signed.now.program.now) levels node (result_view asked.now) (1 + length first.vars) (node_at (program_view signed.now.program.now) node) r) }
+    ensures { (first : GhostProblem) (r : Found) → IsWalked signed.now.program.now first problem.old body r
+        → Infers signed.now.program.now first problem.new result
+        (let_around (program_view signed.now.program.now) levels node (result_view asked.now) (1 + length first.vars)
+        (node_at (program_view signed.now.program.now) node) r) }
 {
     match let_parts(signed.program, node) {
         None => Ok(body),

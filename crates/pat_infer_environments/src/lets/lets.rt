@@ -33,7 +33,8 @@ pub fn asked_of(
     name: Option<u32>,
     body: &[(u32, MailboxType)],
 ) -> Result<TypeOf, AllocError>
-    ensures { IfOk result (λ t. result_view t ≡ asked_of_node (node_at (program_view program.now) part) (name_need name (needs_view body.now))) }
+    ensures { IfOk result (λ t. result_view t
+        ≡ asked_of_node (node_at (program_view program.now) part) (name_need name (needs_view body.now))) }
 {
     let need = needed_of(name, body);
     match program.nodes.as_slice().get(part as usize) {
@@ -87,7 +88,8 @@ pub fn join_let(
     body: &[(u32, MailboxType)],
     problem: &mut Problem,
 ) -> Result<Sequence<(u32, MailboxType)>, InferError>
-    ensures { Infers program.now problem.old problem.new result (own_let node (1 + length problem.old.vars) (needs_view bound.now) (needs_view body.now)) }
+    ensures { Infers program.now problem.old problem.new result
+        (own_let node (1 + length problem.old.vars) (needs_view bound.now) (needs_view body.now)) }
 {
     check_order(program, node, bound, body)?;
     check_double(program, node, bound, body)?;
@@ -102,14 +104,17 @@ fn check_order(
     bound: &[(u32, MailboxType)],
     body: &[(u32, MailboxType)],
 ) -> Result<(), InferError>
-    ensures { Meets program.now result (each_unless (λ z. in_order (need_of (needs_view bound.now) z) (need_of (needs_view body.now) z)) OrderRule (λ z. AtNode node) (names_of_two (needs_view bound.now) (needs_view body.now))) }
+    ensures { Meets program.now result (each_unless
+        (λ z. in_order (need_of (needs_view bound.now) z) (need_of (needs_view body.now) z)) OrderRule (λ z. AtNode node)
+        (names_of_two (needs_view bound.now) (needs_view body.now))) }
 {
     check_node(program, are_in_order(bound, body), Rule::Order, node)
 }
 
 /// Whether the needs of both parts are in order. Only those of the bound part are looked at, since others are.
 fn are_in_order(bound: &[(u32, MailboxType)], body: &[(u32, MailboxType)]) -> bool
-    ensures { result ≡ list_all (λ z. in_order (need_of (needs_view bound.now) z) (need_of (needs_view body.now) z)) (keys_of (needs_view bound.now)) }
+    ensures { result ≡ list_all (λ z. in_order (need_of (needs_view bound.now) z) (need_of (needs_view body.now) z))
+        (keys_of (needs_view bound.now)) }
 {
     let mut in_bound = first_place();
     let mut in_body = first_place();
@@ -139,14 +144,17 @@ fn check_double(
     bound: &[(u32, MailboxType)],
     body: &[(u32, MailboxType)],
 ) -> Result<(), InferError>
-    ensures { Meets program.now result (each_unless (λ z. one_receives (need_of (needs_view bound.now) z) (need_of (needs_view body.now) z)) DoubleRule (λ z. AtNode node) (names_of_two (needs_view bound.now) (needs_view body.now))) }
+    ensures { Meets program.now result (each_unless
+        (λ z. one_receives (need_of (needs_view bound.now) z) (need_of (needs_view body.now) z)) DoubleRule (λ z. AtNode node)
+        (names_of_two (needs_view bound.now) (needs_view body.now))) }
 {
     check_node(program, receive_once(bound, body), Rule::Double, node)
 }
 
 /// Whether one part at most receives from each variable. Only those of the bound part are looked at, since of others it is so.
 fn receive_once(bound: &[(u32, MailboxType)], body: &[(u32, MailboxType)]) -> bool
-    ensures { result ≡ list_all (λ z. one_receives (need_of (needs_view bound.now) z) (need_of (needs_view body.now) z)) (keys_of (needs_view bound.now)) }
+    ensures { result ≡ list_all (λ z. one_receives (need_of (needs_view bound.now) z) (need_of (needs_view body.now) z))
+        (keys_of (needs_view bound.now)) }
 {
     let mut in_bound = first_place();
     let mut in_body = first_place();

@@ -47,7 +47,8 @@ fn open_functions(
     functions: &[Function],
     problem: &mut Problem,
 ) -> Result<Sequence<Signature>, AllocError>
-    ensures signatures { IfOk result (λ s. map signature_view s ≡ signatures_from (1 + length problem.old.vars) (map function_view functions.now)) }
+    ensures signatures { IfOk result (λ s. map signature_view s
+        ≡ signatures_from (1 + length problem.old.vars) (map function_view functions.now)) }
     ensures grows { OnOk result (Grows problem.old problem.new (flat_map function_variables functions.now) [] []) }
 {
     let mut signatures = Sequence::new(alloc);
@@ -77,7 +78,8 @@ fn open_parameters(
     sorts: &[Sort],
     problem: &mut Problem,
 ) -> Result<Sequence<Option<MailboxType>>, AllocError>
-    ensures types { IfOk result (λ os. map (option_map type_view) os ≡ open_params (1 + length problem.old.vars) (map sort_view sorts.now)) }
+    ensures types { IfOk result (λ os. map (option_map type_view) os
+        ≡ open_params (1 + length problem.old.vars) (map sort_view sorts.now)) }
     ensures grows { OnOk result (Grows problem.old problem.new (flat_map own_variable sorts.now) [] []) }
     ensures count { OnOk result (1 + length problem.new.vars ≡ params_end (1 + length problem.old.vars) (map sort_view sorts.now)) }
 {
@@ -128,7 +130,8 @@ fn open_result(sort: &Sort, problem: &mut Problem) -> Result<TypeOf, AllocError>
 
 /// The written pattern, or a new variable.
 fn open_pattern(mailbox: &MailboxSort, problem: &mut Problem) -> Result<Pattern, AllocError>
-    ensures pattern { IfOk result (λ e. pattern_view e ≡ written_or (Var (1 + length problem.old.vars)) (option_map pattern_view mailbox.now.pattern)) }
+    ensures pattern { IfOk result (λ e. pattern_view e
+        ≡ written_or (Var (1 + length problem.old.vars)) (option_map pattern_view mailbox.now.pattern)) }
     ensures grows { OnOk result (Grows problem.old problem.new (own_variable (Sort.Mailbox mailbox.now)) [] []) }
     ensures count { OnOk result (1 + length problem.new.vars ≡ 1 + length problem.old.vars + omits (sort_view (Sort.Mailbox mailbox.now))) }
 {

@@ -85,7 +85,8 @@ pub fn gather_arms(
     arms: &[WalkedArm],
     problem: &mut Problem,
 ) -> Result<Sequence<(u32, MailboxType)>, AllocError>
-    ensures { Gathers program.now problem.old problem.new result (arms_gathered node (1 + length problem.old.vars) (map arm_view arms.now)) }
+    ensures { Gathers program.now problem.old problem.new result
+        (arms_gathered node (1 + length problem.old.vars) (map arm_view arms.now)) }
 {
     let outer = all_outer(alloc, arms)?;
     gather_branches(alloc, program, node, outer.as_slice(), problem)
@@ -98,7 +99,8 @@ fn check_branches(
     node: u32,
     branches: &[Sequence<(u32, MailboxType)>],
 ) -> Result<(), InferError>
-    ensures { Meets program.now result (each_unless (λ z. branches_agree (column_at z (map needs_view branches.now))) BranchRule (λ z. AtNode node) (names_of_outer (map needs_view branches.now))) }
+    ensures { Meets program.now result (each_unless (λ z. branches_agree (column_at z (map needs_view branches.now))) BranchRule
+        (λ z. AtNode node) (names_of_outer (map needs_view branches.now))) }
 {
     let names = names_of(alloc, branches)?;
     let holds = agree_on(alloc, node, names.as_slice(), branches)?;
@@ -112,7 +114,9 @@ fn agree_on(
     names: &[u32],
     branches: &[Sequence<(u32, MailboxType)>],
 ) -> Result<bool, AllocError>
-    ensures { IfOk result (λ holds. first_of (unless holds BranchRule (AtNode node)) ≡ first_of (each_unless (λ z. branches_agree (column_at z (map needs_view branches.now))) BranchRule (λ z. AtNode node) names.now)) }
+    ensures { IfOk result (λ holds. first_of (unless holds BranchRule (AtNode node))
+        ≡ first_of (each_unless (λ z. branches_agree (column_at z (map needs_view branches.now))) BranchRule
+        (λ z. AtNode node) names.now)) }
 {
     let mut cursors = first_places(alloc, branches)?;
     for name in names {

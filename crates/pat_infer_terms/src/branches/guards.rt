@@ -91,7 +91,8 @@ fn check_order(
     variable: u32,
     arms: &[WalkedArm],
 ) -> Result<(), InferError>
-    ensures { Meets program.now result (each_unless (λ a. is_none (need_of a.needs variable)) OrderRule (λ a. AtNode node) (map arm_view arms.now)) }
+    ensures { Meets program.now result (each_unless (λ a. is_none (need_of a.needs variable)) OrderRule (λ a. AtNode node)
+        (map arm_view arms.now)) }
 {
     let in_order = none_needs(node, variable, arms);
     check_node(program, in_order, Rule::Order, node)
@@ -105,7 +106,8 @@ fn check_payloads(
     interface: u32,
     arms: &[WalkedArm],
 ) -> Result<(), InferError>
-    ensures { Meets program.now result (each_unless (keeps_own (program_view program.now) interface) PayloadRule (λ a. AtNode node) (map arm_view arms.now)) }
+    ensures { Meets program.now result (each_unless (keeps_own (program_view program.now) interface) PayloadRule (λ a. AtNode node)
+        (map arm_view arms.now)) }
 {
     let keep = all_keep(alloc, program, node, interface, arms)?;
     check_node(program, keep, Rule::Payload, node)
@@ -113,7 +115,9 @@ fn check_payloads(
 
 /// The clauses cover the pattern.
 fn check_cover(program: &Program, guarded: &Guarded) -> Result<(), InferError>
-    ensures { Meets program.now result (unless (covers_of (pattern_view guarded.now.pattern.now) (is_received (map clause_view guarded.now.clauses.now)) guarded.now.has_free) CoversRule (AtNode guarded.now.node)) }
+    ensures { Meets program.now result (unless
+        (covers_of (pattern_view guarded.now.pattern.now)
+        (is_received (map clause_view guarded.now.clauses.now)) guarded.now.has_free) CoversRule (AtNode guarded.now.node)) }
 {
     let covered = is_covered(guarded.pattern, guarded.clauses, guarded.has_free);
     check_node(program, covered, Rule::Covers, guarded.node)
@@ -121,7 +125,8 @@ fn check_cover(program: &Program, guarded: &Guarded) -> Result<(), InferError>
 
 /// Whether no branch needs the guarded variable.
 fn none_needs(node: u32, variable: u32, arms: &[WalkedArm]) -> bool
-    ensures { first_of (unless result OrderRule (AtNode node)) ≡ first_of (each_unless (λ a. is_none (need_of a.needs variable)) OrderRule (λ a. AtNode node) (map arm_view arms.now)) }
+    ensures { first_of (unless result OrderRule (AtNode node))
+        ≡ first_of (each_unless (λ a. is_none (need_of a.needs variable)) OrderRule (λ a. AtNode node) (map arm_view arms.now)) }
 {
     for arm in arms {
         if find(arm.needs.as_slice(), variable as usize).is_some() {
@@ -139,7 +144,8 @@ fn all_keep(
     interface: u32,
     arms: &[WalkedArm],
 ) -> Result<bool, AllocError>
-    ensures { IfOk result (λ keep. first_of (unless keep PayloadRule (AtNode node)) ≡ first_of (each_unless (keeps_own (program_view program.now) interface) PayloadRule (λ a. AtNode node) (map arm_view arms.now))) }
+    ensures { IfOk result (λ keep. first_of (unless keep PayloadRule (AtNode node))
+        ≡ first_of (each_unless (keeps_own (program_view program.now) interface) PayloadRule (λ a. AtNode node) (map arm_view arms.now))) }
 {
     for arm in arms {
         let keep = keeps(alloc, program, interface, arm)?;
@@ -208,7 +214,8 @@ fn binders_of(
     guarded: &Guarded,
     arms: &[WalkedArm],
 ) -> Result<Sequence<Binder>, AllocError>
-    ensures { IfOk result (λ bs. map binder_view bs ≡ guard_binders (program_view program.now) guarded.now.interface (pattern_view guarded.now.pattern.now) (map arm_view arms.now)) }
+    ensures { IfOk result (λ bs. map binder_view bs
+        ≡ guard_binders (program_view program.now) guarded.now.interface (pattern_view guarded.now.pattern.now) (map arm_view arms.now)) }
 {
     let mut binders = Sequence::new(alloc);
     for arm in arms {
@@ -233,7 +240,8 @@ fn add_binders(
     arm: &WalkedArm,
     binders: &mut Sequence<Binder>,
 ) -> Result<(), AllocError>
-    ensures { OnOk result (map binder_view binders.new ≡ map binder_view binders.old ++ arm_binders (program_view program.now) interface (pattern_view pattern.now) (arm_view arm.now).needs (arm_view arm.now).clause) }
+    ensures { OnOk result (map binder_view binders.new ≡ map binder_view binders.old
+        ++ arm_binders (program_view program.now) interface (pattern_view pattern.now) (arm_view arm.now).needs (arm_view arm.now).clause) }
 {
     match arm.clause {
         None => Ok(()),
@@ -258,7 +266,9 @@ fn add_clause(
     needs: &[(u32, MailboxType)],
     binders: &mut Sequence<Binder>,
 ) -> Result<(), AllocError>
-    ensures { OnOk result (map binder_view binders.new ≡ map binder_view binders.old ++ arm_binders (program_view program.now) interface (pattern_view pattern.now) (needs_view needs.now) (Some (clause_view clause.now))) }
+    ensures { OnOk result (map binder_view binders.new ≡ map binder_view binders.old
+        ++ arm_binders (program_view program.now) interface (pattern_view pattern.now) (needs_view needs.now)
+        (Some (clause_view clause.now))) }
 {
     let rest = residual(alloc, pattern, clause.tag)?;
     let left = MailboxType {
@@ -288,7 +298,8 @@ fn add_payloads(
     needs: &[(u32, MailboxType)],
     binders: &mut Sequence<Binder>,
 ) -> Result<(), AllocError>
-    ensures { OnOk result (map binder_view binders.new ≡ map binder_view binders.old ++ names_bound (declared_types (option_map (λ t. tag_view t.now) tag.entry)) 0 names.now (needs_view needs.now)) }
+    ensures { OnOk result (map binder_view binders.new ≡ map binder_view binders.old
+        ++ names_bound (declared_types (option_map (λ t. tag_view t.now) tag.entry)) 0 names.now (needs_view needs.now)) }
 {
     let types = types_of_tag(alloc, tag)?;
     bind_all(types.as_slice(), names, needs, binders)?;

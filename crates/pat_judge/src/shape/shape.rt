@@ -61,7 +61,9 @@ fn names_are_well(
     function: &Function,
     env: &[(u32, MailboxType)],
 ) -> bool
-    ensures { result ≡ list_all (λ e. is_mailbox_of e.1.interface (slice_get (function_view function.now).vars e.0) && is_formed_of (scope_of (program_view program.now) (derivation_view derivation.now)) e.1.interface e.1.pattern) (needs_view env.now) }
+    ensures { result ≡ list_all (λ e. is_mailbox_of e.1.interface (slice_get (function_view function.now).vars e.0)
+        && is_formed_of (scope_of (program_view program.now) (derivation_view derivation.now)) e.1.interface e.1.pattern)
+        (needs_view env.now) }
 {
     for (variable, of) in env {
         if !(names_mailbox(function.vars.as_slice(), *variable, of.interface)
@@ -126,7 +128,8 @@ fn gives_too(derivation: &Derivation, of: &TypeOf, part: Option<u32>) -> bool
 
 /// Whether each clause's body has this type, or no line.
 fn clauses_give(derivation: &Derivation, of: &TypeOf, clauses: &[Clause]) -> bool
-    ensures { result ≡ list_all (λ r. gives_of (result_view of.now) (line_at (derivation_view derivation.now) r.body)) (map clause_view clauses.now) }
+    ensures { result ≡ list_all (λ r. gives_of (result_view of.now) (line_at (derivation_view derivation.now) r.body))
+        (map clause_view clauses.now) }
 {
     for clause in clauses {
         if !gives(derivation, of, clause.body) {
@@ -185,7 +188,8 @@ fn first_agrees(
 ) -> bool
     requires signatures { map signature_view signatures.now ≡ opened_from 1 (program_view program.now).functions }
     requires function { function_at (program_view program.now) node.now.function ≡ Some (function_view function.now) }
-    ensures { result ≡ first_agrees_of (program_view program.now) (derivation_view derivation.now) (place number (node_view node.now) (function_view function.now) (line_view line.now)) }
+    ensures { result ≡ first_agrees_of (program_view program.now) (derivation_view derivation.now)
+        (place number (node_view node.now) (function_view function.now) (line_view line.now)) }
 {
     function.body as usize != number || has_result(signatures, node.function, &line.of.result)
 }

@@ -32,7 +32,8 @@ fn has_a_word(
     pattern: &Pattern,
 ) -> bool
     requires { IsTested (scope_of (program_view program.now) (derivation_view derivation.now)) tests.now }
-    ensures { result ≡ has_a_word_of (scope_of (program_view program.now) (derivation_view derivation.now)) (polarity_view polarity) (pattern_view pattern.now) }
+    ensures { result ≡ has_a_word_of (scope_of (program_view program.now) (derivation_view derivation.now)) (polarity_view polarity)
+        (pattern_view pattern.now) }
 {
     match polarity {
         Polarity::Sending => has_word(tests, pattern),
@@ -61,7 +62,8 @@ fn param_has_word(
     of: &Option<MailboxType>,
 ) -> bool
     requires { IsTested (scope_of (program_view program.now) (derivation_view derivation.now)) tests.now }
-    ensures { result ≡ param_has_word_of (scope_of (program_view program.now) (derivation_view derivation.now)) (option_map type_view of.now) }
+    ensures { result ≡ param_has_word_of (scope_of (program_view program.now) (derivation_view derivation.now))
+        (option_map type_view of.now) }
 {
     match of {
         None => true,
@@ -78,7 +80,8 @@ fn params_have_words(
     params: &[Sort],
 ) -> bool
     requires { IsTested (scope_of (program_view program.now) (derivation_view derivation.now)) tests.now }
-    ensures { result ≡ listed_have_words (scope_of (program_view program.now) (derivation_view derivation.now)) (map (option_map type_view) types.now) (map sort_view params.now) }
+    ensures { result ≡ listed_have_words (scope_of (program_view program.now) (derivation_view derivation.now))
+        (map (option_map type_view) types.now) (map sort_view params.now) }
 {
     let mut rest = types;
     for _param in params {
@@ -103,7 +106,8 @@ fn needs_have_words(
     env: &[(u32, MailboxType)],
 ) -> bool
     requires { IsTested (scope_of (program_view program.now) (derivation_view derivation.now)) tests.now }
-    ensures { result ≡ list_all (λ e. has_a_word_of (scope_of (program_view program.now) (derivation_view derivation.now)) e.1.polarity e.1.pattern) (needs_view env.now) }
+    ensures { result ≡ list_all (λ e. has_a_word_of
+        (scope_of (program_view program.now) (derivation_view derivation.now)) e.1.polarity e.1.pattern) (needs_view env.now) }
 {
     for (_, of) in env {
         if !has_a_word(program, derivation, tests, of.polarity, &of.pattern) {
@@ -123,7 +127,8 @@ fn signature_has_words(
     function: &Function,
 ) -> bool
     requires { IsTested (scope_of (program_view program.now) (derivation_view derivation.now)) tests.now }
-    ensures { result ≡ signature_words (scope_of (program_view program.now) (derivation_view derivation.now)) (function_view function.now).params (slice_get (map signature_view signatures.now) number) }
+    ensures { result ≡ signature_words (scope_of (program_view program.now) (derivation_view derivation.now))
+        (function_view function.now).params (slice_get (map signature_view signatures.now) number) }
 {
     match signature_of(signatures, number) {
         None => false,
@@ -153,7 +158,8 @@ fn first_has_words(
     requires tests { IsTested (scope_of (program_view program.now) (derivation_view derivation.now)) tests.now }
     requires signatures { map signature_view signatures.now ≡ opened_from 1 (program_view program.now).functions }
     requires function { function_at (program_view program.now) node.now.function ≡ Some (function_view function.now) }
-    ensures { result ≡ first_words (program_view program.now) (derivation_view derivation.now) (place number (node_view node.now) (function_view function.now) (line_view line.now)) }
+    ensures { result ≡ first_words (program_view program.now) (derivation_view derivation.now)
+        (place number (node_view node.now) (function_view function.now) (line_view line.now)) }
 {
     function.body as usize != number
         || signature_has_words(

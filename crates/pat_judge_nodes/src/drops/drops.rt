@@ -64,7 +64,8 @@ fn may_drop(
     of: Option<&MailboxType>,
 ) -> bool
     requires { IsTested (scope_of (program_view program.now) (derivation_view derivation.now)) tests.now }
-    ensures { result ≡ is_dropped_well (scope_of (program_view program.now) (derivation_view derivation.now)) (Pass (option_map type_view (option_copied of.entry)) None) }
+    ensures { result ≡ is_dropped_well (scope_of (program_view program.now) (derivation_view derivation.now))
+        (Pass (option_map type_view (option_copied of.entry)) None) }
 {
     match of {
         None => true,
@@ -103,7 +104,8 @@ fn drops_as(
     pattern: &Pattern,
 ) -> bool
     requires { IsTested (scope_of (program_view program.now) (derivation_view derivation.now)) tests.now }
-    ensures { result ≡ drops_as_of (scope_of (program_view program.now) (derivation_view derivation.now)) interface (polarity_view polarity) (pattern_view pattern.now) }
+    ensures { result ≡ drops_as_of (scope_of (program_view program.now) (derivation_view derivation.now)) interface (polarity_view polarity)
+        (pattern_view pattern.now) }
 {
     match polarity {
         Polarity::Sending => {

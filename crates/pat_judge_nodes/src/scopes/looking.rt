@@ -123,7 +123,8 @@ pub fn in_scope(above: &[Option<usize>], program: &Program, node: usize, variabl
 fn look(above: &[Option<usize>], program: &Program, at: usize, variable: u32) -> Found
     requires above { AreAbove (program_view program.now) above.now }
     requires at { at < length program.now.nodes }
-    ensures found { (up : ℕ) → is_in_scope_within (suc up) (program_view program.now) at variable ≡ after (program_view program.now) variable up result }
+    ensures found { (up : ℕ) → is_in_scope_within (suc up) (program_view program.now) at variable
+        ≡ after (program_view program.now) variable up result }
     ensures inside { StaysInside (program_view program.now) result }
     ensures leads { LeadsUp (program_view program.now) at result }
 {

@@ -67,7 +67,8 @@ fn arguments_differ(
     signature: Option<&Signature>,
     arguments: &[Expr],
 ) -> Result<bool, AllocError>
-    ensures { IfOk result (λ b. b ≡ call_differs (option_map signature_view (option_copied signature.entry)) (map expr_view arguments.now)) }
+    ensures { IfOk result (λ b. b ≡ call_differs (option_map signature_view (option_copied signature.entry))
+        (map expr_view arguments.now)) }
 {
     match signature {
         None => Ok(true),
@@ -85,7 +86,8 @@ fn payloads_differ(
     declared: Option<&TagDecl>,
     arguments: &[Expr],
 ) -> Result<bool, AllocError>
-    ensures { IfOk result (λ b. b ≡ send_differs target (option_map tag_view (option_copied declared.entry)) (map expr_view arguments.now)) }
+    ensures { IfOk result (λ b. b ≡ send_differs target (option_map tag_view (option_copied declared.entry))
+        (map expr_view arguments.now)) }
 {
     match declared {
         None => Ok(true),

@@ -51,7 +51,8 @@ fn clauses_keep_apart(
     kind: Option<&Kind>,
     clauses: &[Clause],
 ) -> bool
-    ensures { result ≡ list_all (clause_keeps_apart (program_view program.now) (derivation_view derivation.now) (option_map kind_view (option_copied kind.entry))) (map clause_view clauses.now) }
+    ensures { result ≡ list_all (clause_keeps_apart (program_view program.now) (derivation_view derivation.now)
+        (option_map kind_view (option_copied kind.entry))) (map clause_view clauses.now) }
 {
     for clause in clauses {
         if !keeps_apart(program, derivation, kind, clause) {
@@ -67,7 +68,8 @@ fn keeps_apart(
     kind: Option<&Kind>,
     clause: &Clause,
 ) -> bool
-    ensures { result ≡ clause_keeps_apart (program_view program.now) (derivation_view derivation.now) (option_map kind_view (option_copied kind.entry)) (clause_view clause.now) }
+    ensures { result ≡ clause_keeps_apart (program_view program.now) (derivation_view derivation.now)
+        (option_map kind_view (option_copied kind.entry)) (clause_view clause.now) }
 {
     !has_mailbox_payload(tag_of_kind(program, clause.tag, kind))
         || names_only(clause, line_of(derivation, clause.body))

@@ -52,7 +52,8 @@ fn divided_well(
     bound: Option<&MailboxType>,
     body: Option<&MailboxType>,
 ) -> bool
-    ensures { result ≡ is_used_well (Divide (option_map type_view (option_copied given.entry)) (option_map type_view (option_copied bound.entry)) (option_map type_view (option_copied body.entry))) }
+    ensures { result ≡ is_used_well (Divide (option_map type_view (option_copied given.entry))
+        (option_map type_view (option_copied bound.entry)) (option_map type_view (option_copied body.entry))) }
 {
     match given {
         None => bound.is_none() && body.is_none(),

@@ -34,7 +34,9 @@ fn branches(
     no: u32,
     out: &mut Sequence<Demand>,
 ) -> Result<(), AllocError>
-    ensures { OnOk result (demands_view out.new ≡ demands_view out.old ++ (passes_to (keys_of (needs_view env.now)) (needs_view env.now) (line_at (derivation_view derivation.now) yes) ++ passes_to (keys_of (needs_view env.now)) (needs_view env.now) (line_at (derivation_view derivation.now) no))) }
+    ensures { OnOk result (demands_view out.new ≡ demands_view out.old
+        ++ (passes_to (keys_of (needs_view env.now)) (needs_view env.now) (line_at (derivation_view derivation.now) yes)
+        ++ passes_to (keys_of (needs_view env.now)) (needs_view env.now) (line_at (derivation_view derivation.now) no))) }
 {
     let names = names_of(alloc, env)?;
     pass_to_part(alloc, derivation, names.as_slice(), env, yes, out)?;
@@ -49,7 +51,9 @@ fn spawned(
     body: u32,
     out: &mut Sequence<Demand>,
 ) -> Result<(), AllocError>
-    ensures { OnOk result (demands_view out.new ≡ demands_view out.old ++ passes_to (keys_of (needs_view env.now)) (returnable_entries (needs_view env.now)) (line_at (derivation_view derivation.now) body)) }
+    ensures { OnOk result (demands_view out.new ≡ demands_view out.old
+        ++ passes_to (keys_of (needs_view env.now)) (returnable_entries (needs_view env.now))
+        (line_at (derivation_view derivation.now) body)) }
 {
     let names = names_of(alloc, env)?;
     let given = made_returnable(alloc, env)?;
@@ -71,7 +75,8 @@ fn made(
     of: &TypeOf,
     out: &mut Sequence<Demand>,
 ) -> Result<(), AllocError>
-    ensures { OnOk result (demands_view out.new ≡ demands_view out.old ++ (result_passes (MailboxTerm interface Receiving One) (result_view of.now) ++ drops (needs_view env.now))) }
+    ensures { OnOk result (demands_view out.new ≡ demands_view out.old
+        ++ (result_passes (MailboxTerm interface Receiving One) (result_view of.now) ++ drops (needs_view env.now))) }
 {
     let new = TypeOf::Mailbox {
         interface,

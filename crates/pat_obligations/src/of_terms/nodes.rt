@@ -60,7 +60,9 @@ fn at_first(
     line: &DerivedNode,
     out: &mut Sequence<Demand>,
 ) -> Result<(), AllocError>
-    ensures { OnOk result (demands_view out.new ≡ demands_view out.old ++ listed_at_first (map signature_view signatures.now) (place number (node_view node.now) (function_view function.now) (line_view line.now))) }
+    ensures { OnOk result (demands_view out.new ≡ demands_view out.old
+        ++ listed_at_first (map signature_view signatures.now)
+        (place number (node_view node.now) (function_view function.now) (line_view line.now))) }
 {
     if function.body as usize != number {
         return Ok(());

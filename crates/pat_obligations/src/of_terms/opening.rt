@@ -33,7 +33,8 @@ pub fn signatures(alloc: Global, functions: &[Function]) -> Result<Sequence<Sign
 
 fn signature(alloc: Global, function: &Function, next: &mut u32) -> Result<Signature, AllocError>
     ensures signature { IfOk result (λ s. signature_view s ≡ opened next.old (function_view function.now)) }
-    ensures next { OnOk result (next.new ≡ result_number next.old (function_view function.now) + omits (function_view function.now).result) }
+    ensures next { OnOk result (next.new ≡ result_number next.old (function_view function.now)
+        + omits (function_view function.now).result) }
 {
     let params = parameters(alloc, function.params.as_slice(), next)?;
     let result = result_type(&function.result, next)?;

@@ -64,7 +64,9 @@ fn send(
     declared: Option<&TagDecl>,
     out: &mut Sequence<Demand>,
 ) -> Result<(), AllocError>
-    ensures { OnOk result (demands_view out.new ≡ demands_view out.old ++ listed_send (needs_view env.now) interface target tag (map expr_view arguments.now) (option_map tag_view (option_copied declared.entry))) }
+    ensures { OnOk result (demands_view out.new ≡ demands_view out.old
+        ++ listed_send (needs_view env.now) interface target tag (map expr_view arguments.now)
+        (option_map tag_view (option_copied declared.entry))) }
 {
     match declared {
         None => Ok(()),
@@ -121,7 +123,8 @@ fn name_of_kind<'a>(
     name: u32,
     out: &mut Sequence<Demand<'a>>,
 ) -> Result<(), AllocError>
-    ensures { OnOk result (demands_view out.new ≡ demands_view out.old ++ listed_name (option_map kind_view (option_copied kind.entry)) (result_view bound.now) (needs_view body.now) name) }
+    ensures { OnOk result (demands_view out.new ≡ demands_view out.old
+        ++ listed_name (option_map kind_view (option_copied kind.entry)) (result_view bound.now) (needs_view body.now) name) }
 {
     match kind {
         Some(Kind::Mailbox(_)) => {
@@ -139,7 +142,8 @@ fn name<'a>(
     name: Option<u32>,
     out: &mut Sequence<Demand<'a>>,
 ) -> Result<(), AllocError>
-    ensures { OnOk result (demands_view out.new ≡ demands_view out.old ++ listed_named (map kind_view kinds.now) (line_view bound.now) (line_view body.now) name) }
+    ensures { OnOk result (demands_view out.new ≡ demands_view out.old
+        ++ listed_named (map kind_view kinds.now) (line_view bound.now) (line_view body.now) name) }
 {
     match name {
         None => Ok(()),
@@ -189,7 +193,8 @@ fn both_parts<'a>(
     body: &'a DerivedNode,
     out: &mut Sequence<Demand<'a>>,
 ) -> Result<(), AllocError>
-    ensures { OnOk result (demands_view out.new ≡ demands_view out.old ++ listed_let (map kind_view kinds.now) (needs_view env.now) but (Some (line_view bound.now)) (Some (line_view body.now))) }
+    ensures { OnOk result (demands_view out.new ≡ demands_view out.old
+        ++ listed_let (map kind_view kinds.now) (needs_view env.now) but (Some (line_view bound.now)) (Some (line_view body.now))) }
 {
     let own = names_of(alloc, env)?;
     let first = with_names_of(alloc, own, but, bound.of.env.as_slice())?;
@@ -217,7 +222,9 @@ fn clause(
     declared: Option<&TagDecl>,
     out: &mut Sequence<Demand>,
 ) -> Result<(), AllocError>
-    ensures { OnOk result (demands_view out.new ≡ demands_view out.old ++ listed_clause (derivation_view derivation.now) (needs_view env.now) guarded interface (pattern_view pattern.now) (clause_view receive.now) (option_map tag_view (option_copied declared.entry))) }
+    ensures { OnOk result (demands_view out.new ≡ demands_view out.old
+        ++ listed_clause (derivation_view derivation.now) (needs_view env.now) guarded interface (pattern_view pattern.now)
+        (clause_view receive.now) (option_map tag_view (option_copied declared.entry))) }
 {
     match declared {
         None => Ok(()),
@@ -259,7 +266,8 @@ fn free(
     body: u32,
     out: &mut Sequence<Demand>,
 ) -> Result<(), AllocError>
-    ensures { OnOk result (demands_view out.new ≡ demands_view out.old ++ listed_free (derivation_view derivation.now) (needs_view env.now) guarded body) }
+    ensures { OnOk result (demands_view out.new ≡ demands_view out.old
+        ++ listed_free (derivation_view derivation.now) (needs_view env.now) guarded body) }
 {
     let given = without(alloc, guarded, env)?;
     let others = names_besides(alloc, guarded, env)?;
@@ -286,7 +294,9 @@ fn clauses(
     receives: &[Clause],
     out: &mut Sequence<Demand>,
 ) -> Result<(), AllocError>
-    ensures { OnOk result (demands_view out.new ≡ demands_view out.old ++ listed_clauses (program_view program.now) (derivation_view derivation.now) (needs_view env.now) guarded interface (pattern_view pattern.now) free_body (map clause_view receives.now)) }
+    ensures { OnOk result (demands_view out.new ≡ demands_view out.old
+        ++ listed_clauses (program_view program.now) (derivation_view derivation.now) (needs_view env.now) guarded interface
+        (pattern_view pattern.now) free_body (map clause_view receives.now)) }
 {
     let mut waiting = free_body;
     for receive in receives {
@@ -311,7 +321,9 @@ fn one_clause(
     out: &mut Sequence<Demand>,
 ) -> Result<Option<u32>, AllocError>
     ensures next { IfOk result (λ next. next ≡ waits_after waiting (clause_view receive.now).body) }
-    ensures demands { OnOk result (demands_view out.new ≡ demands_view out.old ++ listed_one (program_view program.now) (derivation_view derivation.now) (needs_view env.now) guarded interface (pattern_view pattern.now) waiting (clause_view receive.now)) }
+    ensures demands { OnOk result (demands_view out.new ≡ demands_view out.old
+        ++ listed_one (program_view program.now) (derivation_view derivation.now) (needs_view env.now) guarded interface
+        (pattern_view pattern.now) waiting (clause_view receive.now)) }
 {
     let next = free_first(alloc, derivation, env, guarded, waiting, receive.body, out)?;
     let declared = tag_of(program, interface, receive.tag);
@@ -332,7 +344,8 @@ fn free_first(
     out: &mut Sequence<Demand>,
 ) -> Result<Option<u32>, AllocError>
     ensures next { IfOk result (λ next. next ≡ waits_after waiting body) }
-    ensures demands { OnOk result (demands_view out.new ≡ demands_view out.old ++ free_before (derivation_view derivation.now) (needs_view env.now) guarded waiting body) }
+    ensures demands { OnOk result (demands_view out.new ≡ demands_view out.old
+        ++ free_before (derivation_view derivation.now) (needs_view env.now) guarded waiting body) }
 {
     match waiting {
         None => Ok(None),
@@ -353,7 +366,8 @@ fn free_at_last(
     waiting: Option<u32>,
     out: &mut Sequence<Demand>,
 ) -> Result<(), AllocError>
-    ensures { OnOk result (demands_view out.new ≡ demands_view out.old ++ free_last (derivation_view derivation.now) (needs_view env.now) guarded waiting) }
+    ensures { OnOk result (demands_view out.new ≡ demands_view out.old
+        ++ free_last (derivation_view derivation.now) (needs_view env.now) guarded waiting) }
 {
     match waiting {
         None => Ok(()),
@@ -374,7 +388,9 @@ fn bodies(
     receives: &[Clause],
     out: &mut Sequence<Demand>,
 ) -> Result<(), AllocError>
-    ensures { OnOk result (demands_view out.new ≡ demands_view out.old ++ listed_bodies (program_view program.now) (derivation_view derivation.now) (needs_view env.now) guarded interface (pattern_view pattern.now) free_body (map clause_view receives.now)) }
+    ensures { OnOk result (demands_view out.new ≡ demands_view out.old
+        ++ listed_bodies (program_view program.now) (derivation_view derivation.now) (needs_view env.now) guarded interface
+        (pattern_view pattern.now) free_body (map clause_view receives.now)) }
 {
     if free_body.is_none() && receives.is_empty() {
         let given = without(alloc, guarded, env)?;

@@ -26,14 +26,17 @@ fn let_term(
     body: Box<Term>,
     from: u32,
 ) -> Result<Box<Term>, Fault>
-    ensures { Gives (λ t. term_view t.value) result (Ok (trees.LetTerm (option_map name_view name) (term_view bound.value) (term_view body.value) (trees.span from (trees.term_at (term_view body.value)).to))) }
+    ensures { Gives (λ t. term_view t.value) result
+        (Ok (trees.LetTerm (option_map name_view name) (term_view bound.value) (term_view body.value)
+        (trees.span from (trees.term_at (term_view body.value)).to))) }
 {
     let to = body.span.to;
     boxed_term(alloc, Form::Let { name, bound, body }, from, to)
 }
 
 fn put_back(frame: Frame, below: Frames, term: Box<Term>) -> Result<(Frames, Box<Term>), Fault>
-    ensures { Gives (λ p. (stack_view p.0, term_view p.1.value)) result (standing (frame_view frame ∷ stack_view below) (term_view term.value)) }
+    ensures { Gives (λ p. (stack_view p.0, term_view p.1.value)) result
+        (standing (frame_view frame ∷ stack_view below) (term_view term.value)) }
 {
     let stack = over(frame, below)?;
     Ok((stack, term))
@@ -127,13 +130,15 @@ pub fn clause(
 }
 
 fn free_of(guard: Box<Guarding>, word: Span, body: Box<Term>) -> Result<Box<Guarding>, Fault>
-    ensures { Gives (λ g. guarding_view g.value) result (Ok (m.free_of (guarding_view guard.value) (span_view word) (term_view body.value))) }
+    ensures { Gives (λ g. guarding_view g.value) result
+        (Ok (m.free_of (guarding_view guard.value) (span_view word) (term_view body.value))) }
 {
     with_clause(guard, TreeClause::Free(word, Box::into_inner(body)))
 }
 
 fn receive_of(head: Box<ClauseHead>, from: Name, body: Box<Term>) -> Result<Box<Guarding>, Fault>
-    ensures { Gives (λ g. guarding_view g.value) result (Ok (m.receive_of (clause_head_view head.value) (name_view from) (term_view body.value))) }
+    ensures { Gives (λ g. guarding_view g.value) result
+        (Ok (m.receive_of (clause_head_view head.value) (name_view from) (term_view body.value))) }
 {
     let head = Box::into_inner(head);
     let clause = TreeClause::Receive {
@@ -154,7 +159,8 @@ fn clause_then(
     kind: TokenKind,
     span: Span,
 ) -> Result<State, Fault>
-    ensures { Makes result (m.next_clause (m.AtGuard (clause_frame_view frame) ∷ stack_view below) (term_view term.value) (kind_view kind) (span_view span)) }
+    ensures { Makes result (m.next_clause (m.AtGuard (clause_frame_view frame) ∷ stack_view below) (term_view term.value) (kind_view kind)
+        (span_view span)) }
 {
     match frame {
         ClauseFrame::InFree(guard, word) => {
@@ -192,7 +198,9 @@ fn function_end(
     body: Box<Term>,
     stack: Frames,
 ) -> Result<State, Fault>
-    ensures { Makes result (m.Goes (m.state (m.AtDecl false (map decl_view begun.value.decls ++ trees.DefDecl (name_view begun.value.name) (map param_view begun.value.params) (type_view of) (term_view body.value) ∷ [])) (stack_view stack) 0 0 0)) }
+    ensures { Makes result (m.Goes (m.state (m.AtDecl false
+        (map decl_view begun.value.decls ++ trees.DefDecl (name_view begun.value.name) (map param_view begun.value.params) (type_view of)
+        (term_view body.value) ∷ [])) (stack_view stack) 0 0 0)) }
 {
     let Defining {
         decls,
@@ -280,7 +288,8 @@ fn branch(
     from: u32,
     to: u32,
 ) -> Result<Box<Term>, Fault>
-    ensures { Gives (λ t. term_view t.value) result (Ok (trees.IfTerm (expr_view test) (term_view yes.value) (term_view no.value) (trees.span from to))) }
+    ensures { Gives (λ t. term_view t.value) result
+        (Ok (trees.IfTerm (expr_view test) (term_view yes.value) (term_view no.value) (trees.span from to))) }
 {
     boxed_term(alloc, Form::If { test, yes, no }, from, to)
 }
@@ -313,7 +322,8 @@ fn has_statement_room(statements: u16) -> bool
 }
 
 fn next_term(place: Place, term: Box<Term>, from: u32) -> Result<State, Fault>
-    ensures { Makes result (m.then_next (m.takes_next (stack_view place.stack)) (stack_view place.stack) place.opened place.statements (term_view term.value) from) }
+    ensures { Makes result (m.then_next (m.takes_next (stack_view place.stack)) (stack_view place.stack) place.opened place.statements
+        (term_view term.value) from) }
 {
     if !takes_next(&place.stack) {
         return refused((place, term));
@@ -327,7 +337,9 @@ fn next_term(place: Place, term: Box<Term>, from: u32) -> Result<State, Fault>
 }
 
 fn let_body(name: Name, from: u32, place: Place, term: Box<Term>) -> Result<State, Fault>
-    ensures { Makes result (m.Starts place.statements (m.state (m.Start true) (m.AtLet (m.InBody (Some (name_view name)) (term_view term.value) from) ∷ stack_view place.stack) place.opened 0 (suc place.statements))) }
+    ensures { Makes result (m.Starts place.statements
+        (m.state (m.Start true) (m.AtLet (m.InBody (Some (name_view name)) (term_view term.value) from)
+        ∷ stack_view place.stack) place.opened 0 (suc place.statements))) }
 {
     if !has_statement_room(place.statements) {
         return too_deep((name, place, term));
@@ -363,14 +375,16 @@ fn clause_after(
     kind: TokenKind,
     span: Span,
 ) -> Result<State, Fault>
-    ensures { Makes result (m.next_clause (m.bodies (stack_view stack) (term_view term.value)).0 (m.bodies (stack_view stack) (term_view term.value)).1 (kind_view kind) (span_view span)) }
+    ensures { Makes result (m.next_clause (m.bodies (stack_view stack) (term_view term.value)).0
+        (m.bodies (stack_view stack) (term_view term.value)).1 (kind_view kind) (span_view span)) }
 {
     let (stack, term) = bodies(alloc, stack, term)?;
     next_clause(alloc, stack, term, kind, span)
 }
 
 fn brace_after(alloc: Global, stack: Frames, term: Box<Term>, span: Span) -> Result<State, Fault>
-    ensures { Makes result (m.block_end (m.bodies (stack_view stack) (term_view term.value)).0 (m.bodies (stack_view stack) (term_view term.value)).1 (span_view span)) }
+    ensures { Makes result (m.block_end (m.bodies (stack_view stack) (term_view term.value)).0
+        (m.bodies (stack_view stack) (term_view term.value)).1 (span_view span)) }
 {
     let (stack, term) = bodies(alloc, stack, term)?;
     block_end(alloc, stack, term, span)

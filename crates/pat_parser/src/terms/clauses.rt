@@ -25,7 +25,17 @@ fn guard_open(
     pattern: TreePattern,
     from: u32,
 ) -> Result<State, Fault>
-    ensures { Makes result (m.Opens place.opened 0 (m.state (m.AtClause true (record { mailbox = name_view mailbox; pattern = pattern_view pattern; from = from; opened = place.opened; inside = suc place.opened; statements = place.statements; clauses = [] })) (stack_view place.stack) (suc place.opened) 0 place.statements)) }
+    ensures { Makes result (m.Opens place.opened 0
+        (m.state (m.AtClause true (record {
+          mailbox = name_view mailbox;
+          pattern = pattern_view pattern;
+          from = from;
+          opened = place.opened;
+          inside = suc place.opened;
+          statements = place.statements;
+          clauses = [];
+        })) (stack_view place.stack)
+        (suc place.opened) 0 place.statements)) }
 {
     if !has_room(place.opened, 0) {
         return too_deep((place, mailbox, pattern));
@@ -52,7 +62,9 @@ fn guarded(
     mailbox: Name,
     from: u32,
 ) -> Result<State, ParseError>
-    ensures read { Parses result (answer (m.state (m.WantPattern m.none_before) (m.AtPattern (m.InGuarded (name_view mailbox) from) ∷ stack_view place.stack) place.opened 0 place.statements) tokens.old) (λ x. answer (state_view x) tokens.new) }
+    ensures read { Parses result (answer (m.state (m.WantPattern m.none_before)
+        (m.AtPattern (m.InGuarded (name_view mailbox) from) ∷ stack_view place.stack) place.opened 0 place.statements) tokens.old)
+        (λ x. answer (state_view x) tokens.new) }
     ensures no_more { length tokens.new.0 ≤ length tokens.old.0 }
 {
     let Token { kind, span } = tokens.next()?;
@@ -106,7 +118,15 @@ pub fn free_clause(
 
 /// The names of a receive clause, from behind the opening bracket up to the closing one.
 fn names(alloc: Global, tokens: &mut Tokens) -> Result<Sequence<Name>, ParseError>
-    ensures read { (g : m.Guarding) (word : trees.Span) (tag : trees.Name) (fs : List m.Frame) (o s : ℕ) → Parses result (answer (m.state (m.FirstBinder (record { guard = g; word = word; tag = tag; names = [] })) fs o 0 s) tokens.old) (λ xs. answer (m.state (m.AfterBinders (record { guard = g; word = word; tag = tag; names = map name_view xs })) fs g.inside 0 s) tokens.new) }
+    ensures read { (g : m.Guarding) (word : trees.Span) (tag : trees.Name) (fs : List m.Frame) (o s : ℕ)
+        → Parses result (answer (m.state (m.FirstBinder (record { guard = g; word = word; tag = tag; names = [] })) fs o 0 s) tokens.old)
+        (λ xs. answer (m.state (m.AfterBinders (record {
+          guard = g;
+          word = word;
+          tag = tag;
+          names
+              = map name_view xs;
+        })) fs g.inside 0 s) tokens.new) }
     ensures no_more { length tokens.new.0 ≤ length tokens.old.0 }
 {
     let mut names = Sequence::new(alloc);
@@ -135,7 +155,8 @@ fn receive_from(
     place: Place,
     head: Box<ClauseHead>,
 ) -> Result<State, ParseError>
-    ensures read { Parses result (answer (m.state (m.WantName (m.FromName (clause_head_view head.value))) (stack_view place.stack) place.opened 0 place.statements) tokens.old) (λ x. answer (state_view x) tokens.new) }
+    ensures read { Parses result (answer (m.state (m.WantName (m.FromName (clause_head_view head.value)))
+        (stack_view place.stack) place.opened 0 place.statements) tokens.old) (λ x. answer (state_view x) tokens.new) }
     ensures no_more { length tokens.new.0 ≤ length tokens.old.0 }
 {
     let name = tokens.name()?;
@@ -153,7 +174,9 @@ fn receive_names(
     word: Span,
     tag: Name,
 ) -> Result<State, ParseError>
-    ensures read { (o : ℕ) → Parses result (answer (m.state (m.FirstBinder (record { guard = guarding_view guard.value; word = span_view word; tag = name_view tag; names = [] })) (stack_view place.stack) o 0 place.statements) tokens.old) (λ x. answer (state_view x) tokens.new) }
+    ensures read { (o : ℕ) → Parses result (answer
+        (m.state (m.FirstBinder (record { guard = guarding_view guard.value; word = span_view word; tag = name_view tag; names = [] }))
+        (stack_view place.stack) o 0 place.statements) tokens.old) (λ x. answer (state_view x) tokens.new) }
     ensures no_more { length tokens.new.0 ≤ length tokens.old.0 }
 {
     let names = names(alloc, tokens)?;

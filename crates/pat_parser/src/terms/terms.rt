@@ -17,7 +17,8 @@ use std::alloc::Global;
 
 /// Behind `let`, which stands at `from`.
 fn let_head(tokens: &mut Tokens, place: Place, from: u32) -> Result<State, ParseError>
-    ensures read { Parses result (answer (m.state (m.WantName (m.LetName from)) (stack_view place.stack) place.opened 0 place.statements) tokens.old) (λ x. answer (state_view x) tokens.new) }
+    ensures read { Parses result (answer (m.state (m.WantName (m.LetName from))
+        (stack_view place.stack) place.opened 0 place.statements) tokens.old) (λ x. answer (state_view x) tokens.new) }
     ensures no_more { length tokens.new.0 ≤ length tokens.old.0 }
 {
     let name = tokens.name()?;
@@ -28,7 +29,8 @@ fn let_head(tokens: &mut Tokens, place: Place, from: u32) -> Result<State, Parse
 
 /// Behind `spawn`, which stands at `from`.
 fn spawn(tokens: &mut Tokens, place: Place, from: u32) -> Result<State, ParseError>
-    ensures read { Parses result (answer (m.state (m.AfterSpawn from) (stack_view place.stack) place.opened 0 place.statements) tokens.old) (λ x. answer (state_view x) tokens.new) }
+    ensures read { Parses result (answer (m.state (m.AfterSpawn from) (stack_view place.stack) place.opened 0 place.statements) tokens.old)
+        (λ x. answer (state_view x) tokens.new) }
     ensures no_more { length tokens.new.0 ≤ length tokens.old.0 }
 {
     let Token { kind, span } = tokens.next()?;
@@ -43,7 +45,9 @@ fn spawn(tokens: &mut Tokens, place: Place, from: u32) -> Result<State, ParseErr
 
 /// Behind `if`, which stands at `from`.
 fn branch(alloc: Global, tokens: &mut Tokens, place: Place, from: u32) -> Result<State, ParseError>
-    ensures read { Parses result (answer (m.state (m.Want m.nothing) (m.AtExpr (m.InTest from) ∷ stack_view place.stack) place.opened 0 place.statements) tokens.old) (λ x. answer (state_view x) tokens.new) }
+    ensures read { Parses result (answer (m.state (m.Want m.nothing)
+        (m.AtExpr (m.InTest from) ∷ stack_view place.stack) place.opened 0 place.statements) tokens.old)
+        (λ x. answer (state_view x) tokens.new) }
     ensures no_more { length tokens.new.0 ≤ length tokens.old.0 }
 {
     let test = test(alloc, tokens, place.opened)?;
@@ -59,7 +63,8 @@ fn no_block(
     yes: Box<Term>,
     from: u32,
 ) -> Result<State, ParseError>
-    ensures read { Parses result (answer (m.state (m.AfterElse (expr_view test) (term_view yes.value) from) (stack_view place.stack) place.opened 0 place.statements) tokens.old) (λ x. answer (state_view x) tokens.new) }
+    ensures read { Parses result (answer (m.state (m.AfterElse (expr_view test) (term_view yes.value) from)
+        (stack_view place.stack) place.opened 0 place.statements) tokens.old) (λ x. answer (state_view x) tokens.new) }
     ensures no_more { length tokens.new.0 ≤ length tokens.old.0 }
 {
     let Token { kind, span } = tokens.next()?;
@@ -82,7 +87,8 @@ fn otherwise(
     kind: TokenKind,
     span: Span,
 ) -> Result<State, ParseError>
-    ensures read { Parses result (after (m.after_yes (stack_view place.stack) place.opened place.statements (expr_view test) (term_view yes.value) from (kind_view kind) (span_view span)) span.from tokens.old) (λ x. answer (state_view x) tokens.new) }
+    ensures read { Parses result (after (m.after_yes (stack_view place.stack) place.opened place.statements (expr_view test)
+        (term_view yes.value) from (kind_view kind) (span_view span)) span.from tokens.old) (λ x. answer (state_view x) tokens.new) }
     ensures no_more { length tokens.new.0 ≤ length tokens.old.0 }
 {
     match kind {
@@ -100,7 +106,9 @@ fn simple(
     kind: TokenKind,
     span: Span,
 ) -> Result<State, ParseError>
-    ensures read { (b : Bool) → is_simple (kind_view kind) ≡ true → Parses result (after (m.start_step (stack_view place.stack) place.opened 0 place.statements b (kind_view kind) (span_view span)) span.from tokens.old) (λ x. answer (state_view x) tokens.new) }
+    ensures read { (b : Bool) → is_simple (kind_view kind) ≡ true
+        → Parses result (after (m.start_step (stack_view place.stack) place.opened 0 place.statements b (kind_view kind)
+        (span_view span)) span.from tokens.old) (λ x. answer (state_view x) tokens.new) }
     ensures no_more { length tokens.new.0 ≤ length tokens.old.0 }
 {
     let read = simple_term(alloc, tokens, place.opened, kind, span)?;
@@ -118,7 +126,8 @@ fn start(
     kind: TokenKind,
     span: Span,
 ) -> Result<State, ParseError>
-    ensures read { Parses result (after (m.start_step (stack_view place.stack) place.opened 0 place.statements whole (kind_view kind) (span_view span)) span.from tokens.old) (λ x. answer (state_view x) tokens.new) }
+    ensures read { Parses result (after (m.start_step (stack_view place.stack) place.opened 0 place.statements whole (kind_view kind)
+        (span_view span)) span.from tokens.old) (λ x. answer (state_view x) tokens.new) }
     ensures no_more { length tokens.new.0 ≤ length tokens.old.0 }
 {
     match kind {

@@ -82,7 +82,8 @@ fn join_product_rest(
     done: &mut Stack<Pattern>,
 ) -> Result<(), AllocError>
     requires { 2 ≤ length (patterns_view done.old) }
-    ensures { OnOk result (patterns_view done.new ≡ joined (product_rest (pattern_view left.now) (pattern_view right.now)) (patterns_view done.old)) }
+    ensures { OnOk result (patterns_view done.new
+        ≡ joined (product_rest (pattern_view left.now) (pattern_view right.now)) (patterns_view done.old)) }
 {
     let (left_rest, right_rest) = take_two(done);
     let from_left = product_with(alloc, left_rest, right)?;

@@ -40,7 +40,8 @@ pub fn push_pattern(
     pattern: &Pattern,
     interface: &Interface,
 ) -> Result<(), AllocError>
-    ensures { OnOk result (out.new.items ≡ out.old.items ++ pat_text (tag_names (interface_view interface.now)) (pattern_view pattern.now)) }
+    ensures { OnOk result (out.new.items ≡ out.old.items
+        ++ pat_text (tag_names (interface_view interface.now)) (pattern_view pattern.now)) }
 {
     put_numbered(alloc, out, pattern, interface, false)
 }
@@ -58,7 +59,8 @@ fn put_numbered(
     interface: &Interface,
     brackets: bool,
 ) -> Result<(), AllocError>
-    ensures { OnOk result (out.new.items ≡ out.old.items ++ enclosed brackets (pat_text (tag_names (interface_view interface.now)) (pattern_view pattern.now))) }
+    ensures { OnOk result (out.new.items ≡ out.old.items
+        ++ enclosed brackets (pat_text (tag_names (interface_view interface.now)) (pattern_view pattern.now))) }
 {
     put_opening(out, brackets)?;
     match pattern {

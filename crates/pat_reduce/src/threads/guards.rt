@@ -51,7 +51,8 @@ fn guard_on<'a>(
     free: Option<u32>,
     receives: &'a [Clause],
 ) -> Option<GuardRef<'a>>
-    ensures { option_map guard_view result ≡ guarding free (map clause_view receives.now) (env_view env.now) (value_at (env_view env.now) var) }
+    ensures { option_map guard_view result ≡ guarding free (map clause_view receives.now) (env_view env.now)
+        (value_at (env_view env.now) var) }
 {
     match value_of(env, var) {
         Some(ValueRef::Mailbox(mailbox)) => Some(GuardRef {
@@ -78,7 +79,8 @@ pub fn first_message(guard: &GuardRef<'_>, messages: &[Message]) -> Option<u32>
 
 // A number stands for the first message that has it.
 fn takes_first(guard: &GuardRef<'_>, messages: &[Message], message: &Message) -> bool
-    ensures { result ≡ (takes (guard_view guard.now) (message_view message.now) && takes_option (guard_view guard.now) (message_in (map message_view messages.now) message.now.number)) }
+    ensures { result ≡ (takes (guard_view guard.now) (message_view message.now)
+        && takes_option (guard_view guard.now) (message_in (map message_view messages.now) message.now.number)) }
 {
     takes(guard, message) && takes_number(guard, messages, message.number)
 }
@@ -159,7 +161,8 @@ pub fn go_on_with(
     guard: &GuardRef<'_>,
     message: &Message,
 ) -> Result<Control, StepError>
-    ensures { Gives control_view (received_of (program_view code.now.program) (guard_view guard.now) (Some (message_view message.now))) result }
+    ensures { Gives control_view (received_of (program_view code.now.program) (guard_view guard.now)
+        (Some (message_view message.now))) result }
 {
     match clause_for(guard.receives, message.tag) {
         Some(clause) => {

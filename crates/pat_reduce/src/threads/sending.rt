@@ -59,7 +59,8 @@ fn message_for(
     args: &[Expr],
     number: u32,
 ) -> Result<Message, StepError>
-    ensures { Gives message_view (message_to number tag (value_at (env_view env.now) target) (eval_all (env_view env.now) (map expr_view args.now))) result }
+    ensures { Gives message_view (message_to number tag (value_at (env_view env.now) target)
+        (eval_all (env_view env.now) (map expr_view args.now))) result }
 {
     match value_of(env, target) {
         Some(ValueRef::Mailbox(mailbox)) => Ok(Message {

@@ -69,7 +69,8 @@ fn resume(
     state: &mut ThreadState,
     value: Value,
 ) -> Result<(), StepError>
-    ensures { StepGives thread_view (resumed (program_view code.now.program) (map frame_view state.old.frames) (value_view value)) state.old state.new result }
+    ensures { StepGives thread_view (resumed (program_view code.now.program) (map frame_view state.old.frames)
+        (value_view value)) state.old state.new result }
 {
     let control = match state.frames.top() {
         Some(frame) => {
@@ -125,7 +126,8 @@ fn node_with_parameters(
     args: &[Expr],
     env: &[(u32, Value)],
 ) -> Result<Control, StepError>
-    ensures { Gives control_view (option_map (at_node (program_view code.now.program) node) (option_map (numbered 0) (eval_all (env_view env.now) (map expr_view args.now)))) result }
+    ensures { Gives control_view (option_map (at_node (program_view code.now.program) node)
+        (option_map (numbered 0) (eval_all (env_view env.now) (map expr_view args.now)))) result }
 {
     match parameters(alloc, args, env) {
         Ok(own) => Ok(node_of(code, node, own)),
@@ -177,7 +179,8 @@ fn line_for(alloc: Global, value: ValueRef<'_>) -> Result<Text, StepError>
 
 /// Whether a thread has a value or an expression, and no frame.
 pub fn is_over(code: &Executable, state: &ThreadState) -> bool
-    ensures { result ≡ is_over_at (redex (program_view code.now.program) (control_view state.now.control)) (map frame_view state.now.frames) }
+    ensures { result ≡ is_over_at (redex (program_view code.now.program) (control_view state.now.control))
+        (map frame_view state.now.frames) }
 {
     if !state.frames.is_empty() {
         return false;

@@ -40,7 +40,8 @@ fn free_of(alloc: Global, core: &Core, free: &Sequence<Variables>) -> Result<Var
 
 // Adds the free variables of a term.
 fn add_term(own: &mut Variables, free: &Sequence<Variables>, core: &Core) -> Result<(), AllocError>
-    ensures { OnOk result ((x : ℕ) → is_among x own.new.listed ≡ (is_among x own.old.listed || core_uses (λ k. is_listed free.now k x) x (core_view core.now))) }
+    ensures { OnOk result ((x : ℕ) → is_among x own.new.listed
+        ≡ (is_among x own.old.listed || core_uses (λ k. is_listed free.now k x) x (core_view core.now))) }
 {
     match core {
         Core::Value(e) => add_variables(own, e),
@@ -80,7 +81,8 @@ fn add_optional(
     free: &Sequence<Variables>,
     node: Option<u32>,
 ) -> Result<(), AllocError>
-    ensures { OnOk result ((x : ℕ) → is_among x own.new.listed ≡ (is_among x own.old.listed || list_any (λ k. is_listed free.now k x) (option_list node))) }
+    ensures { OnOk result ((x : ℕ) → is_among x own.new.listed
+        ≡ (is_among x own.old.listed || list_any (λ k. is_listed free.now k x) (option_list node))) }
 {
     match node {
         Some(node) => add_all(own, free, node, &[], None),
@@ -94,7 +96,8 @@ fn add_clauses(
     free: &Sequence<Variables>,
     clauses: &[Clause],
 ) -> Result<(), AllocError>
-    ensures { OnOk result ((x : ℕ) → is_among x own.new.listed ≡ (is_among x own.old.listed || list_any (clause_uses (λ k. is_listed free.now k x) x) (map clause_view clauses.now))) }
+    ensures { OnOk result ((x : ℕ) → is_among x own.new.listed
+        ≡ (is_among x own.old.listed || list_any (clause_uses (λ k. is_listed free.now k x) x) (map clause_view clauses.now))) }
 {
     for clause in clauses {
         add_all(
@@ -116,7 +119,8 @@ fn add_all(
     bound: &[u32],
     last: Option<u32>,
 ) -> Result<(), AllocError>
-    ensures { OnOk result ((x : ℕ) → is_among x own.new.listed ≡ (is_among x own.old.listed || (is_listed free.now node x && not (is_among x (bound.now ++ option_list last))))) }
+    ensures { OnOk result ((x : ℕ) → is_among x own.new.listed
+        ≡ (is_among x own.old.listed || (is_listed free.now node x && not (is_among x (bound.now ++ option_list last))))) }
 {
     let Some(variables) = free.as_slice().get(node as usize) else {
         return Ok(());
@@ -137,7 +141,8 @@ fn is_bound(variable: u32, bound: &[u32], last: Option<u32>) -> bool
 
 // Adds the variables of expressions.
 fn add_arguments(own: &mut Variables, args: &[Expr]) -> Result<(), AllocError>
-    ensures { OnOk result ((x : ℕ) → is_among x own.new.listed ≡ (is_among x own.old.listed || list_any (occurs x) (map expr_view args.now))) }
+    ensures { OnOk result ((x : ℕ) → is_among x own.new.listed
+        ≡ (is_among x own.old.listed || list_any (occurs x) (map expr_view args.now))) }
 {
     for e in args {
         add_variables(own, e)?;

@@ -58,7 +58,8 @@ fn push_sums(
     others: &[Bag],
     limit: &Bag,
 ) -> Result<(), AllocError>
-    ensures { OnOk result ((w : Word) → HasWord words.new w ↔ (HasWord words.old w ⊎ Within (word_of limit.now) (SumOf (Only (word_of word.now)) (HasWord others.now)) w)) }
+    ensures { OnOk result ((w : Word) → HasWord words.new w
+        ↔ (HasWord words.old w ⊎ Within (word_of limit.now) (SumOf (Only (word_of word.now)) (HasWord others.now)) w)) }
 {
     for other in others {
         match word.add_within(other, limit) {
@@ -100,7 +101,8 @@ fn push_steps(
 ) -> Result<(), AllocError>
     requires start { LiesIn (word_of start.now) (word_of limit.now) }
     requires step { word_of step.now ≢ no_word }
-    ensures { OnOk result ((w : Word) → HasWord words.new w ↔ (HasWord words.old w ⊎ Within (word_of limit.now) (Reached (Only (word_of start.now)) (word_of step.now)) w)) }
+    ensures { OnOk result ((w : Word) → HasWord words.new w
+        ↔ (HasWord words.old w ⊎ Within (word_of limit.now) (Reached (Only (word_of start.now)) (word_of step.now)) w)) }
 {
     let mut next = *start;
     loop {
@@ -121,7 +123,8 @@ fn with_steps(
 ) -> Result<Sequence<Bag>, AllocError>
     requires starts { (w : Word) → HasWord starts.now w → LiesIn w (word_of limit.now) }
     requires step { word_of step.now ≢ no_word }
-    ensures { IfOk result (λ words. (w : Word) → HasWord words w ↔ Within (word_of limit.now) (Reached (HasWord starts.now) (word_of step.now)) w) }
+    ensures { IfOk result (λ words. (w : Word) → HasWord words w
+        ↔ Within (word_of limit.now) (Reached (HasWord starts.now) (word_of step.now)) w) }
 {
     let mut words = Sequence::new(alloc);
     let mut places = Places::of(alloc, &[])?;

@@ -34,8 +34,11 @@ impl<'a> Numbering<'a> {
         clauses: &'a Vec<TreeClause>,
         pattern: &TreePattern,
     ) -> Result<(), AllocError>
-        requires { TermFits context.now self.old (GuardTerm (name_view name.now) (pattern_view pattern.now) (listed (map clause_view clauses.now.items)) (span_view spot.span)) }
-        ensures { OnOk result (AddsTerm context.now (kind_view spot.kind) (GuardTerm (name_view name.now) (pattern_view pattern.now) (listed (map clause_view clauses.now.items)) (span_view spot.span)) self.old self.new) }
+        requires { TermFits context.now self.old
+            (GuardTerm (name_view name.now) (pattern_view pattern.now) (listed (map clause_view clauses.now.items)) (span_view spot.span)) }
+        ensures { OnOk result (AddsTerm context.now (kind_view spot.kind)
+            (GuardTerm (name_view name.now) (pattern_view pattern.now) (listed (map clause_view clauses.now.items))
+            (span_view spot.span)) self.old self.new) }
     {
         let place = self.nodes.len();
         self.reserve(context, spot)?;
@@ -63,7 +66,8 @@ impl<'a> Numbering<'a> {
         clauses: &'a [TreeClause],
     ) -> Result<Bodies, AllocError>
         requires { ClausesFit context.now interface self.old (listed (map clause_view clauses.now)) }
-        ensures added { IfOk result (λ b. AddsClauses context.now interface (kind_view kind) (listed (map clause_view clauses.now)) self.old self.new) }
+        ensures added { IfOk result (λ b. AddsClauses context.now interface (kind_view kind)
+            (listed (map clause_view clauses.now)) self.old self.new) }
         ensures noted { IfOk result (λ b. Notes context.now interface (listed (map clause_view clauses.now)) self.old no_bodies b) }
     {
         let mut bodies = Bodies {
@@ -88,8 +92,10 @@ impl<'a> Numbering<'a> {
         bodies: &mut Bodies,
     ) -> Result<(), AllocError>
         requires { ClausesFit context.now interface self.old (with_clause (clause_view clause.now) no_clauses) }
-        ensures added { OnOk result (AddsClauses context.now interface (kind_view kind) (with_clause (clause_view clause.now) no_clauses) self.old self.new) }
-        ensures noted { OnOk result (Notes context.now interface (with_clause (clause_view clause.now) no_clauses) self.old bodies.old bodies.new) }
+        ensures added { OnOk result (AddsClauses context.now interface (kind_view kind)
+            (with_clause (clause_view clause.now) no_clauses) self.old self.new) }
+        ensures noted { OnOk result (Notes context.now interface
+            (with_clause (clause_view clause.now) no_clauses) self.old bodies.old bodies.new) }
     {
         match clause {
             TreeClause::Fail(_) => Ok(()),
@@ -126,9 +132,12 @@ impl<'a> Numbering<'a> {
         from: &'a Name,
         body: &'a Term,
     ) -> Result<Clause, AllocError>
-        requires { ReceiveFits context.now interface self.old (name_view tag.now) (map name_view names.now) (name_view from.now) (term_view body.now) }
-        ensures added { IfOk result (λ r. AddsReceive context.now interface (kind_view kind) (name_view tag.now) (map name_view names.now) (name_view from.now) (term_view body.now) self.old self.new) }
-        ensures noted { IfOk result (λ r. core_clause_view r ≡ receive_of context.now interface self.old (name_view tag.now) (map name_view names.now)) }
+        requires { ReceiveFits context.now interface self.old (name_view tag.now) (map name_view names.now) (name_view from.now)
+            (term_view body.now) }
+        ensures added { IfOk result (λ r. AddsReceive context.now interface (kind_view kind) (name_view tag.now) (map name_view names.now)
+            (name_view from.now) (term_view body.now) self.old self.new) }
+        ensures noted { IfOk result (λ r. core_clause_view r
+            ≡ receive_of context.now interface self.old (name_view tag.now) (map name_view names.now)) }
     {
         let outer = self.scope.len();
         let tag = tag_number(context.heads, interface, &tag.text);
@@ -160,8 +169,10 @@ impl<'a> Numbering<'a> {
         ensures numbers { IfOk result (λ ns. ns ≡ numbers_from self.old.next (map name_view names.now)) }
         ensures next { IfOk result (λ ns. self.new.next ≡ self.old.next + length names.now) }
         ensures nodes { IfOk result (λ ns. self.new.nodes ≡ self.old.nodes) }
-        ensures scope { IfOk result (λ ns. scope_view self.new.scope ≡ bind_names self.old.next (map name_view names.now) (drop self.old.next (kinds_of context.now)) (scope_view self.old.scope)) }
-        ensures outer { IfOk result (λ ns. (length self.new.scope ≡ length names.now + length self.old.scope) × (drop (length names.now) self.new.scope ≡ self.old.scope)) }
+        ensures scope { IfOk result (λ ns. scope_view self.new.scope
+            ≡ bind_names self.old.next (map name_view names.now) (drop self.old.next (kinds_of context.now)) (scope_view self.old.scope)) }
+        ensures outer { IfOk result (λ ns. (length self.new.scope ≡ length names.now + length self.old.scope)
+            × (drop (length names.now) self.new.scope ≡ self.old.scope)) }
     {
         let mut numbers = Sequence::new(alloc);
         for name in names.as_slice() {

@@ -25,7 +25,8 @@ impl<'a> Numbering<'a> {
         spot: Spot,
         value: &TreeExpr,
     ) -> Result<(), AllocError>
-        ensures { OnOk result (AddsTerm context.now (kind_view spot.kind) (ValueTerm (expr_view value.now) (span_view spot.span)) self.old self.new) }
+        ensures { OnOk result (AddsTerm context.now (kind_view spot.kind)
+            (ValueTerm (expr_view value.now) (span_view spot.span)) self.old self.new) }
     {
         let value = number_expr(alloc, &self.scope, value)?;
         self.append(context, spot, Core::Value(value))
@@ -38,7 +39,8 @@ impl<'a> Numbering<'a> {
         spot: Spot,
         value: &TreeExpr,
     ) -> Result<(), AllocError>
-        ensures { OnOk result (AddsTerm context.now (kind_view spot.kind) (PrintTerm (expr_view value.now) (span_view spot.span)) self.old self.new) }
+        ensures { OnOk result (AddsTerm context.now (kind_view spot.kind)
+            (PrintTerm (expr_view value.now) (span_view spot.span)) self.old self.new) }
     {
         let value = number_expr(alloc, &self.scope, value)?;
         self.append(context, spot, Core::Print(value))
@@ -50,7 +52,8 @@ impl<'a> Numbering<'a> {
         spot: Spot,
         interface: &Name,
     ) -> Result<(), AllocError>
-        ensures { OnOk result (AddsTerm context.now (kind_view spot.kind) (NewTerm (name_view interface.now) (span_view spot.span)) self.old self.new) }
+        ensures { OnOk result (AddsTerm context.now (kind_view spot.kind)
+            (NewTerm (name_view interface.now) (span_view spot.span)) self.old self.new) }
     {
         let interface = interface_number(context.heads, &interface.text);
         self.append(context, spot, Core::New(interface))
@@ -64,7 +67,8 @@ impl<'a> Numbering<'a> {
         name: &Name,
         args: &Sequence<TreeExpr>,
     ) -> Result<(), AllocError>
-        ensures { OnOk result (AddsTerm context.now (kind_view spot.kind) (CallTerm (name_view name.now) (map expr_view args.now) (span_view spot.span)) self.old self.new) }
+        ensures { OnOk result (AddsTerm context.now (kind_view spot.kind)
+            (CallTerm (name_view name.now) (map expr_view args.now) (span_view spot.span)) self.old self.new) }
     {
         let function = function_number(context.heads, &name.text);
         let args = number_args(alloc, &self.scope, args)?;
@@ -80,7 +84,8 @@ impl<'a> Numbering<'a> {
         tag: &Name,
         args: &Sequence<TreeExpr>,
     ) -> Result<(), AllocError>
-        ensures { OnOk result (AddsTerm context.now (kind_view spot.kind) (SendTerm (name_view target.now) (name_view tag.now) (map expr_view args.now) (span_view spot.span)) self.old self.new) }
+        ensures { OnOk result (AddsTerm context.now (kind_view spot.kind)
+            (SendTerm (name_view target.now) (name_view tag.now) (map expr_view args.now) (span_view spot.span)) self.old self.new) }
     {
         let interface = guarded_interface(&self.scope, &target.text);
         let tag = tag_number(context.heads, interface, &tag.text);
@@ -98,7 +103,8 @@ impl<'a> Numbering<'a> {
         mailbox: &Name,
     ) -> Result<(), AllocError>
         requires { length self.old.nodes + 2 < number_count }
-        ensures { OnOk result (AddsTerm context.now (kind_view spot.kind) (FreeTerm (name_view mailbox.now) (span_view spot.span)) self.old self.new) }
+        ensures { OnOk result (AddsTerm context.now (kind_view spot.kind)
+            (FreeTerm (name_view mailbox.now) (span_view spot.span)) self.old self.new) }
     {
         let var = variable_number(&self.scope, &mailbox.text);
         let body = self.nodes.len() as u32 + 1;

@@ -44,7 +44,8 @@ impl<'a> Numbering<'a> {
         spot: Spot,
         core: Core,
     ) -> Result<(), AllocError>
-        ensures { OnOk result (Adds (node context.now.function (kind_view spot.kind) (core_view core) ∷ []) (span_view spot.span ∷ []) 0 [] self.old self.new) }
+        ensures { OnOk result (Adds (node context.now.function (kind_view spot.kind) (core_view core) ∷ [])
+            (span_view spot.span ∷ []) 0 [] self.old self.new) }
     {
         self.nodes.push(Node {
             core,
@@ -56,7 +57,8 @@ impl<'a> Numbering<'a> {
 
     /// Appends a node whose parts are yet to come.
     pub(crate) fn reserve(&mut self, context: &Context, spot: Spot) -> Result<(), AllocError>
-        ensures { OnOk result (Adds (node context.now.function (kind_view spot.kind) (Val (Literal UnitConst)) ∷ []) (span_view spot.span ∷ []) 0 [] self.old self.new) }
+        ensures { OnOk result (Adds (node context.now.function (kind_view spot.kind) (Val (Literal UnitConst)) ∷ [])
+            (span_view spot.span ∷ []) 0 [] self.old self.new) }
     {
         self.append(context, spot, Core::Value(Expr::Unit))
     }
@@ -64,7 +66,16 @@ impl<'a> Numbering<'a> {
     /// Puts a node in the place that was kept for it.
     pub(crate) fn fill(&mut self, context: &Context, spot: Spot, place: usize, core: Core)
         requires { place < length self.old.nodes }
-        ensures { self.new ≡ record self.old { nodes = slice_set self.old.nodes place (record { core = core; kind = spot.kind; function = context.now.function; span = spot.span }) } }
+        ensures { self.new ≡ record self.old {
+          nodes
+              = slice_set self.old.nodes place (record {
+                core = core;
+                kind = spot.kind;
+                function = context.now.function;
+                span
+                    = spot.span;
+              });
+        } }
     {
         let kept = self.nodes.replace(
             place,

@@ -53,7 +53,8 @@ impl<'a> Numbering<'a> {
         bound: &'a Term,
     ) -> Result<(), AllocError>
         requires { LetFits context.now self.old (option_map name_view name.now) (term_view bound.now) }
-        ensures { OnOk result (AddsLet context.now (kind_view spot.kind) (span_view spot.span) (option_map name_view name.now) (term_view bound.now) self.old self.new) }
+        ensures { OnOk result (AddsLet context.now (kind_view spot.kind) (span_view spot.span) (option_map name_view name.now)
+            (term_view bound.now) self.old self.new) }
     {
         match name {
             None => self.number_sequence(alloc, context, spot, bound),
@@ -71,7 +72,8 @@ impl<'a> Numbering<'a> {
         bound: &'a Term,
     ) -> Result<(), AllocError>
         requires { LetFits context.now self.old None (term_view bound.now) }
-        ensures { OnOk result (AddsLet context.now (kind_view spot.kind) (span_view spot.span) None (term_view bound.now) self.old self.new) }
+        ensures { OnOk result (AddsLet context.now (kind_view spot.kind) (span_view spot.span) None
+            (term_view bound.now) self.old self.new) }
     {
         let place = self.nodes.len();
         self.reserve(context, spot)?;
@@ -96,7 +98,8 @@ impl<'a> Numbering<'a> {
         bound: &'a Term,
     ) -> Result<(), AllocError>
         requires { LetFits context.now self.old (Some (name_view name.now)) (term_view bound.now) }
-        ensures { OnOk result (AddsLet context.now (kind_view spot.kind) (span_view spot.span) (Some (name_view name.now)) (term_view bound.now) self.old self.new) }
+        ensures { OnOk result (AddsLet context.now (kind_view spot.kind) (span_view spot.span) (Some (name_view name.now))
+            (term_view bound.now) self.old self.new) }
     {
         let place = self.nodes.len();
         let own = self.next;
@@ -166,7 +169,8 @@ impl<'a> Numbering<'a> {
         body: &'a Term,
     ) -> Result<(), AllocError>
         requires { TermFits context.now self.old (SpawnTerm (term_view body.now) (span_view spot.span)) }
-        ensures { OnOk result (AddsTerm context.now (kind_view spot.kind) (SpawnTerm (term_view body.now) (span_view spot.span)) self.old self.new) }
+        ensures { OnOk result (AddsTerm context.now (kind_view spot.kind)
+            (SpawnTerm (term_view body.now) (span_view spot.span)) self.old self.new) }
     {
         let first = self.nodes.len() as u32 + 1;
         self.append(context, spot, Core::Spawn(first))?;
@@ -186,7 +190,8 @@ impl<'a> Numbering<'a> {
         requires there { place < length self.old.nodes }
         requires room { place + 1 < number_count }
         requires other { other < number_count }
-        ensures { OnOk result ((d : Node) × FillsIf context.now (kind_view spot.kind) (span_view spot.span) (expr_view test.now) place other d self.old self.new) }
+        ensures { OnOk result ((d : Node) × FillsIf context.now (kind_view spot.kind) (span_view spot.span)
+            (expr_view test.now) place other d self.old self.new) }
     {
         let test = number_expr(alloc, &self.scope, test)?;
         let core = Core::If {

@@ -114,7 +114,8 @@ fn perform<'a, 'p>(
     tasks: &mut Stack<Task<'p>>,
     done: &mut Stack<Option<Part<'a>>>,
 ) -> Result<(), AllocError>
-    ensures outcome { OnOk result (outcome variable tasks.new (parts_view done.new) ≡ outcome variable (task.entry ∷ tasks.old) (parts_view done.old)) }
+    ensures outcome { OnOk result (outcome variable tasks.new (parts_view done.new)
+        ≡ outcome variable (task.entry ∷ tasks.old) (parts_view done.old)) }
     ensures less { OnOk result (work tasks.new < work (task.entry ∷ tasks.old)) }
 {
     match task {
@@ -132,7 +133,8 @@ fn visit<'a, 'p>(
     tasks: &mut Stack<Task<'p>>,
     done: &mut Stack<Option<Part<'a>>>,
 ) -> Result<(), AllocError>
-    ensures outcome { OnOk result (outcome variable tasks.new (parts_view done.new) ≡ outcome variable tasks.old (within (derivative_of variable (pattern_view p.now)) ∷ parts_view done.old)) }
+    ensures outcome { OnOk result (outcome variable tasks.new (parts_view done.new)
+        ≡ outcome variable tasks.old (within (derivative_of variable (pattern_view p.now)) ∷ parts_view done.old)) }
     ensures less { OnOk result (work tasks.new < 2 * size_of (pattern_view p.now) + work tasks.old) }
 {
     match p {
@@ -153,7 +155,8 @@ fn join_product_slope<'a>(
     right: &Pattern,
     done: &mut Stack<Option<Part<'a>>>,
 ) -> Result<(), AllocError>
-    ensures { OnOk result (parts_view done.new ≡ joined (product_slope_of (pattern_view left.now) (pattern_view right.now)) (parts_view done.old)) }
+    ensures { OnOk result (parts_view done.new
+        ≡ joined (product_slope_of (pattern_view left.now) (pattern_view right.now)) (parts_view done.old)) }
 {
     match done.pop() {
         Some(right_slope) => match done.pop() {
@@ -192,7 +195,9 @@ fn product_slope<'a>(
     left_slope: Option<Part<'a>>,
     right_slope: Option<Part<'a>>,
 ) -> Result<Option<Part<'a>>, AllocError>
-    ensures { IfOk result (λ part. limited_view part ≡ product_slope_of (pattern_view left.now) (pattern_view right.now) (limited_view left_slope.entry) (limited_view right_slope.entry)) }
+    ensures { IfOk result (λ part. limited_view part
+        ≡ product_slope_of (pattern_view left.now) (pattern_view right.now) (limited_view left_slope.entry)
+        (limited_view right_slope.entry)) }
 {
     if left_slope.is_none() && !right.is_zero() {
         return Ok(None);
@@ -292,8 +297,11 @@ fn put_parts<'p>(
     left: &'p Pattern,
     right: &'p Pattern,
 ) -> Result<(), AllocError>
-    ensures outcome { OnOk result ((k : ℕ) (made : List (Option Pat)) → outcome k tasks.new made ≡ outcome k (joining.entry ∷ tasks.old) (within (derivative_of k (pattern_view right.now)) ∷ within (derivative_of k (pattern_view left.now)) ∷ made)) }
-    ensures work { OnOk result (work tasks.new ≡ 2 * size_of (pattern_view left.now) + (2 * size_of (pattern_view right.now) + work (joining.entry ∷ tasks.old))) }
+    ensures outcome { OnOk result ((k : ℕ) (made : List (Option Pat))
+        → outcome k tasks.new made ≡ outcome k (joining.entry ∷ tasks.old)
+        (within (derivative_of k (pattern_view right.now)) ∷ within (derivative_of k (pattern_view left.now)) ∷ made)) }
+    ensures work { OnOk result (work tasks.new ≡ 2 * size_of (pattern_view left.now)
+        + (2 * size_of (pattern_view right.now) + work (joining.entry ∷ tasks.old))) }
 {
     tasks.push(joining)?;
     tasks.push(Task::Visit(right))?;
@@ -306,7 +314,8 @@ fn put_part<'p>(
     joining: Task<'p>,
     part: &'p Pattern,
 ) -> Result<(), AllocError>
-    ensures outcome { OnOk result ((k : ℕ) (made : List (Option Pat)) → outcome k tasks.new made ≡ outcome k (joining.entry ∷ tasks.old) (within (derivative_of k (pattern_view part.now)) ∷ made)) }
+    ensures outcome { OnOk result ((k : ℕ) (made : List (Option Pat))
+        → outcome k tasks.new made ≡ outcome k (joining.entry ∷ tasks.old) (within (derivative_of k (pattern_view part.now)) ∷ made)) }
     ensures work { OnOk result (work tasks.new ≡ 2 * size_of (pattern_view part.now) + work (joining.entry ∷ tasks.old)) }
 {
     tasks.push(joining)?;

@@ -108,7 +108,8 @@ fn perform<'a, 'p>(
     done: &mut Stack<Option<Part<'a>>>,
 ) -> Result<(), AllocError>
     requires { IsReplacement by.now }
-    ensures outcome { OnOk result (outcome (replaced_by by.now) tasks.new (parts_view done.new) ≡ outcome (replaced_by by.now) (task.entry ∷ tasks.old) (parts_view done.old)) }
+    ensures outcome { OnOk result (outcome (replaced_by by.now) tasks.new (parts_view done.new)
+        ≡ outcome (replaced_by by.now) (task.entry ∷ tasks.old) (parts_view done.old)) }
     ensures less { OnOk result (work tasks.new < work (task.entry ∷ tasks.old)) }
 {
     match task {
@@ -128,7 +129,8 @@ fn visit<'a, 'p>(
     done: &mut Stack<Option<Part<'a>>>,
 ) -> Result<(), AllocError>
     requires { IsReplacement by.now }
-    ensures outcome { OnOk result (outcome (replaced_by by.now) tasks.new (parts_view done.new) ≡ outcome (replaced_by by.now) tasks.old (within (subst_of (replaced_by by.now) (pattern_view p.now)) ∷ parts_view done.old)) }
+    ensures outcome { OnOk result (outcome (replaced_by by.now) tasks.new (parts_view done.new)
+        ≡ outcome (replaced_by by.now) tasks.old (within (subst_of (replaced_by by.now) (pattern_view p.now)) ∷ parts_view done.old)) }
     ensures less { OnOk result (work tasks.new < 2 * size_of (pattern_view p.now) + work tasks.old) }
 {
     match p {
@@ -155,8 +157,11 @@ fn put_parts<'p>(
     left: &'p Pattern,
     right: &'p Pattern,
 ) -> Result<(), AllocError>
-    ensures outcome { OnOk result ((values : ℕ → Pat) (made : List (Option Pat)) → outcome values tasks.new made ≡ outcome values (joining.entry ∷ tasks.old) (within (subst_of values (pattern_view right.now)) ∷ within (subst_of values (pattern_view left.now)) ∷ made)) }
-    ensures work { OnOk result (work tasks.new ≡ 2 * size_of (pattern_view left.now) + (2 * size_of (pattern_view right.now) + work (joining.entry ∷ tasks.old))) }
+    ensures outcome { OnOk result ((values : ℕ → Pat) (made : List (Option Pat))
+        → outcome values tasks.new made ≡ outcome values (joining.entry ∷ tasks.old)
+        (within (subst_of values (pattern_view right.now)) ∷ within (subst_of values (pattern_view left.now)) ∷ made)) }
+    ensures work { OnOk result (work tasks.new ≡ 2 * size_of (pattern_view left.now)
+        + (2 * size_of (pattern_view right.now) + work (joining.entry ∷ tasks.old))) }
 {
     tasks.push(joining)?;
     tasks.push(Task::Visit(right))?;

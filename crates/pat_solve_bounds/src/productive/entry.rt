@@ -27,7 +27,8 @@ pub fn first_unusable(
 ) -> Result<Option<u32>, AllocError>
     requires problem { IsProblemOf program.now problem.now }
     requires sides { let p = program_view program.now in AllByRecursion (ConstraintFits p (all_vars p)) (inferred p).constraints }
-    ensures some { let p = program_view program.now in IfOk result (λ found. IfSome found (λ k. IsUnusable p k × ((j : ℕ) → j < k → IsUnusable p j → ⊥))) }
+    ensures some { let p = program_view program.now in
+        IfOk result (λ found. IfSome found (λ k. IsUnusable p k × ((j : ℕ) → j < k → IsUnusable p j → ⊥))) }
     ensures none { let p = program_view program.now in IfOk result (λ found. IfNone found (AllUsable p)) }
 {
     let vars = problem.vars.as_slice();

@@ -27,7 +27,8 @@ pub fn usable_variables(
     count: usize,
 ) -> Result<Sequence<bool>, AllocError>
     requires { RightsBelow count (sides_list constraints.now) }
-    ensures { IfOk result (λ flags. (k : ℕ) → IsTrue (flag_of flags k) ↔ ((w : Word) × derivable (lower_of (sides_list constraints.now)) k w)) }
+    ensures { IfOk result (λ flags. (k : ℕ) → IsTrue (flag_of flags k)
+        ↔ ((w : Word) × derivable (lower_of (sides_list constraints.now)) k w)) }
 {
     let users = users_of(alloc, constraints, count)?;
     let mut flags = no_flags(alloc, count)?;
@@ -124,7 +125,11 @@ fn look_for(
     flags: &mut [bool],
     waiting: &mut Stack<u32>,
 ) -> Result<(), AllocError>
-    ensures { OnOk result (IsLookedAt (record { left = pattern_view left.now; right = VarRight variable }) flags.old waiting.old flags.new waiting.new) }
+    ensures { OnOk result (IsLookedAt (record {
+      left = pattern_view left.now;
+      right
+          = VarRight variable;
+    }) flags.old waiting.old flags.new waiting.new) }
 {
     if is_found(variable, left, flags) {
         return mark(variable, flags, waiting);
@@ -134,7 +139,8 @@ fn look_for(
 
 /// Whether a word is found for the variable that had none.
 fn is_found(variable: u32, left: &Pattern, flags: &[bool]) -> bool
-    ensures { result ≡ (nat_lt variable (length flags.now) && (not (flag_of flags.now variable) && inhabited_under (flag_of flags.now) (pattern_view left.now))) }
+    ensures { result ≡ (nat_lt variable (length flags.now)
+        && (not (flag_of flags.now variable) && inhabited_under (flag_of flags.now) (pattern_view left.now))) }
 {
     (variable as usize) < flags.len() && (!flag(flags, variable as usize) && has_word(flags, left))
 }

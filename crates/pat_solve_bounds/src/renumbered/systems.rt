@@ -26,7 +26,9 @@ pub fn system_of(
     variables: &[u32],
 ) -> Result<Sequence<Pattern>, AllocError>
     requires { IsAscending variables.now }
-    ensures { IfOk result (λ system. patterns_view system ≡ all_added (map (renamed_side (place_in variables.now)) (picked (sides_list constraints.now) numbers.now)) variables.now (replicate (length variables.now) Zero)) }
+    ensures { IfOk result (λ system. patterns_view system
+        ≡ all_added (map (renamed_side (place_in variables.now)) (picked (sides_list constraints.now) numbers.now)) variables.now
+        (replicate (length variables.now) Zero)) }
 {
     let mut system = zeros(alloc, variables.len())?;
     for number in numbers {
@@ -56,7 +58,9 @@ fn add_left(
 ) -> Result<(), AllocError>
     requires ascending { IsAscending variables.now }
     requires as_many { length system.old ≡ length variables.now }
-    ensures { OnOk result (patterns_view system.new ≡ added (renamed_side (place_in variables.now) (side_at (sides_list constraints.now) number)) variables.now (patterns_view system.old)) }
+    ensures { OnOk result (patterns_view system.new
+        ≡ added (renamed_side (place_in variables.now) (side_at (sides_list constraints.now) number)) variables.now
+        (patterns_view system.old)) }
 {
     match constraints.get(number) {
         None => Ok(()),
@@ -72,7 +76,8 @@ fn add_side(
 ) -> Result<(), AllocError>
     requires ascending { IsAscending variables.now }
     requires as_many { length system.old ≡ length variables.now }
-    ensures { OnOk result (patterns_view system.new ≡ added (renamed_side (place_in variables.now) (sides_view constraint.now)) variables.now (patterns_view system.old)) }
+    ensures { OnOk result (patterns_view system.new
+        ≡ added (renamed_side (place_in variables.now) (sides_view constraint.now)) variables.now (patterns_view system.old)) }
 {
     match &constraint.right {
         Right::Pattern(_) => Ok(()),
@@ -89,7 +94,9 @@ fn add_for(
 ) -> Result<(), AllocError>
     requires ascending { IsAscending variables.now }
     requires as_many { length system.old ≡ length variables.now }
-    ensures { OnOk result (patterns_view system.new ≡ added (record { left = renamed_by (place_in variables.now) (pattern_view left.now); right = VarRight variable }) variables.now (patterns_view system.old)) }
+    ensures { OnOk result (patterns_view system.new
+        ≡ added (record { left = renamed_by (place_in variables.now) (pattern_view left.now); right = VarRight variable }) variables.now
+        (patterns_view system.old)) }
 {
     match find_variable(variables, variable) {
         None => Ok(()),
@@ -108,7 +115,8 @@ fn add_at(
     system: &mut Sequence<Pattern>,
 ) -> Result<(), AllocError>
     requires { place < length system.old }
-    ensures { OnOk result (patterns_view system.new ≡ set (patterns_view system.old) place (sum_of (get_or (patterns_view system.old) place Zero) (pattern_view left))) }
+    ensures { OnOk result (patterns_view system.new
+        ≡ set (patterns_view system.old) place (sum_of (get_or (patterns_view system.old) place Zero) (pattern_view left))) }
 {
     let made = system.replace(place, Pattern::Zero);
     let whole = sum(alloc, made, left)?;

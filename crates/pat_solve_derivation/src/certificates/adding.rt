@@ -43,7 +43,8 @@ fn certificate(
     requires left { IsTrue (is_formed (scope_in solved.now) interface (pattern_view left.now)) }
     requires right { IsTrue (is_formed (scope_in solved.now) interface (pattern_view right.now)) }
     requires met { IsMetIn (scope_in solved.now) (forms_in solved.now) interface (pattern_view left.now) (pattern_view right.now) }
-    ensures { IfOk result (λ cert. IsCertIf (scope_in solved.now) interface (pattern_view left.now) (pattern_view right.now) (forms_in solved.now interface) (option_map cert_view cert)) }
+    ensures { IfOk result (λ cert. IsCertIf (scope_in solved.now) interface (pattern_view left.now) (pattern_view right.now)
+        (forms_in solved.now interface) (option_map cert_view cert)) }
 {
     if is_trivial(alloc, solved.plain, left, right)? {
         return Ok(None);
@@ -128,7 +129,8 @@ pub fn certificates(
 ) -> Result<Sequence<Cert>, AllocError>
     requires solved { IsSolved solved.now }
     requires met { AllByRecursion (IsMet (scope_in solved.now) (forms_in solved.now)) (flat_map inclusions_of (demands_view demands.now)) }
-    ensures { IfOk result (λ certs. AreCertsFor (scope_in solved.now) (forms_in solved.now) (flat_map inclusions_of (demands_view demands.now)) (certs_view certs)) }
+    ensures { IfOk result (λ certs. AreCertsFor (scope_in solved.now) (forms_in solved.now)
+        (flat_map inclusions_of (demands_view demands.now)) (certs_view certs)) }
 {
     let mut certs = Sequence::new(alloc);
     for demand in demands {

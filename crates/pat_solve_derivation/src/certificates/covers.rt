@@ -48,8 +48,12 @@ pub fn cover_between(
     requires solved { IsSolved solved.now }
     requires left { IsTrue (is_formed (scope_in solved.now) interface (pattern_view left.now)) }
     requires right { IsTrue (is_formed (scope_in solved.now) interface (pattern_view right.now)) }
-    requires covered { IsCovered ((scope_in solved.now).tags interface) (subst_of (pattern_of (scope_in solved.now)) (pattern_view left.now)) (subst_of (pattern_of (scope_in solved.now)) (pattern_view right.now)) }
-    ensures { IfOk result (λ cover. IsTrue (cover_shows ((scope_in solved.now).tags interface) (entries_view cover) (subst_of (pattern_of (scope_in solved.now)) (pattern_view left.now)) (subst_of (pattern_of (scope_in solved.now)) (pattern_view right.now)))) }
+    requires covered { IsCovered ((scope_in solved.now).tags interface)
+        (subst_of (pattern_of (scope_in solved.now)) (pattern_view left.now))
+        (subst_of (pattern_of (scope_in solved.now)) (pattern_view right.now)) }
+    ensures { IfOk result (λ cover. IsTrue (cover_shows ((scope_in solved.now).tags interface) (entries_view cover)
+        (subst_of (pattern_of (scope_in solved.now)) (pattern_view left.now))
+        (subst_of (pattern_of (scope_in solved.now)) (pattern_view right.now)))) }
 {
     tags_are_few(solved.program, interface);
     let left = side_form(alloc, solved, interface, left)?;

@@ -52,7 +52,9 @@ fn kept_at<'a>(closed: &'a [Option<Sequence<LinearSet>>], number: u32) -> Option
 /// The closed form of a side that is a variable, if it is kept.
 fn kept_form<'a>(solved: &Solved<'a>, side: &Pattern) -> Option<&'a [LinearSet]>
     requires { IsSolved solved.now }
-    ensures { IfSome result (λ sets. (i : ℕ) → IsTrue (is_formed (scope_in solved.now) i (pattern_view side.now)) → closed_form ((scope_in solved.now).tags i) (subst_of (pattern_of (scope_in solved.now)) (pattern_view side.now)) ≡ Some (sets_view sets.now)) }
+    ensures { IfSome result (λ sets. (i : ℕ) → IsTrue (is_formed (scope_in solved.now) i (pattern_view side.now))
+        → closed_form ((scope_in solved.now).tags i) (subst_of (pattern_of (scope_in solved.now)) (pattern_view side.now))
+        ≡ Some (sets_view sets.now)) }
 {
     match side {
         Pattern::Var(number) => kept_at(solved.closed, *number),
@@ -70,8 +72,10 @@ pub fn side_form<'a>(
 ) -> Result<ClosedForm<'a>, AllocError>
     requires solved { IsSolved solved.now }
     requires formed { IsTrue (is_formed (scope_in solved.now) interface (pattern_view side.now)) }
-    requires small { (sets : List GhostSet) × (closed_form ((scope_in solved.now).tags interface) (subst_of (pattern_of (scope_in solved.now)) (pattern_view side.now)) ≡ Some sets) }
-    ensures { IfOk result (λ form. closed_form ((scope_in solved.now).tags interface) (subst_of (pattern_of (scope_in solved.now)) (pattern_view side.now)) ≡ Some (closed_view form)) }
+    requires small { (sets : List GhostSet) × (closed_form ((scope_in solved.now).tags interface)
+        (subst_of (pattern_of (scope_in solved.now)) (pattern_view side.now)) ≡ Some sets) }
+    ensures { IfOk result (λ form. closed_form ((scope_in solved.now).tags interface)
+        (subst_of (pattern_of (scope_in solved.now)) (pattern_view side.now)) ≡ Some (closed_view form)) }
 {
     match kept_form(solved, side) {
         Some(sets) => Ok(ClosedForm::Kept(sets)),

@@ -24,7 +24,8 @@ pub fn assigned(
 ) -> Result<Sequence<Measured>, RoundError>
     requires ascending { IsAscending variables.now }
     requires as_many { length variables.now ≡ length lowers.now }
-    ensures { (cs : List Constraint) → map (lowers_by cs) variables.now ≡ measured_list lowers.now → GivesValues variables.now result (rounds_fit cs variables.now) (assigned_by cs variables.now) }
+    ensures { (cs : List Constraint) → map (lowers_by cs) variables.now ≡ measured_list lowers.now
+        → GivesValues variables.now result (rounds_fit cs variables.now) (assigned_by cs variables.now) }
 {
     both_rounds(alloc, variables, lowers)
 }
@@ -37,7 +38,9 @@ fn both_rounds(
 ) -> Result<Sequence<Measured>, RoundError>
     requires ascending { IsAscending variables.now }
     requires as_many { length variables.now ≡ length lowers.now }
-    ensures { let first = first_from [] (paired variables.now (measured_list lowers.now)) in GivesValues variables.now result (first_fits [] (paired variables.now (measured_list lowers.now)) && second_fits first) (second_round_of first) }
+    ensures { let first = first_from [] (paired variables.now (measured_list lowers.now)) in
+        GivesValues variables.now result (first_fits [] (paired variables.now (measured_list lowers.now)) && second_fits first)
+        (second_round_of first) }
 {
     let values = first_round(alloc, variables, lowers)?;
     second_round(alloc, variables, values)

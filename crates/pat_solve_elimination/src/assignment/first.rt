@@ -23,7 +23,8 @@ pub fn first_round(
 ) -> Result<Sequence<Measured>, RoundError>
     requires ascending { IsAscending variables.now }
     requires as_many { length variables.now ≡ length lowers.now }
-    ensures values { let fs = paired variables.now (measured_list lowers.now) in GivesValues variables.now result (first_fits [] fs) (first_from [] fs) }
+    ensures values { let fs = paired variables.now (measured_list lowers.now) in
+        GivesValues variables.now result (first_fits [] fs) (first_from [] fs) }
     ensures rebuilt { IfOk result (λ vs. AllByRecursion IsRebuilt (measured_list vs)) }
 {
     let mut values = Sequence::new(alloc);
@@ -49,7 +50,8 @@ fn next(
     requires place { place < length variables.now }
     requires so_many { length values.now ≡ place }
     requires rebuilt { AllByRecursion IsRebuilt (measured_list values.now) }
-    ensures { let done = paired (take place variables.now) (measured_list values.now) in let k = get_or variables.now place 0 in let f = get_or (measured_list lowers.now) place Zero in Gives result (next_fits done k f) (next_value done k f) }
+    ensures { let done = paired (take place variables.now) (measured_list values.now) in let k = get_or variables.now place 0 in let f
+        = get_or (measured_list lowers.now) place Zero in Gives result (next_fits done k f) (next_value done k f) }
 {
     let lower = &lowers[place];
     eliminate(alloc, variables[place], &variables[..place], values, lower)
@@ -66,7 +68,8 @@ fn eliminate(
     requires ascending { IsAscending earlier.now }
     requires as_many { length earlier.now ≡ length values.now }
     requires rebuilt { AllByRecursion IsRebuilt (measured_list values.now) }
-    ensures { let done = paired earlier.now (measured_list values.now) in Gives result (next_fits done variable (measured_view lower.now)) (next_value done variable (measured_view lower.now)) }
+    ensures { let done = paired earlier.now (measured_list values.now) in
+        Gives result (next_fits done variable (measured_view lower.now)) (next_value done variable (measured_view lower.now)) }
 {
     let f = in_turn(alloc, earlier, values, lower)?;
     solve_for(alloc, variable, &f)

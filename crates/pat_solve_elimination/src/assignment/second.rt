@@ -24,7 +24,8 @@ pub fn second_round(
     requires ascending { IsAscending variables.now }
     requires as_many { length values ≡ length variables.now }
     requires rebuilt { AllByRecursion IsRebuilt (measured_list values) }
-    ensures { let vs = paired variables.now (measured_list values) in GivesValues variables.now result (second_fits vs) (second_round_of vs) }
+    ensures { let vs = paired variables.now (measured_list values) in
+        GivesValues variables.now result (second_fits vs) (second_round_of vs) }
 {
     let mut values = values;
     let mut place = values.len();
@@ -47,7 +48,8 @@ fn put_later(
     requires as_many { length values.now ≡ length variables.now }
     requires place { place < length values.now }
     requires rebuilt { AllByRecursion IsRebuilt (measured_list values.now) }
-    ensures { let later = paired (drop (place + 1) variables.now) (drop (place + 1) (measured_list values.now)) in let own = get_or (measured_list values.now) place Zero in Gives result (turn_fits later own) (put_in_turn later own) }
+    ensures { let later = paired (drop (place + 1) variables.now) (drop (place + 1) (measured_list values.now)) in let own
+        = get_or (measured_list values.now) place Zero in Gives result (turn_fits later own) (put_in_turn later own) }
 {
     let own = &values[place];
     in_turn_rebuilt(alloc, &variables[place + 1..], &values[place + 1..], own)

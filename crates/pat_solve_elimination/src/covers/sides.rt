@@ -22,7 +22,8 @@ pub fn side_form(
 ) -> Result<Option<Sequence<LinearSet>>, AllocError>
     requires by { IsReplacement by.now }
     requires tags { IsTrue (tags_below most_tags (subst_of (replaced_by by.now) (pattern_view side.now))) }
-    ensures { IfOk result (λ form. option_map sets_view form ≡ closed_form_of most_tags (subst_of (replaced_by by.now) (pattern_view side.now))) }
+    ensures { IfOk result (λ form. option_map sets_view form
+        ≡ closed_form_of most_tags (subst_of (replaced_by by.now) (pattern_view side.now))) }
 {
     let made = replaced(alloc, side, by)?;
     match made {
