@@ -46,6 +46,7 @@ const HABITS = [
     'a call is no expression: bind its result by a `let` of its own first, let r = f(..) in, and behind it let x = r + 1 in'],
   [/^(\+|-(?!>)|\*|<|==)/, { wants: '`;`' }, 'a call or a send is a step of its own: bind its result first, let r = f(..) in'],
   [/^(<|==)/, { wants: '`-`' }, 'an expression compares once: bind what comes of the first, let r = a < b in'],
+  [/^!/, { wants: ['`-`', '`)`'] }, 'a send is a step of its own, and gives nothing back'],
   [/^-(?!>)/, {}, 'a number has no sign: write 0 - 5 for -5'],
   [/^let/, { wants: 'an expression' }, 'a `let` begins a term: in the place of an expression bind it before'],
   [/^(if|new|guard|spawn|print|free)\b/, { wants: 'an expression' },

@@ -43,6 +43,7 @@ const HABITS = [
   ['def main(): Unit { print(1.5) }', 'whole number'],
   ['def main(): Unit { print(1, 2) }', 'no pairs'],
   ['def main(): Unit { f(new[I]) }', 'no expression'],
+  ['def main(): Unit { print(a ! m(1)) }', 'a step of its own'],
   ['def main(): Unit { let x = new[I](1) in () }', 'new[I] alone'],
   ['def main(): Unit { let x: Int = 5 in () }', 'no type'],
   ['def main(): Unit { let mut x = 5 in () }', 'one name'],
