@@ -170,7 +170,7 @@ function sayStuck(run, one, y) {
 }
 
 /** Rows of {draws, says}: what each sign means, in columns. */
-const LEGEND_AT = [0, 146, 356, 536], LEGEND_WIDTH = 720;
+const LEGEND_AT = [0, 162, 372, 552], LEGEND_WIDTH = 780;
 const LEGEND = [
   [{ draws: y => line(22, y - 8, 22, y + 8, 'life'), says: 'a thread' },
     { draws: y => line(14, y, 40, y, 'arrow c0') + head(44, y, 1, 0, 'fill c0') + `<circle cx="14" cy="${y}" r="3.2" class="fill c0"/>`,
@@ -181,6 +181,11 @@ const LEGEND = [
     { draws: y => diamond(24, y, 'fill c0') + path(`M21,${y - 3} l6,6 m-6,0 l6,-6`, 'cross'), says: 'it is freed' },
     { draws: y => line(22, y - 8, 22, y + 8, 'dotted'), says: 'waits at a guard' },
     { draws: y => path(`M20,${y - 4} l8,8 m-8,0 l8,-8`, 'left'), says: 'nobody receives it' }],
+  [{ draws: y => `<rect x="12" y="${y - 7}" width="30" height="14" rx="2" class="paperbox"/>` + text(27, y + 4, '5', 'note', 'middle'),
+    says: 'printed' },
+  { draws: y => text(12, y + 4, 'name', 'state'), says: 'the function that it is in' },
+  { draws: y => text(42, y + 4, '3', 'no', 'end'), says: 'entry of the history' },
+  { draws: y => line(14, y - 3, 42, y - 3, 'arrow c0') + line(14, y + 3, 42, y + 3, 'arrow c1'), says: 'each mailbox has its own' }],
 ];
 function drawLegend(entries, y) {
   return entries.map(({ draws, says }, index) =>

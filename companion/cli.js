@@ -7,8 +7,8 @@ import { findPat, isMain } from './find.js';
 import { nativePat } from './pat.js';
 import { Source } from './source.js';
 
-const USAGE = `usage: pat-companion explain FILE..              why a program is refused, and where; one with a derivation or a history
-                                                 behind it is judged
+const USAGE = `usage: pat-companion explain FILE..              why a program is refused, and where; one with a derivation, a checkpoint
+                                                 or a history behind it is judged
        pat-companion check FILE..                the same, in one line each
        pat-companion run FILE [--quiet]          runs it, and says how it stands if it isn't done; --quiet leaves the history out
        pat-companion trace FILE [HISTORY]        a run as readable text

@@ -25,14 +25,24 @@ const gravest = statuses => GRAVEST_FIRST.find(one => statuses.includes(one)) ??
 
 /** What `pat` says of an input, with its explanation: {source, command, line, status, output, explanation}. */
 function judge(source, { pat, STATUS }) {
-  const mark = /^%%(derivation|history)$/m.exec(source.text);
-  const command = { derivation: 'verify', history: 'replay' }[mark?.[1]] ?? 'check';
-  const { status, text } = pat([command], source.bytes), lines = text.trimEnd().split('\n');
+  const command = commandFor(source.text), { status, text } = pat([command], source.bytes), lines = text.trimEnd().split('\n');
+  if (command === 'resume' && lines[0] === '%%history') return resumed(source, lines, status);
   const output = lines.filter(line => line.startsWith('out ')), line = lines.find(one => !one.startsWith('out ')) ?? '';
   if (status === STATUS.done) return { source, command, line, status, output, explanation: outcomeOf(source, command, line) };
   const verdict = readVerdict(line), replayed = replayedOf(source, verdict);
   const explanation = explain(source, verdict, { replayed });
   return { source, command, line, status: isOpen(verdict) ? STATUS.open : status, output: [], explanation };
+}
+/** Who judges what stands behind a program. */
+function commandFor(text) {
+  const mark = /^%%(derivation|history)$/m.exec(text)?.[1];
+  if (mark === 'derivation' && /^%%checkpoint$/m.test(text)) return 'resume';
+  return { derivation: 'verify', history: 'replay' }[mark] ?? 'check';
+}
+/** A run that went on from a checkpoint: its last line says how it ended. */
+function resumed(source, lines, status) {
+  const output = lines.filter(line => line.startsWith('out '));
+  return { source, command: 'resume', line: lines.at(-1), status, output, explanation: null };
 }
 /** How a history that was taken back stands. */
 function outcomeOf(source, command, outcome) {

@@ -5,6 +5,7 @@ const PLACED = new RegExp('^(untypable|refuted|unusable|undecided|unknown name|t
 const OTHERS = [
   [/^too large: (\S+)$/, ([, name]) => ({ kind: 'too large', interface: name })],
   [/^rejected at node (\d+): (\S+)$/, ([, node, rule]) => ({ kind: 'rejected', node: Number(node), rule })],
+  [/^bad checkpoint: (\S+)$/, ([, rule]) => ({ kind: 'bad checkpoint', rule })],
   [/^refused at entry (\d+)$/, ([, entry]) => ({ kind: 'refused', entry: Number(entry) })],
 ];
 /** Where `pat` found neither a typing nor that there is none: it can't tell, and the program may be right. */

@@ -9,7 +9,7 @@ import { wrongKind } from './kinds.js';
 import { untypable } from './rules.js';
 import { sides } from './words.js';
 import { unusable, tooLarge } from './grown.js';
-import { rejected, badText, refusedEntry } from './judged.js';
+import { rejected, badCheckpoint, badText, refusedEntry } from './judged.js';
 import { fromRows } from './rows.js';
 import { code, mark, CHECK, NAMES } from './say.js';
 
@@ -73,7 +73,7 @@ const KINDS = {
   'unknown name': unknownName, 'foreign tag': foreignTag, 'wrong arity': wrongArity, 'wrong kind': wrongKind, twice,
   'empty sending type': emptySendingType, 'too many tags': tooManyTags,
   untypable, refuted: sides, undecided: sides, unusable, 'too large': tooLarge,
-  'bad text': badText, rejected, refused: refusedEntry,
+  'bad text': badText, rejected, 'bad checkpoint': badCheckpoint, refused: refusedEntry,
 };
 /** The kinds of answers that have explanations. */
 export const EXPLAINED = Object.keys(KINDS);

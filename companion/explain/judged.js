@@ -1,4 +1,4 @@
-// What `verify` and `replay` refuse.
+// What `verify`, `resume` and `replay` refuse.
 
 import { termsInOrder } from '../parse.js';
 import { sizeInBytes } from '../source.js';
@@ -53,12 +53,40 @@ export function numbered(program) {
 /** A function's variables by their numbers: as their names stand in the text. */
 export const variablesOf = (def, names) => names.binders.filter(binder => binder.of === def).sort((one, other) => one.a - other.a);
 
+// -------------------------------------------------------------------------------------------------------------- resume
+
+const RULES_OF_RESUME = {
+  Numbers: 'numbers don\'t ascend below the next ones, a next one is above 4,000,000,000, or a mailbox that is named isn\'t live',
+  Kinds: 'a part of a thread has other values than its free variables need, a frame is that of no `let`, or what a part gives isn\'t shown'
+    + ' to fit the next frame',
+  Distinct: 'two names of a part are one mailbox, or a message has its own mailbox, or one twice, in what it brings',
+  Order: 'a part may give back a mailbox that a later part names',
+  Holder: 'not just one place may receive from a live mailbox',
+  Messages: 'a message isn\'t as its mailbox\'s interface declares',
+  Balance: 'what is pending in a mailbox, with what may still be sent there, isn\'t shown to lie in what its receiver expects',
+};
+const CHECKPOINTS = chapter(RUNNING, 'What is checked');
+
+export function badCheckpoint({ verdict, source }) {
+  const { index, 0: line } = /^%%checkpoint$/m.exec(source.text);
+  return {
+    headline: `this checkpoint breaks the rule ${verdict.rule}`,
+    marks: [mark({ a: source.offset(index), z: source.offset(index + line.length) }, RULES_OF_RESUME[verdict.rule], true)],
+    hints: ['a checkpoint that `pat checkpoint` writes is taken; this one was made or changed by others'],
+    doc: CHECKPOINTS,
+  };
+}
+
 // -------------------------------------------------------------------------------------------------- texts behind programs
 
 const FORMS = {
   derivation: {
     notes: ['a line is `var N I E` or `node N T {..}`; variables come first, and numbers leave none out'],
     doc: chapter(DERIVATIONS, 'The text of a derivation'),
+  },
+  checkpoint: {
+    notes: ['behind one `next T B M` stand the lines `mailbox B I`, then `message N B M(..)`, then `thread T ..`, each with its `frame` lines'],
+    doc: chapter(RUNNING, 'The text of a checkpoint'),
   },
   history: {
     notes: ['a line is `W T K A`: worker, thread, count of local steps, and new, send, spawn, print, free, end, receive M or -',
@@ -70,13 +98,18 @@ const FORMS = {
 export function badText({ source, place }) {
   const has = mark => new RegExp(`^%%${mark}$`, 'm').test(source.text), end = place.a >= source.bytes.length;
   if (end && !has('history') && !has('derivation')) return noMark();
-  const what = has('derivation') && !has('history') ? 'derivation' : 'history';
+  const what = textAt(source, place) ?? 'history';
   const { line } = source.position(place.a), here = { a: place.a, z: place.a + Math.max(1, sizeInBytes(source.line(line))) };
   return {
     headline: `this is no line of a ${what}`,
     marks: [mark(here, end ? 'the last line doesn\'t end with a newline, or is missing' : '', true)],
     ...FORMS[what],
   };
+}
+/** The text that a place is in: what the last line that marks one names. */
+function textAt(source, { a }) {
+  const marks = [...source.text.matchAll(/^%%(derivation|checkpoint|history)$/gm)];
+  return marks.findLast(found => source.offset(found.index) < a)?.[1];
 }
 const noMark = () => ({
   headline: 'no line is `%%history` or `%%derivation`',

@@ -28,7 +28,8 @@ export function wrongKind({ place, program, names }) {
     doc: NAMES,
   };
 }
-function hint({ want, found, sequence, place }) {
+function hint({ want, found, sequence, place, note }) {
+  if (found?.base === 'String' && note?.startsWith('`+`')) return 'texts aren\'t joined: print each by itself';
   if (sequence) return 'what is done before a `;` gives no value; to use its value, bind it: let x = .. in';
   const unit = want?.base === 'Unit';
   if (unit && isMailbox(found)) return 'end with what is done with the mailbox: a guard, a call that takes it, or free(..)';

@@ -2,50 +2,11 @@
 
 import { tokenize } from '../parse.js';
 import { sizeInBytes } from '../source.js';
+import { habitHint } from './habits.js';
 import { chapter, code, mark, or, plural, LANGUAGE } from './say.js';
 
 const GRAMMAR = chapter(LANGUAGE, 'Grammar');
 
-/**
- * What people write and the language hasn't: what stands there, and where it matters what stands before and what is expected; then the
- * hint. The first that fits is given.
- */
-const HABITS = [
-  [/^>/, { before: '=' }, 'between a clause and what it does stands ->'],
-  [/^>/, {}, 'there is no >: write b < a for a > b'],
-  [/^=/, { before: '<' }, 'there is no <=: for whole numbers write a < b + 1'],
-  [/^=/, { before: '!' }, 'there is no !=: exchange the branches of a == b'],
-  [/^&/, {}, 'there is no && and no &: write if a { b } else { false } for a && b'],
-  [/^\|/, {}, 'there is no |: in a pattern `+` is "or", and for a || b write if a { true } else { b }'],
-  [/^#/, {}, 'a comment begins with //'],
-  [/^\//, {}, 'there is no division, and a comment begins with //'],
-  [/^%/, {}, 'there is no remainder: count by a parameter that begins again'],
-  [/^'/, {}, 'a string stands in "'],
-  [/^->/, { wants: '`from`' }, 'a clause names the mailbox with the rest: receive m(..) from x -> .., mostly by the name again'],
-  [/^-/, {}, 'a number has no sign: write 0 - 5 for -5'],
-  [/^\./, {}, 'a message is sent by x ! m(..)'],
-  [/^;/, { before: '}', wants: '`else`' }, 'each `if` has an `else`; where there is nothing to do, write else { () }'],
-  [/^/, { wants: '`in`' }, 'a `let` has `in` behind what it binds: let x = .. in'],
-  [/^\}/, { before: ';' }, '`;` stands between two steps, and behind the last one there is none'],
-  [/^\}/, { before: '{' }, 'where there is nothing to do, write ()'],
-  [/^,/, { before: '}' }, 'between the clauses of a guard, and between steps, no comma stands'],
-  [/^[),]/, { wants: '`!`' }, 'the type of a mailbox says what may be done with it: I! to send, I? to receive'],
-  [/^[),]/, { wants: 'a pattern' }, 'what a message brings has its pattern written: I!m for one m, I!*m for any number'],
-  [/^[),]/, { wants: '`:`' }, 'a parameter has its type: x: Int'],
-  [/^(\+|\*|<|==)/, { wants: '`;`' }, 'a call or a send is a step of its own: bind its result first, let r = f(..) in'],
-  [/^\{/, { before: ')', wants: '`:`' }, 'a function says what it gives back: def f(..): Unit { .. }'],
-  [/^\{/, { wants: '`:`' }, 'a guard says all that may come: guard x : *m { .. }'],
-  [/^/, { before: 'return' }, 'there is no return: a function gives back what its body ends with'],
-  [/^/, { before: 'spawn' }, 'what a thread does stands in braces: spawn { .. }'],
-  [/^/, { before: 'new' }, 'a mailbox is made by new[I]'],
-  [/^/, { before: 'print' }, 'what is printed stands in brackets: print(..)'],
-  [/^[,}]/, { wants: '`(`' }, 'a message has brackets, also where it brings nothing: m()'],
-  [/^/, { wants: '`{`' }, 'the branches of an `if` stand in braces'],
-];
-const fits = (habit, text, before, expected) => {
-  const [here, { before: prior, wants }] = habit;
-  return here.test(text) && (prior === undefined || before?.text === prior) && (wants === undefined || expected.includes(wants));
-};
 /** What can begin with a name alone. */
 const NAMED = new Set(['a name', 'a parameter', 'a message', 'an interface', 'a mailbox', 'a type']);
 
@@ -83,13 +44,11 @@ function headline({ end, bad, first, token }) {
   return `no token begins with ${code(first)}`;
 }
 function hint({ rest, before, token, problem }) {
-  const expected = problem?.expected ?? [], isCall = token?.text === '(' && before?.type === 'name';
-  const isName = expected.some(one => NAMED.has(one));
+  const expected = problem?.expected ?? [], isName = expected.some(one => NAMED.has(one));
   if (token?.type === 'word' && isName) return `${code(token.text)} is a reserved word, and can't be a name`;
-  const habit = HABITS.find(one => fits(one, rest, before, expected));
-  if (habit) return habit[2];
-  if (isCall) return `a call is no expression: bind its result first, let r = ${before.text}(..) in`;
-  if (token?.text === 'let') return 'a `let` begins a term: in the place of an expression bind it before';
+  if (!token && rest.startsWith('"')) return 'a string ends on its own line; in it `\\` stands before `"` and `\\` alone';
+  const habit = habitHint({ rest, here: token?.text, before: before?.text, expected });
+  if (habit) return habit;
   if (expected.includes('`;`') && token?.type !== 'mark') return 'if another step begins here, a `;` is missing before it';
   return null;
 }

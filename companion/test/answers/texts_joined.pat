@@ -1,0 +1,1 @@
+def main(): Unit { print("n = " + 5) }
