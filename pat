@@ -3,6 +3,8 @@
 # compiled from them without their proofs. Where that isn't there either, it is made first, in one or two minutes; what the making says
 # goes to standard error. With PAT_SHOW=1 in the environment it says there, too, which program runs; and for `help`, a file's name, or a
 # terminal as standard input it says there from where a program is read.
+
+# ./pat-otp finds its folder by the same lines: before they have run, no file that both could read is known.
 me=$0
 while [ -L "$me" ]; do
     target=$(readlink "$me")
