@@ -14,6 +14,8 @@ COMMAND = os.path.join(ROOT, "pat-otp")
 SOURCES = os.path.join(ROOT, "otp", "src")
 # A run of a test takes a second or two, and may take much longer where the machine does other work.
 SECONDS = 300
+# There nodes may also be too slow to start: then a run is tried again, so often.
+TRIES_AGAIN = 2
 
 HELD = "erlang:spawn(fun() -> receive after rand:uniform(4) - 1 -> {} ! Message end end)"
 # Each message is held back by itself for some milliseconds, so that none keeps its place among the others; and a mailbox's weight
@@ -69,6 +71,21 @@ WRONG = {
         ("pat_log.erl", "rouse(State#state{runs = [Run | Runs],",
          "rouse(State#state{runs = case rand:uniform(4) of 1 -> Runs; _ -> [Run | Runs] end,")],
 }
+
+# The head's merger fails, so that the head ends.
+FAILING_HEAD = [("pat_merge.erl", "    #{Place := #node{reports = Reports} = Node} = Nodes,\n",
+                 "    #{Place := #node{reports = Reports} = Node} = Nodes,\n    true = Newest < 1000,\n")]
+
+# The second node's application starts later than the head waits for it.
+SLOW_START = [
+    ("pat_run.erl", "-define(PATIENCE, 60000).", "-define(PATIENCE, 300)."),
+    ("pat_otp.erl", "start() ->\n", "start() ->\n    _ = lists:prefix(\"pat_2_\", atom_to_list(node())) andalso timer:sleep(5000),\n"),
+]
+
+# Where the nodes are at rest, the first call upon the limit isn't answered in time, as on a machine that does much else.
+SLOW_ANSWER = [("pat_limit.erl", "is_short() -> gen_server:call(?MODULE, is_short).", """is_short() ->
+    put(asked, true) =:= true orelse exit({timeout, {gen_server, call, [?MODULE, is_short]}}),
+    gen_server:call(?MODULE, is_short).""")]
 
 # Two nodes lose each other while both keep the head, once for each epoch up to the given one.
 PARTED = [("pat_node.erl", "    [Other || Other <- Others, net_kernel:connect_node(Other) =/= true].\n",
@@ -143,9 +160,20 @@ def compiled(program):
 
 
 class Run:
-    """What came of a run: `status`, `lines` (the last is the outcome), `said`, `history`, and `left`, processes that it left."""
+    """What came of a run: `status`, `lines` (the last is the outcome), `said`, `history`, and `left`, processes that it left. It is
+    tried again where its nodes didn't start; `slow_starts` says how often."""
 
     def __init__(self, program, file, words=(), ebin=None, disturb=None, falls=None, seconds=SECONDS):
+        self.slow_starts = 0
+        self.run_once(program, file, words, ebin, disturb, falls, seconds)
+        while self.is_unstarted() and self.slow_starts < TRIES_AGAIN:
+            self.slow_starts += 1
+            self.run_once(program, file, words, ebin, disturb, falls, seconds)
+
+    def is_unstarted(self):
+        return self.status == 5 and "not all nodes could be started" in self.said
+
+    def run_once(self, program, file, words, ebin, disturb, falls, seconds):
         self.folder = tempfile.mkdtemp(prefix="pat-otp-test-")
         out = os.path.join(self.folder, "history")
         environment = dict(os.environ, PAT=program, TMPDIR=self.folder)
