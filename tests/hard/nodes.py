@@ -151,6 +151,19 @@ def runtime(folder, name, edits):
     return there
 
 
+def has_application(name):
+    """Whether this Erlang has it: Debian's `erlang-base` alone has no `ssl`."""
+    done = subprocess.run(["erl", "-noinput", "-eval", f"halt(case code:lib_dir({name}) of {{error, _}} -> 1; _ -> 0 end)."], check=False)
+    return done.returncode == 0
+
+
+def hosts(chance, commands):
+    """A file of hosts, all of them this one: the head, and a node for each command, or without one where that is empty."""
+    ports = chance.sample(range(20000, 32000), len(commands))
+    lines = [f"127.0.0.1 {port} {command}" if command else "127.0.0.1 -" for port, command in zip(ports, commands)]
+    return "\n".join(["127.0.0.1 -", *lines, ""]).encode()
+
+
 def compiled(program):
     """Has the runtime compiled, as the command does it when it is first called."""
     with tempfile.NamedTemporaryFile("w", suffix=".pat") as file:
