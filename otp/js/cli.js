@@ -89,7 +89,7 @@ async function runOn(nodes, folder, program) {
   nodes.head.stdout.on('data', piece => { shown.push(piece); process.stdout.write(piece); });
   await nodes.ended();
   await nodes.stop();
-  if (!nodes.hasBegun() && !existsSync(join(folder, 'ended'))) throw notStarted(`${nodes.fallen} ended at once`);
+  if (!nodes.hasBegun() && !existsSync(join(folder, 'ended'))) throw notStarted(`${nodes.fallen} ended before the run began`);
   const [ending, took, times] = existsSync(join(folder, 'ended')) ? readFileSync(join(folder, 'ended'), 'utf8').split('\n')
     : ['lost the head'];
   const entries = nodes.hasBegun() ? readFileSync(join(folder, 'history')) : Buffer.alloc(0);
