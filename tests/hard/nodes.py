@@ -62,7 +62,7 @@ WRONG = {
     "rest by one look": [
         ("pat_rest.erl", "{Same, Same, 0} = Last ->", "{_, _, 0} = Last when Last =/= none ->"),
         ("pat_rest.erl", "Counts -> {noreply, later(State#state{last = Counts})}",
-         "{_, _, 0} = Counts -> pat_run:at_rest(Counts), {noreply, State};\n"
+         "{_, _, 0} = Counts -> pat_run:at_rest(Epoch, Counts), {noreply, State};\n"
          "        Counts -> {noreply, later(State#state{last = Counts})}")],
     "a message twice": [
         ("pat_post.erl", "    To ! Message,\n",
@@ -74,12 +74,12 @@ WRONG = {
 
 # The head's merger fails, so that the head ends.
 FAILING_HEAD = [("pat_merge.erl", "    #{Place := #node{reports = Reports} = Node} = Nodes,\n",
-                 "    #{Place := #node{reports = Reports} = Node} = Nodes,\n    true = Newest < 1000,\n")]
+                 "    #{Place := #node{reports = Reports} = Node} = Nodes,\n    true = State#state.cut < 1000,\n")]
 
 # The second node's application starts later than the head waits for it.
 SLOW_START = [
     ("pat_run.erl", "-define(PATIENCE, 60000).", "-define(PATIENCE, 300)."),
-    ("pat_otp.erl", "start() ->\n", "start() ->\n    _ = lists:prefix(\"pat_2_\", atom_to_list(node())) andalso timer:sleep(5000),\n"),
+    ("pat_otp.erl", "start() ->\n", "start() ->\n    _ = lists:prefix(\"pat_2_\", atom_to_list(node())) andalso timer:sleep(60000),\n"),
 ]
 
 # Where the nodes are at rest, the first call upon the limit isn't answered in time, as on a machine that does much else.
@@ -204,9 +204,12 @@ class Run:
             output, said = process.communicate(timeout=seconds)
             self.status = process.returncode
         except subprocess.TimeoutExpired:
+            size = self.history_size()
+            time.sleep(10)
+            grown = self.history_size() - size
             process.terminate()
             output, said = process.communicate()
-            self.status = "no end"
+            self.status = f"no end, and {grown} bytes of history in the last ten seconds"
         if disturber:
             disturber.join()
         self.lines = output.decode().splitlines()
@@ -216,6 +219,10 @@ class Run:
         for pid in self.left:
             send_signal(pid, signal.SIGKILL)
         shutil.rmtree(self.folder, ignore_errors=True)
+
+    def history_size(self):
+        found = glob.glob(os.path.join(self.folder, "pat-otp-*", "history"))
+        return os.path.getsize(found[0]) if found else 0
 
     def pids(self, patience=30):
         """The processes of the nodes, the head's last; empty where it ended before."""
