@@ -60,10 +60,9 @@ WRONG = {
     "a thread not behind its spawn": [
         ("pat_thread.erl", "pat_entries:begin_thread(Thread, Stamp)", "pat_entries:begin_thread(Thread, min(Stamp, 0))")],
     "rest by one look": [
-        ("pat_rest.erl", "{Same, Same, 0} = Last ->", "{_, _, 0} = Last when Last =/= none ->"),
-        ("pat_rest.erl", "Counts -> {noreply, later(State#state{last = Counts})}",
-         "{_, _, 0} = Counts -> pat_run:at_rest(Epoch, Counts), {noreply, State};\n"
-         "        Counts -> {noreply, later(State#state{last = Counts})}")],
+        ("pat_rest.erl", "{Same, Same, 0} = Last -> pat_run:at_rest(Epoch, Last)", "{_, _, 0} = Now -> pat_run:at_rest(Epoch, Now)"),
+        ("pat_run.erl", "{How, Counts} -> stop(How, State);\n        _ -> pat_rest:look_again(), {noreply, State}",
+         "{How, _} -> stop(How, State)")],
     "a message twice": [
         ("pat_post.erl", "    To ! Message,\n",
          "    case Message of {message, _, _, _} -> To ! Message; _ -> ok end,\n    To ! Message,\n")],
