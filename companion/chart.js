@@ -7,7 +7,7 @@ import { sayOutcome } from './step.js';
 import { sayStanding } from './trace.js';
 import { layOut, rowsOf, ROW } from './chart_layout.js';
 
-const PAGE = 60;                            // rows of a page
+const PAGE = 60, LEAST = 0.25;              // rows of a page; less than this part of one goes to the page before
 const HEADING = 56, LINE = 17, LEGEND_LINE = 22; // heights: of the heading, of a line of text below, of a row of the legend
 const COLOURS = 12;
 const LIGHT = '#c0392b #1f6fb2 #2e8b57 #8e44ad #c2570c #00838f #6d4c41 #ad1457 #558b2f #3949ab #9a7300 #455a64'.split(' ');
@@ -88,12 +88,13 @@ export function chart(run, { title = 'run', from = 0, most = Infinity, paper = t
 }
 /** The chart in as many pictures as it needs: {name, text}; one has the name that was given, several are numbered. */
 export function chartPages(run, { title = 'run', name = 'chart.svg', most = PAGE } = {}) {
-  const rows = rowsOf(run), pages = Math.max(1, Math.ceil(rows / most));
+  const pages = Math.max(1, Math.ceil(rowsOf(run) / most - LEAST));
   if (pages === 1) return [{ name, text: chart(run, { title }) }];
   const [, stem, ending] = /^(.*?)(\.[^./]*)?$/s.exec(name), digits = String(pages).length;
   return [...Array(pages).keys()].map(page => ({
     name: `${stem}-${String(page + 1).padStart(digits, '0')}${ending ?? ''}`,
-    text: chart(run, { title: `${title}, page ${page + 1} of ${pages}`, from: page * most, most }),
+    text: chart(run, { title: `${title}, page ${page + 1} of ${pages}`, from: page * most,
+      most: page + 1 === pages ? Infinity : most }),
   }));
 }
 

@@ -71,6 +71,9 @@ test('each row is there once, with its entry; a window shows its own', () => {
   assert.deepEqual(chartPages(run, { most: 20, name: 'a/b.c.svg' }).flatMap(page => entries(page.text)), shared);
   assert.equal(chartPages(run, { most: 20, name: 'a/b.c.svg' })[1].name, 'a/b.c-2.svg');
   assert.equal(chartPages(run, { most: rows, name: 'x.svg' }).length, 1);
+  const few = Math.floor(rows / 6), fewer = chartPages(run, { most: rows - few });
+  assert.deepEqual(fewer.flatMap(page => entries(page.text)), shared, 'a page of few rows');
+  assert.equal(fewer.length, 1);
 });
 
 test('a picture on paper has no variables, and a page\'s has them', () => {

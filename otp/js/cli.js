@@ -89,13 +89,15 @@ async function runOn(nodes, folder, program) {
   nodes.head.stdout.on('data', piece => { shown.push(piece); process.stdout.write(piece); });
   await nodes.ended();
   await nodes.stop();
-  if (!nodes.hasBegun() && !existsSync(join(folder, 'ended'))) throw new Problem(STATUS.machine, 'the nodes couldn\'t be started');
+  if (!nodes.hasBegun() && !existsSync(join(folder, 'ended'))) throw notStarted(`${nodes.fallen} ended before the run began`);
   const [ending, took, times] = existsSync(join(folder, 'ended')) ? readFileSync(join(folder, 'ended'), 'utf8').split('\n')
     : ['lost the head'];
   const entries = nodes.hasBegun() ? readFileSync(join(folder, 'history')) : Buffer.alloc(0);
   // (a head that is lost may leave the front of a line)
   return { ending, took, times, entries: entries.subarray(0, entries.lastIndexOf(10) + 1), shown: Buffer.concat(shown) };
 }
+
+const notStarted = why => new Problem(STATUS.machine, `not all nodes could be started: ${why}`);
 
 /** What `pat replay` says of it, taken apart: the lines and the outcome. */
 function judge(source, entries) {
@@ -139,7 +141,9 @@ async function main(words) {
   return finish(await runOn(all, folder, program), source, given);
 }
 function finish(run, source, given) {
-  if (/^(absent|failed)/.test(run.ending)) throw new Problem(STATUS.machine, run.ending);
+  const [ending, ...what] = run.ending.split(' ');
+  if (ending === 'absent') throw notStarted(`the head waited in vain for ${what.join(', ')}`);
+  if (ending === 'failed') throw new Problem(STATUS.machine, `the runtime failed in a thread: ${what.join(' ')}`);
   const judged = judge(source, run.entries), end = conclude(run, judged);
   if (given.out) write(given.out, Buffer.concat([Buffer.from('%%history\n'), run.entries, Buffer.from('%%output\n'), judged.lines,
     Buffer.from(`${end.line}\n`)]));

@@ -17,11 +17,11 @@ const isLoopback = host => /^127\.\d+\.\d+\.\d+$/.test(host);
 /** Below those that a system gives to whoever asks for any port: the node comes to listen there only a while later. */
 const PORTS = { from: 12000, to: 32000 }, TRIES = 100;
 
-/** A port that nobody listens at just now. */
-async function freePort(host) {
+/** A port that nobody listens at just now, and none of these nodes will. */
+async function freePort(host, nodes) {
   for (let tries = 0; tries < TRIES; tries++) {
     const port = PORTS.from + Math.floor(Math.random() * (PORTS.to - PORTS.from));
-    if (await isFree(host, port)) return port;
+    if (!nodes.some(node => node.port === port) && await isFree(host, port)) return port;
   }
   throw new Error(`${host}: no port is free`);
 }
@@ -34,11 +34,13 @@ const isFree = (host, port) => new Promise(done => {
 /** The head first, then the places in order. Each is {name, host, port, command}; with a command it is started by that. */
 export async function localNodes(count) {
   const nodes = [];
-  for (let place = 0; place <= count; place++) nodes.push(await node(place, '127.0.0.1', null, null));
+  for (let place = 0; place <= count; place++) nodes.push(await node(nodes, '127.0.0.1', null, null));
   return nodes;
 }
-async function node(place, host, port, command) {
-  port ??= await freePort(host);
+/** The next one, after these. */
+async function node(nodes, host, port, command) {
+  const place = nodes.length;
+  port ??= await freePort(host, nodes);
   return { place, name: `pat_${place}_${port}@${host}`, host, port, command };
 }
 
@@ -49,7 +51,7 @@ export async function hostNodes(file) {
   for (const line of lines) {
     const found = /^(\S+)\s+(\d+|-)(?:\s+(.*))?$/.exec(line);
     if (!found || (found[2] === '-' && found[3])) throw new Error(`${file}: no line \`HOST PORT [COMMAND]\`: ${line}`);
-    nodes.push(await node(nodes.length, found[1], found[2] === '-' ? null : Number(found[2]), found[3] ?? null));
+    nodes.push(await node(nodes, found[1], found[2] === '-' ? null : Number(found[2]), found[3] ?? null));
   }
   if (nodes.length < 2) throw new Error(`${file}: the head and one node at least have to be named`);
   if (nodes[0].command) throw new Error(`${file}: the head is started here, without a command`);
@@ -79,7 +81,7 @@ export class Nodes {
     for (const one of [...this.nodes.slice(1), this.nodes[0]]) {
       const child = one.command ? this.elsewhere(one) : this.here(one);
       child.on('error', problem => process.stderr.write(`pat-otp: ${one.name}: ${problem.message}\n`));
-      child.on('close', () => { if (!this.hasBegun()) this.kill(); });
+      child.on('close', () => this.closed(one));
       this.processes.push(child);
     }
     this.head = this.processes.at(-1);
@@ -87,6 +89,11 @@ export class Nodes {
   }
   /** Whether all nodes were there, so that the head could begin the history. Before that none may be missing. */
   hasBegun() { return existsSync(`${this.folder}/history`); }
+  closed({ name }) {
+    if (this.hasBegun()) return;
+    this.fallen ??= name;
+    this.kill();
+  }
   words(one, folder) { return words(one, folder, { nodes: this.nodes, ...this.how }); }
   here(one) {
     // (over the fourth the head asks, and its end tells the head that this process is gone)

@@ -31,7 +31,7 @@ class Writer {
     else if (typeof term === 'string') this.text(term);
     else if (Array.isArray(term)) this.list(term);
     else if (term instanceof Tuple) { this.byte(TUPLE); this.byte(term.parts.length); term.parts.forEach(part => this.term(part)); }
-    else if (term instanceof Atom) { this.byte(ATOM); this.byte(term.text.length); this.bytes.write(term.text, this.room(term.text.length)); }
+    else if (term instanceof Atom) this.atom(term);
     else throw new Error(`no term: ${term}`);
   }
   integer(value) {
@@ -45,6 +45,11 @@ class Writer {
     this.byte(SMALL_BIG); this.byte(BITS_OF_BIG / 8); this.byte(value < 0n ? 1 : 0);
     const at = this.room(BITS_OF_BIG / 8);
     this.bytes.writeBigUInt64LE(value < 0n ? -value : value, at);
+  }
+  atom({ text }) {
+    this.byte(ATOM); this.byte(text.length);
+    const at = this.room(text.length);
+    this.bytes.write(text, at);
   }
   text(text) {
     const bytes = Buffer.from(text);

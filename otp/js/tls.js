@@ -28,7 +28,6 @@ export function certificates(folder, nodes) {
   writeFileSync(join(there, 'node.ext'), `subjectAltName=${names}\nextendedKeyUsage=serverAuth,clientAuth\n`);
   openssl(there, ['x509', '-req', '-in', 'node.csr', '-CA', 'authority.pem', '-CAkey', 'authority.key', '-set_serial', '2',
     '-days', DAYS, '-extfile', 'node.ext', '-out', 'node.pem']);
-  writeFileSync(join(folder, 'tls.conf'), options());
   for (const name of ['authority.key', 'node.csr', 'node.ext']) rmSync(join(there, name));
   writeFileSync(join(folder, 'tls.conf'), options());
 }

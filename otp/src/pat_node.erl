@@ -7,8 +7,8 @@
 -export_type([program/0]).
 -include("pat_otp.hrl").
 
-%% Milliseconds that a node waits for the head.
--define(PATIENCE, 60000).
+%% Milliseconds that a node waits for the head, which waits for the last of the nodes before it calls the first one (pat_run).
+-define(PATIENCE, 180000).
 
 -type program() :: {module(), Beam :: binary()}.
 -record(state, {head :: undefined | node(), timer :: undefined | reference()}).

@@ -4,7 +4,7 @@
 
 -spec start() -> ok.
 start() ->
-    case application:ensure_all_started(pat_otp, permanent) of
+    case application:ensure_all_started(pat_otp) of
         {ok, _} -> ok;
         {error, Reason} ->
             io:format(standard_error, "pat_otp: ~0p~n", [Reason]),

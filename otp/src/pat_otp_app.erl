@@ -1,4 +1,4 @@
-%% The application: on the head it makes the history, on every other node it runs the program's threads.
+%% The application: on the head it makes the history, on every other node it runs the program's threads. The node ends with it.
 -module(pat_otp_app).
 -behaviour(application).
 -export([start/2, stop/1]).
@@ -13,5 +13,6 @@ start(_, _) ->
         {error, Reason} -> {error, Reason}
     end.
 
--spec stop(term()) -> ok.
-stop(_) -> ok.
+%% (a permanent application's end would be told on standard output, where the program's lines alone may be)
+-spec stop(term()) -> no_return().
+stop(_) -> halt(1).

@@ -7,9 +7,10 @@
 -export([start_link/0, ended/1, at_rest/2, lost/4, failed/2]).
 -export([init/1, handle_continue/2, handle_call/3, handle_cast/2, handle_info/2]).
 
-%% Milliseconds until a node counts as not there, and between calls upon it.
+%% Milliseconds until a node counts as not there, between calls upon it, and for its answer.
 -define(PATIENCE, 60000).
 -define(BETWEEN, 100).
+-define(ANSWER, 5000).
 %% The last words are given so many milliseconds.
 -define(LAST, 2000).
 %% So often two nodes may lose each other and find each other again.
@@ -86,18 +87,22 @@ begin_or_stop(#state{nodes = Nodes, folder = Folder} = State) ->
             Begun = State#state{began = erlang:monotonic_time(microsecond), used = used(Nodes)},
             enter(Epoch, 0, pat_configuration:start(), Begun)
     catch
-        {lost, [Node | _]} -> stop({lost, node(), Node}, State)
+        {lost, Lost} -> stop({absent, Lost}, State)
     end.
 
-is_there(Node, Until) -> is_so(fun() -> net_kernel:connect_node(Node) =:= true end, Until) andalso is_ready(Node, Until).
-
-%% Its application may have to start yet.
-is_ready(Node, Until) -> is_so(fun() -> erpc:call(Node, erlang, whereis, [pat_node]) =/= undefined end, Until).
-
-is_so(Holds, Until) ->
-    case Holds() of
+is_there(Node, Until) ->
+    case net_kernel:connect_node(Node) =:= true andalso is_ready(Node) of
         true -> true;
-        false -> timer:sleep(?BETWEEN), erlang:monotonic_time(millisecond) < Until andalso is_so(Holds, Until)
+        false ->
+            timer:sleep(?BETWEEN),
+            erlang:monotonic_time(millisecond) < Until andalso is_there(Node, Until)
+    end.
+
+%% Its application may have to start yet; or the node is gone again, or has too much else to do.
+is_ready(Node) ->
+    try erpc:call(Node, erlang, whereis, [pat_node], ?ANSWER) =/= undefined
+    catch
+        error:{erpc, _} -> false
     end.
 
 prepare(Cut, #state{nodes = Nodes, left = Left, epoch = Epoch, folder = Folder}) ->
@@ -165,21 +170,19 @@ go_on(Lost, Cut, Configuration, #state{left = Left, epoch = Epoch} = State) ->
 %% At rest, but what is final may come after it, and give leave to send: then it wasn't the end.
 settle(Counts, #state{left = Nodes} = State) ->
     try finish(Nodes) of
-        ok ->
-            Short = pat_limit:is_short(),
-            case pat_rest:counts([node() | Nodes]) of
-                Counts when Short -> stop(full, State);
-                Counts -> stop(waiting, State);
-                _ -> pat_rest:look_again(), {noreply, State}
-            end
+        {How, Counts} -> stop(How, State);
+        _ -> pat_rest:look_again(), {noreply, State}
     catch
         % It takes long; or a node is lost, and that will be said.
         exit:_ -> pat_rest:look_again(), {noreply, State}
     end.
 
+%% How it ends if what is counted behind all that was final is what was counted before.
 finish(Nodes) ->
     ok = pat_merge:finish([pat_log:sync(Node) || Node <- Nodes]),
-    pat_history:finish().
+    ok = pat_history:finish(),
+    How = case pat_limit:is_short() of true -> full; false -> waiting end,
+    {How, pat_rest:counts([node() | Nodes])}.
 
 -spec stop(term(), #state{}) -> no_return().
 stop(How, #state{nodes = Nodes, folder = Folder, began = Began, used = Used}) ->

@@ -14,6 +14,8 @@ COMMAND = os.path.join(ROOT, "pat-otp")
 SOURCES = os.path.join(ROOT, "otp", "src")
 # A run of a test takes a second or two, and may take much longer where the machine does other work.
 SECONDS = 300
+# There nodes may also be too slow to start: then a run is tried again, so often.
+TRIES_AGAIN = 2
 
 HELD = "erlang:spawn(fun() -> receive after rand:uniform(4) - 1 -> {} ! Message end end)"
 # Each message is held back by itself for some milliseconds, so that none keeps its place among the others; and a mailbox's weight
@@ -58,10 +60,9 @@ WRONG = {
     "a thread not behind its spawn": [
         ("pat_thread.erl", "pat_entries:begin_thread(Thread, Stamp)", "pat_entries:begin_thread(Thread, min(Stamp, 0))")],
     "rest by one look": [
-        ("pat_rest.erl", "{Same, Same, 0} = Last ->", "{_, _, 0} = Last when Last =/= none ->"),
-        ("pat_rest.erl", "Counts -> {noreply, later(State#state{last = Counts})}",
-         "{_, _, 0} = Counts -> pat_run:at_rest(Counts), {noreply, State};\n"
-         "        Counts -> {noreply, later(State#state{last = Counts})}")],
+        ("pat_rest.erl", "{Same, Same, 0} = Last -> pat_run:at_rest(Epoch, Last)", "{_, _, 0} = Now -> pat_run:at_rest(Epoch, Now)"),
+        ("pat_run.erl", "{How, Counts} -> stop(How, State);\n        _ -> pat_rest:look_again(), {noreply, State}",
+         "{How, _} -> stop(How, State)")],
     "a message twice": [
         ("pat_post.erl", "    To ! Message,\n",
          "    case Message of {message, _, _, _} -> To ! Message; _ -> ok end,\n    To ! Message,\n")],
@@ -69,6 +70,21 @@ WRONG = {
         ("pat_log.erl", "rouse(State#state{runs = [Run | Runs],",
          "rouse(State#state{runs = case rand:uniform(4) of 1 -> Runs; _ -> [Run | Runs] end,")],
 }
+
+# The head's merger fails, so that the head ends.
+FAILING_HEAD = [("pat_merge.erl", "    #{Place := #node{reports = Reports} = Node} = Nodes,\n",
+                 "    #{Place := #node{reports = Reports} = Node} = Nodes,\n    true = State#state.cut < 1000,\n")]
+
+# The second node's application starts later than the head waits for it.
+SLOW_START = [
+    ("pat_run.erl", "-define(PATIENCE, 60000).", "-define(PATIENCE, 300)."),
+    ("pat_otp.erl", "start() ->\n", "start() ->\n    _ = lists:prefix(\"pat_2_\", atom_to_list(node())) andalso timer:sleep(60000),\n"),
+]
+
+# Where the nodes are at rest, the first call upon the limit isn't answered in time, as on a machine that does much else.
+SLOW_ANSWER = [("pat_limit.erl", "is_short() -> gen_server:call(?MODULE, is_short).", """is_short() ->
+    put(asked, true) =:= true orelse exit({timeout, {gen_server, call, [?MODULE, is_short]}}),
+    gen_server:call(?MODULE, is_short).""")]
 
 # Two nodes lose each other while both keep the head, once for each epoch up to the given one.
 PARTED = [("pat_node.erl", "    [Other || Other <- Others, net_kernel:connect_node(Other) =/= true].\n",
@@ -134,6 +150,19 @@ def runtime(folder, name, edits):
     return there
 
 
+def has_application(name):
+    """Whether this Erlang has it: Debian's `erlang-base` alone has no `ssl`."""
+    done = subprocess.run(["erl", "-noinput", "-eval", f"halt(case code:lib_dir({name}) of {{error, _}} -> 1; _ -> 0 end)."], check=False)
+    return done.returncode == 0
+
+
+def hosts(chance, commands):
+    """A file of hosts, all of them this one: the head, and a node for each command, or without one where that is empty."""
+    ports = chance.sample(range(20000, 32000), len(commands))
+    lines = [f"127.0.0.1 {port} {command}" if command else "127.0.0.1 -" for port, command in zip(ports, commands)]
+    return "\n".join(["127.0.0.1 -", *lines, ""]).encode()
+
+
 def compiled(program):
     """Has the runtime compiled, as the command does it when it is first called."""
     with tempfile.NamedTemporaryFile("w", suffix=".pat") as file:
@@ -143,9 +172,20 @@ def compiled(program):
 
 
 class Run:
-    """What came of a run: `status`, `lines` (the last is the outcome), `said`, `history`, and `left`, processes that it left."""
+    """What came of a run: `status`, `lines` (the last is the outcome), `said`, `history`, and `left`, processes that it left. It is
+    tried again where its nodes didn't start; `slow_starts` says how often."""
 
     def __init__(self, program, file, words=(), ebin=None, disturb=None, falls=None, seconds=SECONDS):
+        self.slow_starts = 0
+        self.run_once(program, file, words, ebin, disturb, falls, seconds)
+        while self.is_unstarted() and self.slow_starts < TRIES_AGAIN:
+            self.slow_starts += 1
+            self.run_once(program, file, words, ebin, disturb, falls, seconds)
+
+    def is_unstarted(self):
+        return self.status == 5 and "not all nodes could be started" in self.said
+
+    def run_once(self, program, file, words, ebin, disturb, falls, seconds):
         self.folder = tempfile.mkdtemp(prefix="pat-otp-test-")
         out = os.path.join(self.folder, "history")
         environment = dict(os.environ, PAT=program, TMPDIR=self.folder)
@@ -163,9 +203,12 @@ class Run:
             output, said = process.communicate(timeout=seconds)
             self.status = process.returncode
         except subprocess.TimeoutExpired:
+            size = self.history_size()
+            time.sleep(10)
+            grown = self.history_size() - size
             process.terminate()
             output, said = process.communicate()
-            self.status = "no end"
+            self.status = f"no end, and {grown} bytes of history in the last ten seconds"
         if disturber:
             disturber.join()
         self.lines = output.decode().splitlines()
@@ -175,6 +218,10 @@ class Run:
         for pid in self.left:
             send_signal(pid, signal.SIGKILL)
         shutil.rmtree(self.folder, ignore_errors=True)
+
+    def history_size(self):
+        found = glob.glob(os.path.join(self.folder, "pat-otp-*", "history"))
+        return os.path.getsize(found[0]) if found else 0
 
     def pids(self, patience=30):
         """The processes of the nodes, the head's last; empty where it ended before."""
