@@ -25,7 +25,7 @@ module _ (laws : OutcomeIsExact) (m : Parts) (k : IsKept m) where
   es = map entry_view m.history.items
 
   abbrev ends_as : Outcome → Type 0
-  ends_as o = NoneOut m.out.items × Rests (shown m) × (outcome p m.state (step_count es) m.budget (Some m.limit) ≡ Some o)
+  ends_as o = NoneOut m.out.items × Rests (shown m) × (outcome p m.state.config (step_count es) m.budget (Some m.limit) ≡ Some o)
 
   pub lent_out : 0 < m.lent → SomeOut m.out.items
   lent_out more = let all = k.lent in someone_out m.out.items (omega arith)
@@ -33,36 +33,36 @@ module _ (laws : OutcomeIsExact) (m : Parts) (k : IsKept m) where
   none : m.lent ≤ 0 → NoneOut m.out.items
   none h = nobody m.out.items m.lent k.lent h k.stands.table.some
 
-  ended : (o : Outcome) → m.lent ≤ 0 → Rests (shown m) → Ends p m.state (step_count es) m.budget (Some m.limit) o → ends_as o
-  ended o h rests e = (none h, rests, (laws p m.state (step_count es) m.budget (Some m.limit) o).1 e)
+  ended : (o : Outcome) → m.lent ≤ 0 → Rests (shown m) → Ends p m.state.config (step_count es) m.budget (Some m.limit) o → ends_as o
+  ended o h rests e = (none h, rests, (laws p m.state.config (step_count es) m.budget (Some m.limit) o).1 e)
 
-  pub over : m.lent ≤ 0 → m.state.threads ≡ [] → ends_as EndDone
+  pub over : m.lent ≤ 0 → m.state.config.threads ≡ [] → ends_as EndDone
   over h threads =
       ended EndDone h
       (inr (λ t (none, (a, (e, space))).
-      let gone : step p m.state (record { thread = t; act = a }) ≡ None = ap (λ ts. option_and_then (λ s. Rattle.pat_semantics_spec.specs.Steps.thread_step p m.state t s a) (Rattle.std.specs.Map.lookup (Rattle.std.proofs.Common.nat_eq t) ts)) threads in
+      let gone : step p m.state.config (record { thread = t; act = a }) ≡ None = ap (λ ts. option_and_then (λ s. Rattle.pat_semantics_spec.specs.Steps.thread_step p m.state.config t s a) (Rattle.std.specs.Map.lookup (Rattle.std.proofs.Common.nat_eq t) ts)) threads in
       let at = e.1 in
       cc))
       threads
 
-  pub stuck : m.lent ≤ 0 → (m.state.threads ≡ [] → ⊥) × ((s : Step) → step p m.state s ≡ None) → ends_as EndWaiting
+  pub stuck : m.lent ≤ 0 → (m.state.config.threads ≡ [] → ⊥) × ((s : Step) → step p m.state.config s ≡ None) → ends_as EndWaiting
   stuck h (some, off) =
       ended EndWaiting h
       (inr (λ t (none, (a, (e, space))). let gone = off (record { thread = t; act = a }) in let at = e.1 in cc))
       (some, off)
 
-  pub full : m.lent ≤ 0 → ((s : Step) × IsEnabled p m.state s) × ((s : Step) → IsOpen p m.state m.limit s → ⊥) → ends_as EndFull
+  pub full : m.lent ≤ 0 → ((s : Step) × IsEnabled p m.state.config s) × ((s : Step) → IsOpen p m.state.config m.limit s → ⊥) → ends_as EndFull
   full h (some, closed) =
       ended EndFull h
       (inr (λ t (none, (a, may)). closed (record { thread = t; act = a }) may))
-      (some, full_so p m.state m.limit (limited_now p m.limit m.state es k.stands.facts.limited k.stands.facts.replayed) some closed)
+      (some, full_so p m.state.config m.limit (limited_now p m.limit m.state.config es k.stands.facts.limited k.stands.facts.replayed) some closed)
 
-  pub spent : m.lent ≤ 0 → m.left ≡ 0 → (s : Step) × IsOpen p m.state m.limit s → ends_as EndBudget
+  pub spent : m.lent ≤ 0 → m.left ≡ 0 → (s : Step) × IsOpen p m.state.config m.limit s → ends_as EndBudget
   spent h zero (s, may) =
       let counted = k.stands.facts.counted in
       let all = k.lent in
-      ended EndBudget h (inl zero) ((s, may.0), open_no_full p m.state m.limit s may, omega arith)
+      ended EndBudget h (inl zero) ((s, may.0), open_no_full p m.state.config m.limit s may, omega arith)
 
   -- a step is open and a step is left
-  pub goes_on : m.lent ≤ 0 → (m.left ≡ 0 → ⊥) → (s : Step) × IsOpen p m.state m.limit s → SomeOut m.out.items ⊎ ((0 < m.left) × ((t : ℕ) × MayTake (shown m) t))
+  pub goes_on : m.lent ≤ 0 → (m.left ≡ 0 → ⊥) → (s : Step) × IsOpen p m.state.config m.limit s → SomeOut m.out.items ⊎ ((0 < m.left) × ((t : ℕ) × MayTake (shown m) t))
   goes_on h some (s, may) = inr (omega arith, (s.thread, (none h s.thread, (s.act, may))))

@@ -25,7 +25,7 @@ use Rattle.pat_machine_steps.proofs.Listed.{listed_from_top}
 use Rattle.pat_machine_indexes.specs.ready_sets.Noted.{AreNoted}
 use Rattle.pat_machine.specs.declared.job.Job.{Job}
 use Rattle.pat_machine.specs.declared.parts.Parts.{Parts}
-use Rattle.pat_machine.specs.Shown.{steps_in, noted_in, place_of}
+use Rattle.pat_machine.specs.Shown.{places_for, steps_in, noted_in, place_of}
 use Rattle.pat_machine.specs.Entering.{ListsTop, WentFrom}
 
 -- what a machine keeps stands after the end of a commit, whoever takes it
@@ -78,12 +78,12 @@ same_kept o x y at is =
 pub went_after : (m : Parts) (c : Config) (worker : ℕ) (j : Job) (steps newcomer gone : ℕ) (kept end : Thread) (a : Option Act) (received : Option Message)
     → MachineInvariant (program_view m.code.program) m.budget m.limit c (map entry_view m.history.items) m.left m.out.items → m.lent ≡ allowances m.out.items
     → AreNoted (program_view m.code.program) c m.waits.awake.numbers.items m.waits.senders.numbers.items m.waits.sleepers.items → allowance_of m.out.items j.thread ≡ Some j.allowance → newcomer ≡ c.next_thread
-    → IsCommit (program_view m.code.program) j.allowance m.limit c (entry_of worker j steps a) m.state → thread_at c j.thread ≡ Some kept
-    → run_from (program_view m.code.program) (with_thread c j.thread (over end (below gone kept))) (shared_step j.thread a) ≡ Some m.state → AreCounted m.names.times.items m.state → ListsTop c j.thread gone m.named.items
+    → IsCommit (program_view m.code.program) j.allowance m.limit c (entry_of worker j steps a) m.state.config → thread_at c j.thread ≡ Some kept
+    → run_from (program_view m.code.program) (with_thread c j.thread (over end (below gone kept))) (shared_step j.thread a) ≡ Some m.state.config → m.state.places ≡ places_for m.budget m.limit → AreCounted m.names.times.items m.state.config → ListsTop c j.thread gone m.named.items
     → ((k : ℕ) → a ≡ Some (ActReceive k) → received ≡ message_at c k) → WentFrom m c worker j steps newcomer a received
-went_after m c worker j steps newcomer gone kept end a received stands lent noted out next commit there run counted lists brought =
+went_after m c worker j steps newcomer gone kept end a received stands lent noted out next commit there run places counted lists brought =
     let p = program_view m.code.program in
-    let listed = listed_from_top p c m.state j.thread gone kept end a m.named.items there (commit_shared p j.allowance m.limit c m.state (entry_of worker j steps a) commit) run (λ b some. lists kept b there some) in
+    let listed = listed_from_top p c m.state.config j.thread gone kept end a m.named.items there (commit_shared p j.allowance m.limit c m.state.config (entry_of worker j steps a) commit) run (λ b some. lists kept b there some) in
     record {
       stands = stands;
       lent = lent;
@@ -91,6 +91,7 @@ went_after m c worker j steps newcomer gone kept end a received stands lent note
       out = out;
       commit = commit;
       next = next;
+      places = places;
       counted = counted;
       listed = λ b had gone. listed b (subst (λ x. thread_refers b x ≡ true) (same_kept (thread_at c j.thread) commit.kept kept commit.there there) had) gone;
       brought = brought;

@@ -29,8 +29,8 @@ use Rattle.pat_machine.specs.Parted.{IsKept}
 use Rattle.pat_limits.specs.Limits.{number_count}
 
 -- the counts tell of each thread whether it may free its mailbox
-pub told : (m : Parts) → IsKept m → TellOfEach (program_view m.code.program) m.state m.names.times.items
-told m k = counts_tell (program_view m.code.program) m.state m.names.times.items k.stands.well k.stands.facts.typed.typed.numbers.ordered k.stands.facts.typed k.counted
+pub told : (m : Parts) → IsKept m → TellOfEach (program_view m.code.program) m.state.config m.names.times.items
+told m k = counts_tell (program_view m.code.program) m.state.config m.names.times.items k.stands.well k.stands.facts.typed.typed.numbers.ordered k.stands.facts.typed k.counted
 
 made_at_start : (o : Option Function) → (start_of o).next_mailbox ≡ 0
 made_at_start None = refl

@@ -16,6 +16,7 @@ use Rattle.pat_machine_steps.specs.wakeups.Naming.{times_in_thread}
 use Rattle.pat_machine_steps.specs.wakeups.Counting.{AreCounted}
 use Rattle.pat_machine.specs.declared.job.Job.{Job}
 use Rattle.pat_machine.specs.declared.parts.Parts.{Parts}
+use Rattle.pat_machine.specs.Shown.{places_for}
 
 -- there is room for one more entry, thread and mailbox, and for those that a commit wakes
 pub record CanEnter (m : Parts) : Type 0 where
@@ -36,8 +37,9 @@ pub record WentFrom (m : Parts) (c : Config) (worker : ℕ) (j : Job) (steps new
   pub lent : m.lent ≡ allowances m.out.items
   pub noted : AreNoted (program_view m.code.program) c m.waits.awake.numbers.items m.waits.senders.numbers.items m.waits.sleepers.items
   pub out : allowance_of m.out.items j.thread ≡ Some j.allowance
-  pub commit : IsCommit (program_view m.code.program) j.allowance m.limit c (record { worker = worker; thread = j.thread; local_steps = steps; shared = act }) m.state
+  pub commit : IsCommit (program_view m.code.program) j.allowance m.limit c (record { worker = worker; thread = j.thread; local_steps = steps; shared = act }) m.state.config
+  pub places : m.state.places ≡ places_for m.budget m.limit
   pub next : newcomer ≡ c.next_thread
-  pub counted : AreCounted m.names.times.items m.state
-  pub listed : (a : ℕ) → IsTrue (thread_refers a commit.kept) → IsFalse (is_named_by a (thread_at m.state j.thread)) → IsTrue (is_among a m.named.items)
+  pub counted : AreCounted m.names.times.items m.state.config
+  pub listed : (a : ℕ) → IsTrue (thread_refers a commit.kept) → IsFalse (is_named_by a (thread_at m.state.config j.thread)) → IsTrue (is_among a m.named.items)
   pub brought : (k : ℕ) → act ≡ Some (ActReceive k) → received ≡ message_at c k

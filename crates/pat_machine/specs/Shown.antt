@@ -1,5 +1,5 @@
 -- What contracts see of a machine.
-use Rattle.std.specs.Prelude.{◌≡◌, ℕ, List, [], ◌∷◌, ◌++◌, length, map, Option, Some, None, nat_eq, if◌then◌else◌}
+use Rattle.std.specs.Prelude.{◌≡◌, ℕ, List, [], ◌∷◌, ◌++◌, min, length, map, Option, Some, None, nat_eq, if◌then◌else◌}
 use Rattle.pat_semantics_spec.specs.Programs.{Program}
 use Rattle.pat_semantics_spec.specs.Configs.{Config, start}
 use Rattle.pat_semantics_spec.specs.Runs.{Entry, entry_steps}
@@ -26,6 +26,10 @@ program_of m = program_view m.named.program
 
 abbrev pub entries_of : Shown → List Entry
 entries_of m = map entry_view m.history
+
+-- how many places for pending messages are enough: no more are pending than the limit allows, nor than steps are taken
+abbrev pub places_for : (budget limit : ℕ) → ℕ
+places_for budget limit = min limit budget
 
 -- the facts in a machine's type
 abbrev pub IsMachine : Shown → Type 0

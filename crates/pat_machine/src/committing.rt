@@ -47,7 +47,7 @@ impl Parts {
         requires kept { IsKept self.now }
         requires lent { IsLent (shown self.now) job }
         requires run { IsLocalRun (program_view self.now.code.program) job.allowance (thread_view run.start) run.steps (thread_view run.end) }
-        ensures { IfOk result (IsSettled (program_view self.now.code.program) self.now.state job.thread job.allowance) }
+        ensures { IfOk result (IsSettled (program_view self.now.code.program) self.now.state.config job.thread job.allowance) }
     {
         match self.state.thread(job.thread) {
             Some(kept) => {
@@ -80,7 +80,7 @@ impl Parts {
 
     // Whether the thread stands at a guard: then it has no local step.
     fn stands_at_guard(&self, thread: u32) -> bool
-        ensures { IsTrue result → StandsStill (program_view self.now.code.program) self.now.state thread }
+        ensures { IsTrue result → StandsStill (program_view self.now.code.program) self.now.state.config thread }
     {
         match self.state.thread(thread) {
             Some(kept) => guard_of(&self.code, &kept.control).is_some(),
@@ -92,7 +92,7 @@ impl Parts {
     fn run_inside(&self, job: Job) -> Result<Settled, AllocError>
         requires kept { IsKept self.now }
         requires lent { IsLent (shown self.now) job }
-        ensures { IfOk result (IsSettled (program_view self.now.code.program) self.now.state job.thread job.allowance) }
+        ensures { IfOk result (IsSettled (program_view self.now.code.program) self.now.state.config job.thread job.allowance) }
     {
         match self.state.thread(job.thread) {
             Some(kept) => settle_top(self.alloc, &self.code, kept, job.allowance),
@@ -105,7 +105,7 @@ impl Parts {
     fn finish(&mut self, worker: u32, job: Job, settled: Settled) -> Result<Receipt, AllocError>
         requires kept { IsKept self.old }
         requires lent { IsLent (shown self.old) job }
-        requires settled { IsSettled (program_view self.old.code.program) self.old.state job.thread job.allowance settled }
+        requires settled { IsSettled (program_view self.old.code.program) self.old.state.config job.thread job.allowance settled }
         ensures kept { IsKept self.new }
         ensures ok { IfOk result (λ r. Committed (shown self.old) worker job r (shown self.new)) }
         ensures err { OnErr result (shown self.new ≡ shown self.old) }
@@ -132,7 +132,7 @@ impl Parts {
     fn finish_in_place(&mut self, worker: u32, job: Job) -> Result<Receipt, AllocError>
         requires kept { IsKept self.old }
         requires lent { IsLent (shown self.old) job }
-        requires still { StandsStill (program_view self.old.code.program) self.old.state job.thread }
+        requires still { StandsStill (program_view self.old.code.program) self.old.state.config job.thread }
         ensures kept { IsKept self.new }
         ensures ok { IfOk result (λ r. Committed (shown self.old) worker job r (shown self.new)) }
         ensures err { OnErr result (shown self.new ≡ shown self.old) }
@@ -159,7 +159,7 @@ impl Parts {
         ensures same { shown self.new ≡ shown self.old }
         ensures room { OnOk result (CanEnter self.new) }
         ensures place { OnOk result (vec_len self.new.names.times < vec_capacity self.new.names.times) }
-        ensures listed { OnOk result (ListsTop self.new.state thread frames self.new.named.items) }
+        ensures listed { OnOk result (ListsTop self.new.state.config thread frames self.new.named.items) }
     {
         self.history.reserve(1)?;
         self.out.reserve(1)?;
@@ -214,7 +214,7 @@ fn list_named(
     most: u32,
     to: &mut Vec<u32>,
 ) -> Result<(), AllocError>
-    ensures { OnOk result (ListsTop state.now thread most to.new.items) }
+    ensures { OnOk result (ListsTop state.now.config thread most to.new.items) }
 {
     to.clear();
     match state.thread(thread) {

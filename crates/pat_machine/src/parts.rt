@@ -5,7 +5,7 @@ ghost use Rattle.pat_type_system_spec.specs.Typings.{IsTypable};
 ghost use Rattle.pat_core.specs.Views.{program_view};
 ghost use Rattle.pat_machine_spec.specs.Lendings.{all_in};
 ghost use Rattle.pat_machine.specs.Parted.{shown, IsKept};
-ghost use Rattle.pat_machine.specs.Shown.{IsNew};
+ghost use Rattle.pat_machine.specs.Shown.{IsNew, places_for};
 ghost use Rattle.pat_limits.specs.Limits.{most_steps};
 
 use pat_core::Program;
@@ -55,7 +55,7 @@ impl Parts {
         ensures start { IfOk result (λ m. IsNew program steps messages (shown m)) }
     {
         let code = Executable::new(alloc, program)?;
-        let state = IndexedConfig::start(alloc, &code)?;
+        let state = IndexedConfig::start(alloc, &code, places_for(steps, messages))?;
         let waits = ReadySets::start(alloc)?;
         let out = nobody_out(alloc, state.threads_made())?;
         Ok(Parts {
@@ -74,6 +74,13 @@ impl Parts {
             last: None,
         })
     }
+}
+
+// How many messages may ever be pending together: no more than the limit, and no more than steps are taken.
+fn places_for(steps: u64, messages: u32) -> u32
+    ensures { result ≡ places_for steps messages }
+{
+    steps.min(messages as u64) as u32
 }
 
 // A table of threads, none of which is out.

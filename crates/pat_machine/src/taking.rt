@@ -42,7 +42,7 @@ impl Parts {
     // The ready thread whose turn comes first after the one last taken.
     fn next_ready(&self) -> Option<u32>
         requires { IsKept self.now }
-        ensures { result ≡ turn (program_view self.now.code.program) self.now.state self.now.limit self.now.out.items self.now.last }
+        ensures { result ≡ turn (program_view self.now.code.program) self.now.state.config self.now.limit self.now.out.items self.now.last }
     {
         match self.ready_above(self.last) {
             Some(thread) => Some(thread),
@@ -53,7 +53,7 @@ impl Parts {
     // The first ready thread above this one, or of all. Those that are about to send aren't looked at where there is no space.
     fn ready_above(&self, last: Option<u32>) -> Option<u32>
         requires { IsKept self.now }
-        ensures { result ≡ ready_above (program_view self.now.code.program) self.now.state self.now.limit self.now.out.items last }
+        ensures { result ≡ ready_above (program_view self.now.code.program) self.now.state.config self.now.limit self.now.out.items last }
     {
         let other = self.first_ready(self.waits.awake.above(last));
         if self.state.has_space(self.limit) {
@@ -66,7 +66,7 @@ impl Parts {
     // The first ready one of these threads.
     fn first_ready(&self, threads: &[u32]) -> Option<u32>
         requires { IsKept self.now }
-        ensures { result ≡ find (is_ready (program_view self.now.code.program) self.now.state self.now.limit self.now.out.items) threads.now }
+        ensures { result ≡ find (is_ready (program_view self.now.code.program) self.now.state.config self.now.limit self.now.out.items) threads.now }
     {
         self.state.first_ready(
             &self.code,

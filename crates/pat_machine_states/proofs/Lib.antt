@@ -9,3 +9,4 @@ mod Keeping
 mod Referring
 mod Reaching
 mod Reading
+mod Seen

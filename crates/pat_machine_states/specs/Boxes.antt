@@ -1,5 +1,5 @@
 -- A configuration whose messages are kept by mailbox.
-use Rattle.std.specs.Prelude.{◌≡◌, ℕ, ◌+◌, nat_eq, List, [], filter, length, map, Option, Some, is_some}
+use Rattle.std.specs.Prelude.{◌≡◌, ℕ, ◌+◌, ◌<◌, nat_eq, List, [], filter, length, map, Option, Some, is_some}
 use Rattle.std.specs.List.{AllByRecursion}
 use Rattle.pat_semantics_spec.specs.Programs.{is_among}
 use Rattle.pat_semantics_spec.specs.Configs.{Message, Config}
@@ -27,6 +27,15 @@ pub record IsState (c : Config) (latest : Option ℕ) (ms : List (Option Mailbox
   pub messages : c.messages ≡ []
   pub live : c.live ≡ []
   pub boxes : AreOf (state_view c ms) latest (boxes_view ms)
+
+-- what contracts see: the configuration, and how many places there are for pending messages
+pub record Indexed : Type 0 where
+  pub config : Config
+  pub places : ℕ
+
+-- where one more message may be pending, there is a place for it
+abbrev pub HasPlace : Indexed → (limit : ℕ) → Type 0
+HasPlace s limit = length s.config.messages < limit → length s.config.messages < s.places
 
 -- the mailboxes that are live are those of the configuration, each has its messages that are pending there, in order, and there are no others
 pub record AreMailboxesOf (c : Config) (ms : List (Option Mailbox)) : Type 0 where

@@ -23,8 +23,8 @@ impl IndexedConfig {
         thread: u32,
         counted: Counted<'_>,
     ) -> Option<Act>
-        requires { StandsAlone (program_view code.now.program) self.now thread counted }
-        ensures { OpenAct (program_view code.now.program) self.now limit thread (option_map act_view result) }
+        requires { StandsAlone (program_view code.now.program) self.now.config thread counted }
+        ensures { OpenAct (program_view code.now.program) self.now.config limit thread (option_map act_view result) }
     {
         let act = self.enabled_act(code, thread, counted);
         if self.is_held_back(limit, act) {
@@ -41,9 +41,9 @@ impl IndexedConfig {
         thread: u32,
         counted: Counted<'_>,
     ) -> Option<Act>
-        requires { StandsAlone (program_view code.now.program) self.now thread counted }
-        ensures enabled { EnabledAct (program_view code.now.program) self.now thread (option_map act_view result) }
-        ensures least { IsOrdered self.now → IsLeast (program_view code.now.program) self.now thread (option_map act_view result) }
+        requires { StandsAlone (program_view code.now.program) self.now.config thread counted }
+        ensures enabled { EnabledAct (program_view code.now.program) self.now.config thread (option_map act_view result) }
+        ensures least { IsOrdered self.now.config → IsLeast (program_view code.now.program) self.now.config thread (option_map act_view result) }
     {
         match self.thread(thread) {
             Some(state) => self.act_of(code, state, counted),
@@ -53,14 +53,14 @@ impl IndexedConfig {
 
     // Whether the act is a send for which there is no space.
     fn is_held_back(&self, limit: u32, act: Option<Act>) -> bool
-        ensures { result ≡ (is_sending (option_map act_view act) && not (has_space self.now limit)) }
+        ensures { result ≡ (is_sending (option_map act_view act) && not (has_space self.now.config limit)) }
     {
         is_sending(act) && !self.has_space(limit)
     }
 
     /// Whether one more message may be pending. It takes no memory.
     pub fn has_space(&self, limit: u32) -> bool
-        ensures { result ≡ has_space self.now limit }
+        ensures { result ≡ has_space self.now.config limit }
     {
         self.mailboxes.pending() < limit
     }

@@ -36,9 +36,9 @@ impl IndexedConfig {
         others: &[u32],
         senders: &[u32],
     ) -> Prospect
-        requires told { TellOfEach (program_view code.now.program) self.now names.now.times.items }
-        requires candidates { AreCandidates (program_view code.now.program) self.now others.now senders.now }
-        ensures { HasProspect (program_view code.now.program) self.now limit result }
+        requires told { TellOfEach (program_view code.now.program) self.now.config names.now.times.items }
+        requires candidates { AreCandidates (program_view code.now.program) self.now.config others.now senders.now }
+        ensures { HasProspect (program_view code.now.program) self.now.config limit result }
     {
         if self.placed.is_over() {
             return Prospect::Over;
@@ -61,16 +61,16 @@ impl IndexedConfig {
 
     // Whether one of the senders has an open step. They aren't looked at where there is no space.
     fn may_send(&self, code: &Executable, names: &RefCounts, limit: u32, senders: &[u32]) -> bool
-        requires told { TellOfEach (program_view code.now.program) self.now names.now.times.items }
-        ensures { result ≡ (has_space self.now limit && list_any (can_go_on (program_view code.now.program) self.now limit) senders.now) }
+        requires told { TellOfEach (program_view code.now.program) self.now.config names.now.times.items }
+        ensures { result ≡ (has_space self.now.config limit && list_any (can_go_on (program_view code.now.program) self.now.config limit) senders.now) }
     {
         self.has_space(limit) && self.has_open(code, names, limit, senders)
     }
 
     // Whether one of these threads has an enabled step.
     fn has_enabled(&self, code: &Executable, names: &RefCounts, threads: &[u32]) -> bool
-        requires told { TellOfEach (program_view code.now.program) self.now names.now.times.items }
-        ensures { result ≡ list_any (can_step_thread (program_view code.now.program) self.now) threads.now }
+        requires told { TellOfEach (program_view code.now.program) self.now.config names.now.times.items }
+        ensures { result ≡ list_any (can_step_thread (program_view code.now.program) self.now.config) threads.now }
     {
         for thread in threads {
             if self.is_enabled(code, names, *thread) {
@@ -82,8 +82,8 @@ impl IndexedConfig {
 
     // Whether a step of the thread is enabled.
     fn is_enabled(&self, code: &Executable, names: &RefCounts, thread: u32) -> bool
-        requires told { TellOfEach (program_view code.now.program) self.now names.now.times.items }
-        ensures { result ≡ can_step_thread (program_view code.now.program) self.now thread }
+        requires told { TellOfEach (program_view code.now.program) self.now.config names.now.times.items }
+        ensures { result ≡ can_step_thread (program_view code.now.program) self.now.config thread }
     {
         self.enabled_act(code, thread, Counted::All(names))
             .is_some()
@@ -91,8 +91,8 @@ impl IndexedConfig {
 
     // Whether one of these threads has an open step.
     fn has_open(&self, code: &Executable, names: &RefCounts, limit: u32, threads: &[u32]) -> bool
-        requires told { TellOfEach (program_view code.now.program) self.now names.now.times.items }
-        ensures { result ≡ list_any (can_go_on (program_view code.now.program) self.now limit) threads.now }
+        requires told { TellOfEach (program_view code.now.program) self.now.config names.now.times.items }
+        ensures { result ≡ list_any (can_go_on (program_view code.now.program) self.now.config limit) threads.now }
     {
         for thread in threads {
             if self.can_go_on(code, names, limit, *thread) {

@@ -20,8 +20,8 @@ impl IndexedConfig {
         out: &[Option<u32>],
         threads: &[u32],
     ) -> Option<u32>
-        requires told { TellOfEach (program_view code.now.program) self.now names.now.times.items }
-        ensures { result ≡ find (is_ready (program_view code.now.program) self.now limit out.now) threads.now }
+        requires told { TellOfEach (program_view code.now.program) self.now.config names.now.times.items }
+        ensures { result ≡ find (is_ready (program_view code.now.program) self.now.config limit out.now) threads.now }
     {
         for thread in threads {
             if self.is_ready(code, names, limit, out, *thread) {
@@ -40,16 +40,16 @@ impl IndexedConfig {
         out: &[Option<u32>],
         thread: u32,
     ) -> bool
-        requires told { TellOfEach (program_view code.now.program) self.now names.now.times.items }
-        ensures { result ≡ is_ready (program_view code.now.program) self.now limit out.now thread }
+        requires told { TellOfEach (program_view code.now.program) self.now.config names.now.times.items }
+        ensures { result ≡ is_ready (program_view code.now.program) self.now.config limit out.now thread }
     {
         !is_out(out, thread) && self.can_go_on(code, names, limit, thread)
     }
 
     /// Whether a step of the thread is open.
     pub fn can_go_on(&self, code: &Executable, names: &RefCounts, limit: u32, thread: u32) -> bool
-        requires told { TellOfEach (program_view code.now.program) self.now names.now.times.items }
-        ensures { result ≡ can_go_on (program_view code.now.program) self.now limit thread }
+        requires told { TellOfEach (program_view code.now.program) self.now.config names.now.times.items }
+        ensures { result ≡ can_go_on (program_view code.now.program) self.now.config limit thread }
     {
         self.open_act(code, limit, thread, Counted::All(names))
             .is_some()

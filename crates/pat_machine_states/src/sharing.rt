@@ -11,6 +11,7 @@ ghost use Rattle.pat_machine_spec.specs.Machines.{HasRoom, IsTypedBySome};
 ghost use Rattle.pat_machine_indexes.specs.refcounts.Counting.{TellsAlone};
 ghost use Rattle.pat_machine_indexes.specs.refcounts.Telling.{says_alone};
 ghost use Rattle.pat_machine_states.specs.Alone.{StandsAlone};
+ghost use Rattle.pat_machine_states.specs.Boxes.{HasPlace};
 ghost use Rattle.pat_machine_states.specs.Stepping.{ReferToLive};
 ghost use Rattle.pat_machine_states.specs.Taking.{taken_act, taken_message};
 
@@ -44,14 +45,16 @@ impl IndexedConfig {
         counted: Counted<'_>,
         taken: &mut Option<Taken>,
     ) -> Result<(), AllocError>
-        requires there { (s : ThreadOf) × (thread_at self.old thread ≡ Some s) }
-        requires room { HasRoom self.old }
-        requires typed { (s : ThreadOf) → thread_at self.old thread ≡ Some s → IsTypedBySome (program_view code.now.program) (with_thread self.old thread (over (thread_view top) (below gone s))) }
-        requires frame { (s : ThreadOf) → thread_at self.old thread ≡ Some s → (0 < length (thread_view top).frames) ⊎ (below gone s ≡ []) }
-        requires alone { (s : ThreadOf) → thread_at self.old thread ≡ Some s → TellsAlone (program_view code.now.program) (with_thread self.old thread (over (thread_view top) (below gone s))) thread (over (thread_view top) (below gone s)) (says_alone (program_view code.now.program) counted (thread_view top)) }
-        ensures ok { OnOk result ((s : ThreadOf) → thread_at self.old thread ≡ Some s → Shares (program_view code.now.program) limit (with_thread self.old thread (over (thread_view top) (below gone s))) thread (taken_act taken.new) self.new) }
-        ensures message { OnOk result ((k : ℕ) → taken_act taken.new ≡ Some (ActReceive k) → taken_message taken.new ≡ message_at self.old k) }
-        ensures err { OnErr result (self.new ≡ self.old) }
+        requires there { (s : ThreadOf) × (thread_at self.old.config thread ≡ Some s) }
+        requires room { HasRoom self.old.config }
+        requires place { HasPlace self.old limit }
+        requires typed { (s : ThreadOf) → thread_at self.old.config thread ≡ Some s → IsTypedBySome (program_view code.now.program) (with_thread self.old.config thread (over (thread_view top) (below gone s))) }
+        requires frame { (s : ThreadOf) → thread_at self.old.config thread ≡ Some s → (0 < length (thread_view top).frames) ⊎ (below gone s ≡ []) }
+        requires alone { (s : ThreadOf) → thread_at self.old.config thread ≡ Some s → TellsAlone (program_view code.now.program) (with_thread self.old.config thread (over (thread_view top) (below gone s))) thread (over (thread_view top) (below gone s)) (says_alone (program_view code.now.program) counted (thread_view top)) }
+        ensures ok { OnOk result ((s : ThreadOf) → thread_at self.old.config thread ≡ Some s → Shares (program_view code.now.program) limit (with_thread self.old.config thread (over (thread_view top) (below gone s))) thread (taken_act taken.new) self.new.config) }
+        ensures message { OnOk result ((k : ℕ) → taken_act taken.new ≡ Some (ActReceive k) → taken_message taken.new ≡ message_at self.old.config k) }
+        ensures err { OnErr result (self.new.config ≡ self.old.config) }
+        ensures places { self.new.places ≡ self.old.places }
     {
         if self.placed.has_at_most(thread, gone) {
             return self.share_whole(alloc, code, limit, thread, top, counted, taken);
@@ -80,13 +83,15 @@ impl IndexedConfig {
         counted: Counted<'_>,
         taken: &mut Option<Taken>,
     ) -> Result<(), AllocError>
-        requires there { (s : ThreadOf) × (thread_at self.old thread ≡ Some s) }
-        requires room { HasRoom self.old }
-        requires typed { IsTypedBySome (program_view code.now.program) (with_thread self.old thread (thread_view top)) }
-        requires alone { TellsAlone (program_view code.now.program) (with_thread self.old thread (thread_view top)) thread (thread_view top) (says_alone (program_view code.now.program) counted (thread_view top)) }
-        ensures ok { OnOk result (Shares (program_view code.now.program) limit (with_thread self.old thread (thread_view top)) thread (taken_act taken.new) self.new) }
-        ensures message { OnOk result ((k : ℕ) → taken_act taken.new ≡ Some (ActReceive k) → taken_message taken.new ≡ message_at self.old k) }
-        ensures err { OnErr result (self.new ≡ self.old) }
+        requires there { (s : ThreadOf) × (thread_at self.old.config thread ≡ Some s) }
+        requires room { HasRoom self.old.config }
+        requires place { HasPlace self.old limit }
+        requires typed { IsTypedBySome (program_view code.now.program) (with_thread self.old.config thread (thread_view top)) }
+        requires alone { TellsAlone (program_view code.now.program) (with_thread self.old.config thread (thread_view top)) thread (thread_view top) (says_alone (program_view code.now.program) counted (thread_view top)) }
+        ensures ok { OnOk result (Shares (program_view code.now.program) limit (with_thread self.old.config thread (thread_view top)) thread (taken_act taken.new) self.new.config) }
+        ensures message { OnOk result ((k : ℕ) → taken_act taken.new ≡ Some (ActReceive k) → taken_message taken.new ≡ message_at self.old.config k) }
+        ensures err { OnErr result (self.new.config ≡ self.old.config) }
+        ensures places { self.new.places ≡ self.old.places }
     {
         let kept = self.swap(thread, top);
         match self.take_open(alloc, code, limit, thread, counted, taken) {
@@ -112,13 +117,15 @@ impl IndexedConfig {
         counted: Counted<'_>,
         taken: &mut Option<Taken>,
     ) -> Result<(), AllocError>
-        requires room { HasRoom self.old }
-        requires ordered { IsOrdered self.old }
-        requires live { ReferToLive self.old }
-        requires alone { StandsAlone (program_view code.now.program) self.old thread counted }
-        ensures ok { OnOk result (Shares (program_view code.now.program) limit self.old thread (taken_act taken.new) self.new) }
-        ensures message { OnOk result ((k : ℕ) → taken_act taken.new ≡ Some (ActReceive k) → taken_message taken.new ≡ message_at self.old k) }
-        ensures err { OnErr result (self.new ≡ self.old) }
+        requires room { HasRoom self.old.config }
+        requires place { HasPlace self.old limit }
+        requires ordered { IsOrdered self.old.config }
+        requires live { ReferToLive self.old.config }
+        requires alone { StandsAlone (program_view code.now.program) self.old.config thread counted }
+        ensures ok { OnOk result (Shares (program_view code.now.program) limit self.old.config thread (taken_act taken.new) self.new.config) }
+        ensures message { OnOk result ((k : ℕ) → taken_act taken.new ≡ Some (ActReceive k) → taken_message taken.new ≡ message_at self.old.config k) }
+        ensures err { OnErr result (self.new.config ≡ self.old.config) }
+        ensures places { self.new.places ≡ self.old.places }
     {
         let Some(act) = self.open_act(code, limit, thread, counted) else {
             *taken = None;

@@ -1,5 +1,5 @@
 // The steps of a thread.
-ghost use Rattle.std.specs.Prelude.{◌≡◌, ℕ, true, Some, None, option_map, IfOk};
+ghost use Rattle.std.specs.Prelude.{◌≡◌, ℕ, ◌<◌, true, length, Some, None, option_map, IfOk};
 ghost use Rattle.pat_semantics_spec.specs.Orders.{IsOrdered};
 ghost use Rattle.pat_semantics_spec.specs.Steps.{ActNew, ActSend, ActFree, ActReceive, message_at, step as after_step};
 ghost use Rattle.pat_semantics_laws.specs.Laws.{IsEnabled};
@@ -26,12 +26,14 @@ impl IndexedConfig {
         code: &Executable,
         step: &Step,
     ) -> Result<Option<Message>, StepError>
-        requires room { HasRoom self.old }
-        requires ordered { IsOrdered self.old }
-        requires live { ReferToLive self.old }
-        requires enabled { IsEnabled (program_view code.now.program) self.old (step_view step.now) }
-        ensures step { StepGives (λ c. c) (after_step (program_view code.now.program) self.old (step_view step.now)) self.old self.new (outcome result) }
-        ensures message { IfOk result (λ m. (k : ℕ) → act_view step.now.act ≡ ActReceive k → option_map message_view m ≡ message_at self.old k) }
+        requires room { HasRoom self.old.config }
+        requires ordered { IsOrdered self.old.config }
+        requires live { ReferToLive self.old.config }
+        requires enabled { IsEnabled (program_view code.now.program) self.old.config (step_view step.now) }
+        requires place { act_view step.now.act ≡ ActSend → length self.old.config.messages < self.old.places }
+        ensures step { StepGives (λ c. c) (after_step (program_view code.now.program) self.old.config (step_view step.now)) self.old.config self.new.config (outcome result) }
+        ensures places { self.new.places ≡ self.old.places }
+        ensures message { IfOk result (λ m. (k : ℕ) → act_view step.now.act ≡ ActReceive k → option_map message_view m ≡ message_at self.old.config k) }
     {
         match step.act {
             Act::New => no_message(self.make_mailbox(code, step.thread)),
@@ -54,17 +56,19 @@ impl IndexedConfig {
         code: &Executable,
         step: &Step,
     ) -> Result<(), StepError>
-        requires room { HasRoom self.old }
+        requires room { HasRoom self.old.config }
         requires beside { is_beside (act_view step.now.act) ≡ true }
-        ensures { StepGives (λ c. c) (after_step (program_view code.now.program) self.old (step_view step.now)) self.old self.new result }
+        ensures step { StepGives (λ c. c) (after_step (program_view code.now.program) self.old.config (step_view step.now)) self.old.config self.new.config result }
+        ensures places { self.new.places ≡ self.old.places }
     {
         self.placed.step(alloc, code, step)
     }
 
     // The thread makes a mailbox.
     fn make_mailbox(&mut self, code: &Executable, thread: u32) -> Result<(), StepError>
-        requires room { HasRoom self.old }
-        ensures { StepGives (λ c. c) (after_step (program_view code.now.program) self.old (record { thread = thread; act = ActNew })) self.old self.new result }
+        requires room { HasRoom self.old.config }
+        ensures step { StepGives (λ c. c) (after_step (program_view code.now.program) self.old.config (record { thread = thread; act = ActNew })) self.old.config self.new.config result }
+        ensures places { self.new.places ≡ self.old.places }
     {
         self.mailboxes.reserve(1)?;
         let mailbox = self.placed.mailboxes_made();
@@ -77,14 +81,15 @@ impl IndexedConfig {
         }
     }
 
-    // The thread sends.
+    // The thread sends. There is a place for the message.
     fn send(&mut self, alloc: Global, code: &Executable, thread: u32) -> Result<(), StepError>
-        requires room { HasRoom self.old }
-        requires ordered { IsOrdered self.old }
-        requires live { ReferToLive self.old }
-        ensures { StepGives (λ c. c) (after_step (program_view code.now.program) self.old (record { thread = thread; act = ActSend })) self.old self.new result }
+        requires room { HasRoom self.old.config }
+        requires ordered { IsOrdered self.old.config }
+        requires live { ReferToLive self.old.config }
+        requires place { length self.old.config.messages < self.old.places }
+        ensures step { StepGives (λ c. c) (after_step (program_view code.now.program) self.old.config (record { thread = thread; act = ActSend })) self.old.config self.new.config result }
+        ensures places { self.new.places ≡ self.old.places }
     {
-        self.mailboxes.make_room()?;
         match self.placed.send(alloc, code, thread) {
             Ok(message) => {
                 self.latest = Some(message.mailbox);
@@ -97,8 +102,9 @@ impl IndexedConfig {
 
     // The thread frees the mailbox that it guards.
     fn free(&mut self, alloc: Global, code: &Executable, thread: u32) -> Result<(), StepError>
-        requires { IsEnabled (program_view code.now.program) self.old (record { thread = thread; act = ActFree }) }
-        ensures { StepGives (λ c. c) (after_step (program_view code.now.program) self.old (record { thread = thread; act = ActFree })) self.old self.new result }
+        requires { IsEnabled (program_view code.now.program) self.old.config (record { thread = thread; act = ActFree }) }
+        ensures step { StepGives (λ c. c) (after_step (program_view code.now.program) self.old.config (record { thread = thread; act = ActFree })) self.old.config self.new.config result }
+        ensures places { self.new.places ≡ self.old.places }
     {
         match self.placed.free(alloc, code, thread) {
             Ok(mailbox) => {
@@ -117,8 +123,9 @@ impl IndexedConfig {
         thread: u32,
         number: u32,
     ) -> Result<Message, StepError>
-        ensures step { StepGives (λ c. c) (after_step (program_view code.now.program) self.old (record { thread = thread; act = ActReceive number })) self.old self.new (outcome result) }
-        ensures message { IfOk result (λ m. message_at self.old number ≡ Some (message_view m)) }
+        ensures step { StepGives (λ c. c) (after_step (program_view code.now.program) self.old.config (record { thread = thread; act = ActReceive number })) self.old.config self.new.config (outcome result) }
+        ensures places { self.new.places ≡ self.old.places }
+        ensures message { IfOk result (λ m. message_at self.old.config number ≡ Some (message_view m)) }
     {
         match self.placed.thread(thread) {
             Some(state) => match delivery(alloc, code, &self.mailboxes, &state.control, number) {

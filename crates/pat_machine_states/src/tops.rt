@@ -21,9 +21,10 @@ impl IndexedConfig {
         gone: u32,
         top: ThreadState,
     ) -> Result<(), AllocError>
-        requires { (s : ThreadOf) × (thread_at self.old thread ≡ Some s) }
-        ensures ok { OnOk result ((s : ThreadOf) → thread_at self.old thread ≡ Some s → self.new ≡ with_thread self.old thread (over (thread_view top) (below gone s))) }
-        ensures err { OnErr result (self.new ≡ self.old) }
+        requires { (s : ThreadOf) × (thread_at self.old.config thread ≡ Some s) }
+        ensures ok { OnOk result ((s : ThreadOf) → thread_at self.old.config thread ≡ Some s → self.new.config ≡ with_thread self.old.config thread (over (thread_view top) (below gone s))) }
+        ensures err { OnErr result (self.new.config ≡ self.old.config) }
+        ensures places { self.new.places ≡ self.old.places }
     {
         let kept = self.set_aside(alloc, thread, top)?;
         self.cover(alloc, thread, gone, kept);
@@ -37,9 +38,10 @@ impl IndexedConfig {
         thread: u32,
         top: ThreadState,
     ) -> Result<Aside, AllocError>
-        requires { (s : ThreadOf) × (thread_at self.old thread ≡ Some s) }
-        ensures ok { IfOk result (λ kept. IsAside self.old thread top kept self.new) }
-        ensures err { OnErr result (self.new ≡ self.old) }
+        requires { (s : ThreadOf) × (thread_at self.old.config thread ≡ Some s) }
+        ensures ok { IfOk result (λ kept. IsAside self.old.config thread top kept self.new.config) }
+        ensures err { OnErr result (self.new.config ≡ self.old.config) }
+        ensures places { self.new.places ≡ self.old.places }
     {
         let room = top.frames.len() + 1;
         let kept = self.swap(thread, top);
@@ -54,8 +56,9 @@ impl IndexedConfig {
 
     // Puts the frames that were set aside, but for so many, below those of the thread, if it is there.
     pub(crate) fn cover(&mut self, alloc: Global, thread: u32, gone: u32, kept: Aside)
-        requires { (s : ThreadOf) → thread_at self.old thread ≡ Some s → length s.frames ≤ kept.frames.1 }
-        ensures { self.new ≡ with_below self.old thread (below gone (aside_view kept)) }
+        requires { (s : ThreadOf) → thread_at self.old.config thread ≡ Some s → length s.frames ≤ kept.frames.1 }
+        ensures covered { self.new.config ≡ with_below self.old.config thread (below gone (aside_view kept)) }
+        ensures places { self.new.places ≡ self.old.places }
     {
         let Aside { rest, frames } = kept;
         let_go(rest);

@@ -16,8 +16,8 @@ use pat_reduce_values::Executable;
 impl IndexedConfig {
     /// The mailbox that the thread waits at, if it is found to have no enabled step. It takes no memory.
     pub fn awaited(&self, code: &Executable, names: &RefCounts, thread: u32) -> Option<u32>
-        requires told { TellOfEach (program_view code.now.program) self.now names.now.times.items }
-        ensures { IfSome result (IsWaiting (program_view code.now.program) self.now thread) }
+        requires told { TellOfEach (program_view code.now.program) self.now.config names.now.times.items }
+        ensures { IfSome result (IsWaiting (program_view code.now.program) self.now.config thread) }
     {
         let state = self.thread(thread)?;
         let guard = guard_of(code, &state.control)?;
@@ -29,8 +29,8 @@ impl IndexedConfig {
 
     /// Whether the thread may free the mailbox that it stands at a guard on. Only that is looked at. It takes no memory.
     pub fn may_free_now(&self, code: &Executable, names: &RefCounts, thread: u32) -> bool
-        requires told { TellOfEach (program_view code.now.program) self.now names.now.times.items }
-        ensures { IsTrue result ↔ IsEnabled (program_view code.now.program) self.now (record { thread = thread; act = ActFree }) }
+        requires told { TellOfEach (program_view code.now.program) self.now.config names.now.times.items }
+        ensures { IsTrue result ↔ IsEnabled (program_view code.now.program) self.now.config (record { thread = thread; act = ActFree }) }
     {
         let Some(state) = self.thread(thread) else {
             return false;
@@ -44,14 +44,14 @@ impl IndexedConfig {
 
     /// The mailbox of the last message, where that is the one that was sent last.
     pub fn last_mailbox(&self) -> Option<u32>
-        ensures { (ms : List MessageOf) (m : MessageOf) → self.now.messages ≡ ms ++ m ∷ [] → m.number + 1 ≡ self.now.next_message → result ≡ Some m.mailbox }
+        ensures { (ms : List MessageOf) (m : MessageOf) → self.now.config.messages ≡ ms ++ m ∷ [] → m.number + 1 ≡ self.now.config.next_message → result ≡ Some m.mailbox }
     {
         self.latest
     }
 
     /// The message that was sent last, where it is pending and the last one. It takes no memory, and no walk.
     pub fn last_message(&self) -> Option<&Message>
-        ensures { (ms : List MessageOf) (m : MessageOf) → self.now.messages ≡ ms ++ m ∷ [] → m.number + 1 ≡ self.now.next_message → option_map message_view (option_copied result) ≡ Some m }
+        ensures { (ms : List MessageOf) (m : MessageOf) → self.now.config.messages ≡ ms ++ m ∷ [] → m.number + 1 ≡ self.now.config.next_message → option_map message_view (option_copied result) ≡ Some m }
     {
         let mailbox = self.latest?;
         if !self.mailboxes.is_live(mailbox) {
@@ -66,7 +66,7 @@ impl IndexedConfig {
 
     /// Whether the thread may receive the message that was sent last, where that is pending and the last one. It takes no memory, and no walk.
     pub fn receives_last(&self, code: &Executable, thread: u32) -> bool
-        ensures { (ms : List MessageOf) (m : MessageOf) → self.now.messages ≡ ms ++ m ∷ [] → m.number + 1 ≡ self.now.next_message → IsTrue result ↔ IsEnabled (program_view code.now.program) self.now (record { thread = thread; act = ActReceive m.number }) }
+        ensures { (ms : List MessageOf) (m : MessageOf) → self.now.config.messages ≡ ms ++ m ∷ [] → m.number + 1 ≡ self.now.config.next_message → IsTrue result ↔ IsEnabled (program_view code.now.program) self.now.config (record { thread = thread; act = ActReceive m.number }) }
     {
         let Some(state) = self.placed.thread(thread) else {
             return false;

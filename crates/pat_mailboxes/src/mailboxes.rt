@@ -42,7 +42,7 @@ impl Model for Mailboxes {
 }
 
 impl Mailboxes {
-    /// No mailbox, and room for this many pending messages.
+    /// No mailbox, and room for this many pending messages, which is never less. It touches none of it.
     pub fn fixed(alloc: Global, room: u32) -> Result<Mailboxes, AllocError>
         ensures { IfOk result (λ m. m ≡ record { mailboxes = []; room = room; spare = 0 }) }
     {
@@ -65,25 +65,6 @@ impl Mailboxes {
         }
         self.store.open_ahead(self.room, mailboxes)?;
         self.spare = mailboxes;
-        Ok(())
-    }
-
-    /// Makes room for one more pending message at least. An error changes nothing.
-    pub fn make_room(&mut self) -> Result<(), AllocError>
-        ensures same { (self.new.mailboxes ≡ self.old.mailboxes) × (self.new.spare ≡ self.old.spare) }
-        ensures ok { OnOk result (all_pending self.new.mailboxes < self.new.room) }
-        ensures err { OnErr result (self.new.room ≡ self.old.room) }
-    {
-        if self.store.pool.spare() > 0 {
-            return Ok(());
-        }
-        // Twice the room, so that messages move seldom.
-        let more = self.room.max(16);
-        if self.room > u32::MAX - more {
-            return Err(AllocError);
-        }
-        self.store.pool.reserve(more)?;
-        self.room += more;
         Ok(())
     }
 
@@ -174,6 +155,13 @@ impl Mailboxes {
         let queue = queue_of(self.store.queues.as_slice(), mailbox);
         self.store.queues[mailbox as usize] = None;
         self.store.pool.release(queue);
+    }
+
+    /// For how many pending messages there is room.
+    pub fn room(&self) -> u32
+        ensures { result ≡ self.now.room }
+    {
+        self.room
     }
 
     /// How many messages are pending.

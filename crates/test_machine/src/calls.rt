@@ -30,6 +30,7 @@ pub fn no_job_is_taken_without_a_step(rt: &impl Abort, alloc: Global) {
     let mut machine = Machine::new(alloc, program, 0, 1).expect(rt, "memory");
     check(rt, machine.take() == None);
     check(rt, machine.take_thread(0) == Err(TakeRefused::Spent));
+    check(rt, machine.mailboxes().messages.room() == 0);
 }
 
 pub fn a_job_is_served(rt: &impl Abort, alloc: Global) {
@@ -52,6 +53,7 @@ pub fn mailboxes_are_read(rt: &impl Abort, alloc: Global) {
     // One message is pending, and a second one is held back.
     let mailboxes = machine.mailboxes();
     check(rt, mailboxes.messages.pending() == 1);
+    check(rt, mailboxes.messages.room() == 1);
     check(
         rt,
         mailboxes.messages.is_live(0) && !mailboxes.messages.is_live(1),

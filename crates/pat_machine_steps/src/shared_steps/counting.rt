@@ -23,9 +23,9 @@ pub fn count_end(
     taken: &Option<Taken>,
 )
     requires room { vec_len names.old.times < vec_capacity names.old.times }
-    requires can { CanBeCounted state.now }
-    requires left { IsLeft thread frames newcomer (taken_act taken.now) (taken_message taken.now) names.old.times.items state.now }
-    ensures { AreCounted names.new.times.items state.now }
+    requires can { CanBeCounted state.now.config }
+    requires left { IsLeft thread frames newcomer (taken_act taken.now) (taken_message taken.now) names.old.times.items state.now.config }
+    ensures { AreCounted names.new.times.items state.now.config }
 {
     leave_taken(names, taken);
     count_thread(state, names, thread, frames);
@@ -34,8 +34,8 @@ pub fn count_end(
 
 /// Counts what the top of a thread names, if it is there.
 pub fn count_thread(state: &IndexedConfig, names: &mut RefCounts, thread: u32, frames: u32)
-    requires { HasPlaces names.old (λ a. times_if_top frames a (thread_at state.now thread)) }
-    ensures { Counts names.old (λ a. times_if_top frames a (thread_at state.now thread)) names.new }
+    requires { HasPlaces names.old (λ a. times_if_top frames a (thread_at state.now.config thread)) }
+    ensures { Counts names.old (λ a. times_if_top frames a (thread_at state.now.config thread)) names.new }
 {
     match state.thread(thread) {
         Some(own) => names.count_top(own, frames),
@@ -45,9 +45,9 @@ pub fn count_thread(state: &IndexedConfig, names: &mut RefCounts, thread: u32, f
 
 /// Counts what the top of a thread names no longer.
 pub fn leave_thread(state: &IndexedConfig, names: &mut RefCounts, thread: u32, frames: u32)
-    requires there { (s : ThreadOf) × (thread_at state.now thread ≡ Some s) }
-    requires counted { AreCounted names.old.times.items state.now }
-    ensures counted { (s : ThreadOf) → thread_at state.now thread ≡ Some s → AreCountedBut (λ a. times_in_thread a (top_of frames s)) names.new.times.items state.now }
+    requires there { (s : ThreadOf) × (thread_at state.now.config thread ≡ Some s) }
+    requires counted { AreCounted names.old.times.items state.now.config }
+    ensures counted { (s : ThreadOf) → thread_at state.now.config thread ≡ Some s → AreCountedBut (λ a. times_in_thread a (top_of frames s)) names.new.times.items state.now.config }
     ensures room { vec_capacity names.old.times ≤ vec_capacity names.new.times }
     ensures len { vec_len names.new.times ≡ vec_len names.old.times }
 {
@@ -87,9 +87,9 @@ fn forget_received(names: &mut RefCounts, message: &Option<Message>)
 
 // What was sent or spawned.
 fn count_put(state: &IndexedConfig, names: &mut RefCounts, newcomer: u32, taken: &Option<Taken>)
-    requires found { IsFound newcomer (taken_act taken.now) state.now }
-    requires places { HasPlaces names.old (times_put state.now newcomer (taken_act taken.now)) }
-    ensures { Counts names.old (times_put state.now newcomer (taken_act taken.now)) names.new }
+    requires found { IsFound newcomer (taken_act taken.now) state.now.config }
+    requires places { HasPlaces names.old (times_put state.now.config newcomer (taken_act taken.now)) }
+    ensures { Counts names.old (times_put state.now.config newcomer (taken_act taken.now)) names.new }
 {
     match taken {
         Some(taken) => match taken.act {
@@ -102,9 +102,9 @@ fn count_put(state: &IndexedConfig, names: &mut RefCounts, newcomer: u32, taken:
 }
 
 fn count_sent(state: &IndexedConfig, names: &mut RefCounts)
-    requires last { IsSentLast state.now }
-    requires places { HasPlaces names.old (λ a. times_if_message a (last_message state.now.messages)) }
-    ensures { Counts names.old (λ a. times_if_message a (last_message state.now.messages)) names.new }
+    requires last { IsSentLast state.now.config }
+    requires places { HasPlaces names.old (λ a. times_if_message a (last_message state.now.config.messages)) }
+    ensures { Counts names.old (λ a. times_if_message a (last_message state.now.config.messages)) names.new }
 {
     match state.last_message() {
         Some(message) => names.count_message(message),
@@ -115,9 +115,9 @@ fn count_sent(state: &IndexedConfig, names: &mut RefCounts)
 
 // A thread begins with no frame.
 fn count_spawned(state: &IndexedConfig, names: &mut RefCounts, newcomer: u32)
-    requires bare { (s : ThreadOf) → thread_at state.now newcomer ≡ Some s → s.frames ≡ [] }
-    requires places { HasPlaces names.old (λ a. times_if_thread a (thread_at state.now newcomer)) }
-    ensures { Counts names.old (λ a. times_if_thread a (thread_at state.now newcomer)) names.new }
+    requires bare { (s : ThreadOf) → thread_at state.now.config newcomer ≡ Some s → s.frames ≡ [] }
+    requires places { HasPlaces names.old (λ a. times_if_thread a (thread_at state.now.config newcomer)) }
+    ensures { Counts names.old (λ a. times_if_thread a (thread_at state.now.config newcomer)) names.new }
 {
     match state.thread(newcomer) {
         Some(spawned) => names.count_top(spawned, 0),

@@ -10,6 +10,7 @@ ghost use Rattle.pat_machine_spec.specs.Commits.{Shares};
 ghost use Rattle.pat_machine_spec.specs.Machines.{HasRoom, IsTypedBySome};
 ghost use Rattle.pat_machine_laws.specs.refcounts.Counting.{AreCounted, TellsAlone, is_unnamed};
 ghost use Rattle.pat_machine_threads.specs.Settling.{settled_thread};
+ghost use Rattle.pat_machine_states.specs.Boxes.{HasPlace};
 ghost use Rattle.pat_machine_states.specs.Taking.{taken_act, taken_message};
 ghost use Rattle.pat_machine_steps.specs.shared_steps.Settling.{IsSettled, StandsStill, half_way, Finishes};
 ghost use Rattle.pat_machine_steps.specs.shared_steps.Leaving.{CanBeCounted};
@@ -35,19 +36,21 @@ pub fn share(
     taken: &mut Option<Taken>,
 ) -> Result<(), AllocError>
     requires well { WellFormed (program_view code.now.program) }
-    requires ordered { IsOrdered state.old }
-    requires room { HasRoom state.old }
-    requires settled { IsSettled (program_view code.now.program) state.old thread allowance settled }
+    requires ordered { IsOrdered state.old.config }
+    requires room { HasRoom state.old.config }
+    requires space { HasPlace state.old limit }
+    requires settled { IsSettled (program_view code.now.program) state.old.config thread allowance settled }
     requires frames { length settled.end.frames < number_count }
-    requires typed { (s : ThreadOf) → thread_at state.old thread ≡ Some s → IsTypedBySome (program_view code.now.program) (half_way state.old thread s settled) }
+    requires typed { (s : ThreadOf) → thread_at state.old.config thread ≡ Some s → IsTypedBySome (program_view code.now.program) (half_way state.old.config thread s settled) }
     requires place { vec_len names.old.times < vec_capacity names.old.times }
-    requires counted { AreCounted names.old.times.items state.old }
-    requires before { CanBeCounted state.old }
-    requires after { (s : ThreadOf) (a : Option ActOf) (d : ConfigOf) → thread_at state.old thread ≡ Some s → Finishes (program_view code.now.program) allowance limit (half_way state.old thread s settled) thread settled.steps a d → CanBeCounted d }
-    ensures ok { OnOk result ((s : ThreadOf) → thread_at state.old thread ≡ Some s → Finishes (program_view code.now.program) allowance limit (half_way state.old thread s settled) thread settled.steps (taken_act taken.new) state.new) }
-    ensures message { OnOk result ((k : ℕ) → taken_act taken.new ≡ Some (ActReceive k) → taken_message taken.new ≡ message_at state.old k) }
-    ensures err { OnErr result (state.new ≡ state.old) }
-    ensures counted { AreCounted names.new.times.items state.new }
+    requires counted { AreCounted names.old.times.items state.old.config }
+    requires before { CanBeCounted state.old.config }
+    requires after { (s : ThreadOf) (a : Option ActOf) (d : ConfigOf) → thread_at state.old.config thread ≡ Some s → Finishes (program_view code.now.program) allowance limit (half_way state.old.config thread s settled) thread settled.steps a d → CanBeCounted d }
+    ensures ok { OnOk result ((s : ThreadOf) → thread_at state.old.config thread ≡ Some s → Finishes (program_view code.now.program) allowance limit (half_way state.old.config thread s settled) thread settled.steps (taken_act taken.new) state.new.config) }
+    ensures message { OnOk result ((k : ℕ) → taken_act taken.new ≡ Some (ActReceive k) → taken_message taken.new ≡ message_at state.old.config k) }
+    ensures err { OnErr result (state.new.config ≡ state.old.config) }
+    ensures places { state.new.places ≡ state.old.places }
+    ensures counted { AreCounted names.new.times.items state.new.config }
 {
     let frames = settled.end.frames.len() as u32;
     let gone = settled.gone;
@@ -79,18 +82,20 @@ pub fn share_in_place(
     taken: &mut Option<Taken>,
 ) -> Result<(), AllocError>
     requires well { WellFormed (program_view code.now.program) }
-    requires ordered { IsOrdered state.old }
-    requires room { HasRoom state.old }
-    requires still { StandsStill (program_view code.now.program) state.old thread }
-    requires typed { IsTypedBySome (program_view code.now.program) state.old }
+    requires ordered { IsOrdered state.old.config }
+    requires room { HasRoom state.old.config }
+    requires space { HasPlace state.old limit }
+    requires still { StandsStill (program_view code.now.program) state.old.config thread }
+    requires typed { IsTypedBySome (program_view code.now.program) state.old.config }
     requires place { vec_len names.old.times < vec_capacity names.old.times }
-    requires counted { AreCounted names.old.times.items state.old }
-    requires before { CanBeCounted state.old }
-    requires after { (a : Option ActOf) (d : ConfigOf) → Shares (program_view code.now.program) limit state.old thread a d → CanBeCounted d }
-    ensures ok { OnOk result (Shares (program_view code.now.program) limit state.old thread (taken_act taken.new) state.new) }
-    ensures message { OnOk result ((k : ℕ) → taken_act taken.new ≡ Some (ActReceive k) → taken_message taken.new ≡ message_at state.old k) }
-    ensures err { OnErr result (state.new ≡ state.old) }
-    ensures counted { AreCounted names.new.times.items state.new }
+    requires counted { AreCounted names.old.times.items state.old.config }
+    requires before { CanBeCounted state.old.config }
+    requires after { (a : Option ActOf) (d : ConfigOf) → Shares (program_view code.now.program) limit state.old.config thread a d → CanBeCounted d }
+    ensures ok { OnOk result (Shares (program_view code.now.program) limit state.old.config thread (taken_act taken.new) state.new.config) }
+    ensures message { OnOk result ((k : ℕ) → taken_act taken.new ≡ Some (ActReceive k) → taken_message taken.new ≡ message_at state.old.config k) }
+    ensures err { OnErr result (state.new.config ≡ state.old.config) }
+    ensures places { state.new.places ≡ state.old.places }
+    ensures counted { AreCounted names.new.times.items state.new.config }
 {
     let newcomer = state.threads_made();
     leave_thread(state, names, thread, 0);
@@ -118,13 +123,15 @@ fn finish(
     settled: Settled,
     taken: &mut Option<Taken>,
 ) -> Result<(), AllocError>
-    requires room { HasRoom state.old }
-    requires settled { IsSettled (program_view code.now.program) state.old thread allowance settled }
-    requires typed { (s : ThreadOf) → thread_at state.old thread ≡ Some s → IsTypedBySome (program_view code.now.program) (half_way state.old thread s settled) }
-    requires alone { (s : ThreadOf) → thread_at state.old thread ≡ Some s → TellsAlone (program_view code.now.program) (half_way state.old thread s settled) thread (settled_thread s settled) (is_unnamed (program_view code.now.program) names.now.times.items (thread_view settled.end)) }
-    ensures ok { OnOk result ((s : ThreadOf) → thread_at state.old thread ≡ Some s → Finishes (program_view code.now.program) allowance limit (half_way state.old thread s settled) thread settled.steps (taken_act taken.new) state.new) }
-    ensures message { OnOk result ((k : ℕ) → taken_act taken.new ≡ Some (ActReceive k) → taken_message taken.new ≡ message_at state.old k) }
-    ensures err { OnErr result (state.new ≡ state.old) }
+    requires room { HasRoom state.old.config }
+    requires space { HasPlace state.old limit }
+    requires settled { IsSettled (program_view code.now.program) state.old.config thread allowance settled }
+    requires typed { (s : ThreadOf) → thread_at state.old.config thread ≡ Some s → IsTypedBySome (program_view code.now.program) (half_way state.old.config thread s settled) }
+    requires alone { (s : ThreadOf) → thread_at state.old.config thread ≡ Some s → TellsAlone (program_view code.now.program) (half_way state.old.config thread s settled) thread (settled_thread s settled) (is_unnamed (program_view code.now.program) names.now.times.items (thread_view settled.end)) }
+    ensures ok { OnOk result ((s : ThreadOf) → thread_at state.old.config thread ≡ Some s → Finishes (program_view code.now.program) allowance limit (half_way state.old.config thread s settled) thread settled.steps (taken_act taken.new) state.new.config) }
+    ensures message { OnOk result ((k : ℕ) → taken_act taken.new ≡ Some (ActReceive k) → taken_message taken.new ≡ message_at state.old.config k) }
+    ensures err { OnErr result (state.new.config ≡ state.old.config) }
+    ensures places { state.new.places ≡ state.old.places }
 {
     let Settled { end, gone, steps } = settled;
     if steps < allowance {

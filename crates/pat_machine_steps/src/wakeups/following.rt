@@ -38,9 +38,9 @@ pub fn follow(
     requires space { HasSpace waits.old 2 }
     requires hold { CanHold waits.old 2 }
     requires room { HasRoom waits.old }
-    requires told { TellOfEach (program_view code.now.program) state.now names.now.times.items }
-    requires were { WereNoted (program_view code.now.program) waits.old stepped.now.thread (option_map act_view stepped.now.shared) stepped.now.newcomer state.now stepped.now.named.now (option_map message_view (option_copied stepped.now.received)) }
-    ensures { AreNoted (program_view code.now.program) state.now waits.new.awake.numbers.items waits.new.senders.numbers.items waits.new.sleepers.items }
+    requires told { TellOfEach (program_view code.now.program) state.now.config names.now.times.items }
+    requires were { WereNoted (program_view code.now.program) waits.old stepped.now.thread (option_map act_view stepped.now.shared) stepped.now.newcomer state.now.config stepped.now.named.now (option_map message_view (option_copied stepped.now.received)) }
+    ensures { AreNoted (program_view code.now.program) state.now.config waits.new.awake.numbers.items waits.new.senders.numbers.items waits.new.sleepers.items }
 {
     wake_freeing(waits, code, state, names, stepped.named, stepped.received);
     follow_others(waits, code, state, names, stepped);
@@ -58,9 +58,9 @@ fn follow_others(
     requires space { HasSpace waits.old 2 }
     requires hold { CanHold waits.old 2 }
     requires room { HasRoom waits.old }
-    requires told { TellOfEach (program_view code.now.program) state.now names.now.times.items }
-    requires were { WereWoken (program_view code.now.program) waits.old stepped.now.thread (option_map act_view stepped.now.shared) stepped.now.newcomer state.now }
-    ensures { Follows (program_view code.now.program) state.now waits.new stepped.now.thread }
+    requires told { TellOfEach (program_view code.now.program) state.now.config names.now.times.items }
+    requires were { WereWoken (program_view code.now.program) waits.old stepped.now.thread (option_map act_view stepped.now.shared) stepped.now.newcomer state.now.config }
+    ensures { Follows (program_view code.now.program) state.now.config waits.new stepped.now.thread }
 {
     match stepped.shared {
         Some(act) => follow_act(waits, code, state, names, stepped, act),
@@ -79,9 +79,9 @@ fn follow_act(
     requires space { HasSpace waits.old 2 }
     requires hold { CanHold waits.old 2 }
     requires room { HasRoom waits.old }
-    requires told { TellOfEach (program_view code.now.program) state.now names.now.times.items }
-    requires were { WereWoken (program_view code.now.program) waits.old stepped.now.thread (Some (act_view act)) stepped.now.newcomer state.now }
-    ensures { Follows (program_view code.now.program) state.now waits.new stepped.now.thread }
+    requires told { TellOfEach (program_view code.now.program) state.now.config names.now.times.items }
+    requires were { WereWoken (program_view code.now.program) waits.old stepped.now.thread (Some (act_view act)) stepped.now.newcomer state.now.config }
+    ensures { Follows (program_view code.now.program) state.now.config waits.new stepped.now.thread }
 {
     match act {
         Act::Send => wake_receiver(waits, code, state),
@@ -102,8 +102,8 @@ fn settle(
     requires order { IsInOrder waits.old }
     requires space { HasSpace waits.old 1 }
     requires hold { CanHold waits.old 1 }
-    requires told { TellOfEach (program_view code.now.program) state.now names.now.times.items }
-    ensures { Settles (program_view code.now.program) state.now waits.old thread waits.new }
+    requires told { TellOfEach (program_view code.now.program) state.now.config names.now.times.items }
+    ensures { Settles (program_view code.now.program) state.now.config waits.old thread waits.new }
 {
     match state.thread(thread) {
         Some(own) => settle_there(waits, code, state, names, thread, own),
@@ -123,9 +123,9 @@ fn settle_there(
     requires order { IsInOrder waits.old }
     requires space { HasSpace waits.old 1 }
     requires hold { CanHold waits.old 1 }
-    requires told { TellOfEach (program_view code.now.program) state.now names.now.times.items }
-    requires own { thread_at state.now thread ≡ Some (thread_view own.now) }
-    ensures { Settles (program_view code.now.program) state.now waits.old thread waits.new }
+    requires told { TellOfEach (program_view code.now.program) state.now.config names.now.times.items }
+    requires own { thread_at state.now.config thread ≡ Some (thread_view own.now) }
+    ensures { Settles (program_view code.now.program) state.now.config waits.old thread waits.new }
 {
     match state.awaited(code, names, thread) {
         Some(mailbox) if waits.is_free(mailbox) => waits.put_to_sleep(thread, mailbox),

@@ -17,7 +17,7 @@ use pat_reduce_values::{Executable, Value};
 pub fn wake_receiver(waits: &mut ReadySets, code: &Executable, state: &IndexedConfig)
     requires order { IsInOrder waits.old }
     requires space { HasSpace waits.old 0 }
-    ensures { WakesThose (IsReady (program_view code.now.program) state.now) waits.old waits.new }
+    ensures { WakesThose (IsReady (program_view code.now.program) state.now.config) waits.old waits.new }
 {
     match state.last_mailbox() {
         Some(mailbox) => wake_to_receive(waits, code, state, mailbox),
@@ -29,7 +29,7 @@ pub fn wake_receiver(waits: &mut ReadySets, code: &Executable, state: &IndexedCo
 fn wake_to_receive(waits: &mut ReadySets, code: &Executable, state: &IndexedConfig, mailbox: u32)
     requires order { IsInOrder waits.old }
     requires space { HasSpace waits.old 0 }
-    ensures { WakesThose (ReceivesAt (program_view code.now.program) state.now mailbox) waits.old waits.new }
+    ensures { WakesThose (ReceivesAt (program_view code.now.program) state.now.config mailbox) waits.old waits.new }
 {
     match waits.sleeper(mailbox) {
         Some(thread) if state.receives_last(code, thread) => waits.wake(mailbox),
@@ -49,8 +49,8 @@ pub fn wake_freeing(
 )
     requires order { IsInOrder waits.old }
     requires space { HasSpace waits.old 0 }
-    requires told { TellOfEach (program_view code.now.program) state.now names.now.times.items }
-    ensures { WakesThose (FreesListed (program_view code.now.program) state.now named.now (option_map message_view (option_copied received.entry))) waits.old waits.new }
+    requires told { TellOfEach (program_view code.now.program) state.now.config names.now.times.items }
+    ensures { WakesThose (FreesListed (program_view code.now.program) state.now.config named.now (option_map message_view (option_copied received.entry))) waits.old waits.new }
 {
     wake_named(waits, code, state, names, named);
     match received {
@@ -68,8 +68,8 @@ fn wake_named(
 )
     requires order { IsInOrder waits.old }
     requires space { HasSpace waits.old 0 }
-    requires told { TellOfEach (program_view code.now.program) state.now names.now.times.items }
-    ensures { WakesThose (FreesNamed (program_view code.now.program) state.now named.now) waits.old waits.new }
+    requires told { TellOfEach (program_view code.now.program) state.now.config names.now.times.items }
+    ensures { WakesThose (FreesNamed (program_view code.now.program) state.now.config named.now) waits.old waits.new }
 {
     for mailbox in named {
         wake_to_free(waits, code, state, names, *mailbox);
@@ -85,8 +85,8 @@ fn wake_brought(
 )
     requires order { IsInOrder waits.old }
     requires space { HasSpace waits.old 0 }
-    requires told { TellOfEach (program_view code.now.program) state.now names.now.times.items }
-    ensures { WakesThose (FreesBrought (program_view code.now.program) state.now (map value_view values.now)) waits.old waits.new }
+    requires told { TellOfEach (program_view code.now.program) state.now.config names.now.times.items }
+    ensures { WakesThose (FreesBrought (program_view code.now.program) state.now.config (map value_view values.now)) waits.old waits.new }
 {
     for value in values {
         wake_at_value(waits, code, state, names, value);
@@ -102,8 +102,8 @@ fn wake_at_value(
 )
     requires order { IsInOrder waits.old }
     requires space { HasSpace waits.old 0 }
-    requires told { TellOfEach (program_view code.now.program) state.now names.now.times.items }
-    ensures { WakesThose (FreesValue (program_view code.now.program) state.now (value_view value.now)) waits.old waits.new }
+    requires told { TellOfEach (program_view code.now.program) state.now.config names.now.times.items }
+    ensures { WakesThose (FreesValue (program_view code.now.program) state.now.config (value_view value.now)) waits.old waits.new }
 {
     match value {
         Value::Mailbox(mailbox) => wake_to_free(waits, code, state, names, *mailbox),
@@ -121,8 +121,8 @@ fn wake_to_free(
 )
     requires order { IsInOrder waits.old }
     requires space { HasSpace waits.old 0 }
-    requires told { TellOfEach (program_view code.now.program) state.now names.now.times.items }
-    ensures { WakesThose (FreesAt (program_view code.now.program) state.now mailbox) waits.old waits.new }
+    requires told { TellOfEach (program_view code.now.program) state.now.config names.now.times.items }
+    ensures { WakesThose (FreesAt (program_view code.now.program) state.now.config mailbox) waits.old waits.new }
 {
     match waits.sleeper(mailbox) {
         Some(thread) if state.may_free_now(code, names, thread) => waits.wake(mailbox),

@@ -1,5 +1,5 @@
 -- The queues that a pool holds.
-use Rattle.std.specs.Prelude.{◌≡◌, ℕ, List, [], ◌∷◌, ◌++◌, length, map, get_or, Option, Some, None, IsSome, slice_get}
+use Rattle.std.specs.Prelude.{◌≡◌, ◌+◌, ◌<◌, ◌≤◌, ℕ, List, [], ◌∷◌, ◌++◌, length, map, get_or, Option, Some, None, IsSome, slice_get, vec_len, vec_capacity}
 use Rattle.std.specs.Option.{option_to_list}
 use Rattle.std.specs.List.{AllByRecursion}
 use Rattle.pat_mailboxes.specs.queues.Chained.{IsChained, queue_nodes, nodes_in}
@@ -7,6 +7,7 @@ use Rattle.pat_mailboxes.specs.declared.queues.chains.Chains.{Chains}
 use Rattle.pat_mailboxes.specs.declared.queues.pool.Mark.{Mark}
 use Rattle.pat_mailboxes.specs.declared.queues.pool.Mark.TheVariants.{Live, Closed}
 use Rattle.pat_mailboxes.specs.declared.queues.region.Region.{Region}
+use Rattle.pat_limits.specs.Limits.{number_count}
 
 -- what the nodes hold
 abbrev pub values_of : {T : Type 0} → List (Option T) → List ℕ → List T
@@ -30,8 +31,16 @@ pub record IsHolding {T : Type 0} (chains : Chains) (held : List (Option T)) : T
   pub nodes : length held ≡ length chains.links.items
   pub full : (q : ℕ) → AreFull held (nodes_in (queue_nodes chains) q)
 
-abbrev pub IsRegion : {T : Type 0} → Region T → Type 0
-IsRegion r = IsHolding r.chains r.held.items
+-- the nodes that were made hold what queues have, and there is memory for the fresh ones
+pub record IsRegion {T : Type 0} (r : Region T) : Type 0 where
+  pub holding : IsHolding r.chains r.held.items
+  pub few : vec_len r.held + r.fresh < number_count
+  pub values : vec_len r.held + r.fresh ≤ vec_capacity r.held
+  pub links : vec_len r.chains.links + r.fresh ≤ vec_capacity r.chains.links
+
+-- how many nodes no queue has
+abbrev pub spare_in : {T : Type 0} → Region T → ℕ
+spare_in r = r.chains.spare + r.fresh
 
 -- a queue by its mark
 abbrev pub marked : {T : Type 0} → Mark → List T → Option (List T)

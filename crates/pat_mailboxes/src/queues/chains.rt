@@ -93,6 +93,7 @@ impl Chains {
         ensures chained { IsChained self.new [] }
         ensures spare { self.new.spare + 1 ≡ self.old.spare }
         ensures nodes { length self.new.links.items ≡ length self.old.links.items }
+        ensures capacity { vec_capacity self.new.links ≡ vec_capacity self.old.links }
         ensures queues { queue_nodes self.new ≡ slice_set (queue_nodes self.old) queue (nodes_in (queue_nodes self.old) queue ++ result ∷ []) }
     {
         let node = self.pop_free();
@@ -107,6 +108,7 @@ impl Chains {
         ensures chained { IsChained self.new [] }
         ensures spare { self.new.spare ≡ self.old.spare + 1 }
         ensures nodes { length self.new.links.items ≡ length self.old.links.items }
+        ensures capacity { vec_capacity self.new.links ≡ vec_capacity self.old.links }
         ensures node { result ≡ slice_index (nodes_in (queue_nodes self.old) queue) place }
         ensures queues { queue_nodes self.new ≡ slice_set (queue_nodes self.old) queue (remove (nodes_in (queue_nodes self.old) queue) place) }
     {
@@ -122,6 +124,7 @@ impl Chains {
         ensures chained { IsChained self.new (result ∷ []) }
         ensures spare { self.new.spare + 1 ≡ self.old.spare }
         ensures nodes { length self.new.links.items ≡ length self.old.links.items }
+        ensures capacity { vec_capacity self.new.links ≡ vec_capacity self.old.links }
         ensures queues { queue_nodes self.new ≡ queue_nodes self.old }
     {
         let node = self.first_free;
@@ -137,6 +140,7 @@ impl Chains {
         ensures chained { IsChained self.new [] }
         ensures spare { self.new.spare ≡ self.old.spare + 1 }
         ensures nodes { length self.new.links.items ≡ length self.old.links.items }
+        ensures capacity { vec_capacity self.new.links ≡ vec_capacity self.old.links }
         ensures queues { queue_nodes self.new ≡ queue_nodes self.old }
     {
         self.links[node as usize] = self.first_free;
@@ -151,6 +155,7 @@ impl Chains {
         ensures chained { IsChained self.new [] }
         ensures spare { self.new.spare ≡ self.old.spare }
         ensures nodes { length self.new.links.items ≡ length self.old.links.items }
+        ensures capacity { vec_capacity self.new.links ≡ vec_capacity self.old.links }
         ensures queues { queue_nodes self.new ≡ slice_set (queue_nodes self.old) queue (nodes_in (queue_nodes self.old) queue ++ node ∷ []) }
     {
         let chain = self.queues[queue as usize];
@@ -177,6 +182,7 @@ impl Chains {
         ensures chained { IsChained self.new (result ∷ []) }
         ensures spare { self.new.spare ≡ self.old.spare }
         ensures nodes { length self.new.links.items ≡ length self.old.links.items }
+        ensures capacity { vec_capacity self.new.links ≡ vec_capacity self.old.links }
         ensures node { result ≡ slice_index (nodes_in (queue_nodes self.old) queue) place }
         ensures queues { queue_nodes self.new ≡ slice_set (queue_nodes self.old) queue (remove (nodes_in (queue_nodes self.old) queue) place) }
     {
@@ -195,6 +201,7 @@ impl Chains {
         ensures chained { IsChained self.new (result ∷ []) }
         ensures spare { self.new.spare ≡ self.old.spare }
         ensures nodes { length self.new.links.items ≡ length self.old.links.items }
+        ensures capacity { vec_capacity self.new.links ≡ vec_capacity self.old.links }
         ensures node { result ≡ slice_index (nodes_in (queue_nodes self.old) queue) 0 }
         ensures queues { queue_nodes self.new ≡ slice_set (queue_nodes self.old) queue (remove (nodes_in (queue_nodes self.old) queue) 0) }
     {
@@ -217,6 +224,7 @@ impl Chains {
         ensures chained { IsChained self.new (result ∷ []) }
         ensures spare { self.new.spare ≡ self.old.spare }
         ensures nodes { length self.new.links.items ≡ length self.old.links.items }
+        ensures capacity { vec_capacity self.new.links ≡ vec_capacity self.old.links }
         ensures node { result ≡ slice_index (nodes_in (queue_nodes self.old) queue) place }
         ensures queues { queue_nodes self.new ≡ slice_set (queue_nodes self.old) queue (remove (nodes_in (queue_nodes self.old) queue) place) }
     {

@@ -29,9 +29,9 @@ impl<T> Model for Pool<T> {
 
     ghost Value = { List (Option (List T)) × ℕ };
 
-    ghost use Rattle.pat_mailboxes.specs.queues.Pooled.{contents, queues_of, AreMarked, IsRegion};
+    ghost use Rattle.pat_mailboxes.specs.queues.Pooled.{contents, spare_in, queues_of, AreMarked, IsRegion};
 
-    ghost view = { λ p. (queues_of p.marks.items (contents p.region), p.region.chains.spare) };
+    ghost view = { λ p. (queues_of p.marks.items (contents p.region), spare_in p.region) };
 
     ghost invariant = { λ p. IsRegion p.region × AreMarked p.marks.items (contents p.region) };
 }
@@ -48,7 +48,7 @@ impl<T: Drop> Pool<T> {
         }
     }
 
-    /// A pool without queues, with `n` spare nodes.
+    /// A pool without queues, with `n` spare nodes. It takes memory for them, and touches none of it.
     pub fn fixed(alloc: Global, n: u32) -> Result<Pool<T>, AllocError>
         ensures { IfOk result (λ p. p ≡ ([], n)) }
     {
@@ -57,14 +57,14 @@ impl<T: Drop> Pool<T> {
         Ok(pool)
     }
 
-    /// Makes at least `n` nodes spare. An error changes nothing.
+    /// Makes at least `n` nodes spare. It touches no node. An error changes nothing.
     pub fn reserve(&mut self, n: u32) -> Result<(), AllocError>
         ensures queues { self.new.0 ≡ self.old.0 }
         ensures ok { OnOk result (self.new.1 ≡ max self.old.1 n) }
         ensures err { OnErr result (self.new.1 ≡ self.old.1) }
     {
-        let more = n.saturating_sub(self.region.chains.spare);
-        self.region.add_nodes(more)
+        let more = n.saturating_sub(self.region.spare());
+        self.region.reserve(more)
     }
 
     /// A further queue, which is empty, under a number that isn't live. An error changes nothing.
@@ -173,7 +173,7 @@ impl<T: Drop> Pool<T> {
     pub fn spare(&self) -> u32
         ensures { result ≡ self.now.1 }
     {
-        self.region.chains.spare
+        self.region.spare()
     }
 
     /// Gives back the number of an empty queue. It takes no memory.

@@ -1,8 +1,7 @@
 // Nodes with what they hold.
 ghost use Rattle.std.specs.Prelude.{◌≡◌, ℕ, ◌+◌, ◌<◌, ◌≤◌, List, [], ◌∷◌, ◌++◌, length, map, option_map, get_or, Some, None, IfOk, IsSome, OnOk, OnErr, slice_get, slice_set, remove, vec_len, vec_capacity};
-ghost use Rattle.pat_mailboxes.specs.queues.Pooled.{IsRegion, contents};
+ghost use Rattle.pat_mailboxes.specs.queues.Pooled.{IsRegion, contents, spare_in};
 ghost use Rattle.pat_mailboxes.specs.queues.Queues.{Finds};
-ghost use Rattle.pat_limits.specs.Limits.{number_count};
 
 use crate::queues::Test;
 use crate::queues::chains::Chains;
@@ -15,67 +14,73 @@ pub struct Region<T> {
     pub chains: Chains,
     /// What each node holds.
     pub held: Vec<Option<T>>,
+    /// How many further nodes there is memory for. Each is made when it is needed, so that memory that isn't needed stays untouched.
+    pub fresh: u32,
 }
 
 impl<T: Drop> Region<T> {
     pub(crate) fn new(alloc: Global) -> Region<T>
         ensures region { IsRegion result }
-        ensures none { (contents result ≡ []) × (result.chains.spare ≡ 0) }
+        ensures none { (contents result ≡ []) × (spare_in result ≡ 0) }
     {
         Region {
             chains: Chains::new(alloc),
             held: Vec::new(alloc),
+            fresh: 0,
         }
     }
 
-    /// Adds free nodes. An error changes nothing that contracts see.
-    pub(crate) fn add_nodes(&mut self, more: u32) -> Result<(), AllocError>
+    /// Takes memory for further nodes, which are spare then. An error changes nothing that contracts see.
+    pub(crate) fn reserve(&mut self, more: u32) -> Result<(), AllocError>
         requires { IsRegion self.old }
         ensures region { IsRegion self.new }
         ensures contents { contents self.new ≡ contents self.old }
-        ensures ok { OnOk result (self.new.chains.spare ≡ self.old.chains.spare + more) }
-        ensures err { OnErr result (self.new.chains.spare ≡ self.old.chains.spare) }
+        ensures ok { OnOk result (spare_in self.new ≡ spare_in self.old + more) }
+        ensures err { OnErr result (spare_in self.new ≡ spare_in self.old) }
     {
+        let fresh = self.fresh as usize + more as usize;
         // Nodes are numbered with 32 bits.
-        if self.held.len() + more as usize > u32::MAX as usize {
+        if self.held.len() + fresh > u32::MAX as usize {
             return Err(AllocError);
         }
-        self.make_room(more)?;
-        for _ in 0..more {
-            self.add_node();
-        }
+        self.held.reserve(fresh)?;
+        self.chains.links.reserve(fresh)?;
+        self.fresh = fresh as u32;
         Ok(())
     }
 
-    // Makes room for further nodes.
-    fn make_room(&mut self, more: u32) -> Result<(), AllocError>
-        requires { IsRegion self.old }
-        ensures region { IsRegion self.new }
-        ensures held { self.new.held.items ≡ self.old.held.items }
-        ensures contents { contents self.new ≡ contents self.old }
-        ensures spare { self.new.chains.spare ≡ self.old.chains.spare }
-        ensures values { OnOk result (vec_len self.new.held + more ≤ vec_capacity self.new.held) }
-        ensures links { OnOk result (vec_len self.new.chains.links + more ≤ vec_capacity self.new.chains.links) }
+    /// How many nodes are spare: those that are free, and those that there is memory for.
+    pub(crate) fn spare(&self) -> u32
+        requires { IsRegion self.now }
+        ensures { result ≡ spare_in self.now }
     {
-        self.held.reserve(more as usize)?;
-        self.chains.links.reserve(more as usize)?;
-        Ok(())
+        self.chains.spare + self.fresh
     }
 
-    // Adds a free node, for which there is room.
-    fn add_node(&mut self)
+    // Makes a node, if none is free.
+    fn ready_node(&mut self)
         requires region { IsRegion self.old }
-        requires fits { vec_len self.old.held + 1 < number_count }
-        requires values { vec_len self.old.held < vec_capacity self.old.held }
-        requires links { vec_len self.old.chains.links < vec_capacity self.old.chains.links }
+        requires spare { 0 < spare_in self.old }
         ensures region { IsRegion self.new }
         ensures contents { contents self.new ≡ contents self.old }
-        ensures spare { self.new.chains.spare ≡ self.old.chains.spare + 1 }
-        ensures nodes { vec_len self.new.held ≡ vec_len self.old.held + 1 }
-        ensures all { vec_len self.new.chains.links ≡ vec_len self.old.chains.links + 1 }
-        ensures values { vec_capacity self.new.held ≡ vec_capacity self.old.held }
-        ensures links { vec_capacity self.new.chains.links ≡ vec_capacity self.old.chains.links }
+        ensures spare { spare_in self.new ≡ spare_in self.old }
+        ensures free { 0 < self.new.chains.spare }
     {
+        if self.chains.spare == 0 {
+            self.make_node();
+        }
+    }
+
+    // Makes a node, which is free.
+    fn make_node(&mut self)
+        requires region { IsRegion self.old }
+        requires fresh { 0 < self.old.fresh }
+        ensures region { IsRegion self.new }
+        ensures contents { contents self.new ≡ contents self.old }
+        ensures spare { spare_in self.new ≡ spare_in self.old }
+        ensures free { 0 < self.new.chains.spare }
+    {
+        self.fresh -= 1;
         self.held.push_reserved(None);
         self.chains.add_node();
     }
@@ -84,7 +89,7 @@ impl<T: Drop> Region<T> {
     pub(crate) fn add_queue(&mut self) -> Result<(), AllocError>
         requires { IsRegion self.old }
         ensures region { IsRegion self.new }
-        ensures spare { self.new.chains.spare ≡ self.old.chains.spare }
+        ensures spare { spare_in self.new ≡ spare_in self.old }
         ensures ok { OnOk result (contents self.new ≡ contents self.old ++ [] ∷ []) }
         ensures err { OnErr result (contents self.new ≡ contents self.old) }
     {
@@ -95,11 +100,12 @@ impl<T: Drop> Region<T> {
     pub(crate) fn push(&mut self, queue: u32, value: T)
         requires region { IsRegion self.old }
         requires there { queue < length (contents self.old) }
-        requires spare { 0 < self.old.chains.spare }
+        requires spare { 0 < spare_in self.old }
         ensures region { IsRegion self.new }
-        ensures spare { self.new.chains.spare + 1 ≡ self.old.chains.spare }
+        ensures spare { spare_in self.new + 1 ≡ spare_in self.old }
         ensures contents { contents self.new ≡ slice_set (contents self.old) queue (get_or (contents self.old) queue [] ++ value ∷ []) }
     {
+        self.ready_node();
         let node = self.chains.give(queue);
         self.held[node as usize] = Some(value);
     }
@@ -109,7 +115,7 @@ impl<T: Drop> Region<T> {
         requires region { IsRegion self.old }
         requires there { place < length (get_or (contents self.old) queue []) }
         ensures region { IsRegion self.new }
-        ensures spare { self.new.chains.spare ≡ self.old.chains.spare + 1 }
+        ensures spare { spare_in self.new ≡ spare_in self.old + 1 }
         ensures value { slice_get (get_or (contents self.old) queue []) place ≡ Some result }
         ensures contents { contents self.new ≡ slice_set (contents self.old) queue (remove (get_or (contents self.old) queue []) place) }
     {
@@ -180,6 +186,7 @@ fn take_out<T>(held: &mut Vec<Option<T>>, node: u32) -> Option<T>
     requires { node < vec_len held.old }
     ensures value { result ≡ get_or held.old.items node None }
     ensures after { held.new.items ≡ slice_set held.old.items node None }
+    ensures capacity { vec_capacity held.new ≡ vec_capacity held.old }
 {
     mem::replace(&mut held[node as usize], None)
 }

@@ -25,8 +25,8 @@ note_threads-requires-clause-told c =
     let t = c.args.job.thread in
     let n = c.args.job.allowance in
     let w = c.requires.went.1 in
-    let st = commit_stands p m.budget m.limit n c.requires.went.0 m.state es m.left m.out.items (entry_of c.args.worker c.args.job c.args.steps (taken_act c.args.taken.now)) w.stands w.out w.commit in
-    counts_tell p m.state m.names.times.items st.well st.facts.typed.typed.numbers.ordered st.facts.typed w.counted
+    let st = commit_stands p m.budget m.limit n c.requires.went.0 m.state.config es m.left m.out.items (entry_of c.args.worker c.args.job c.args.steps (taken_act c.args.taken.now)) w.stands w.out w.commit in
+    counts_tell p m.state.config m.names.times.items st.well st.facts.typed.typed.numbers.ordered st.facts.typed w.counted
 
 pub note_threads-requires-clause-were : goal.note_threads-requires-clause-were
 note_threads-requires-clause-were c =
@@ -46,7 +46,7 @@ note_threads-requires-clause-were c =
         ordered = w.stands.facts.typed.typed.numbers.ordered;
         there = w.commit.there;
         local = w.commit.local.taken;
-        run = commit_run p n m.limit c.requires.went.0 m.state e w.commit;
+        run = commit_run p n m.limit c.requires.went.0 m.state.config e w.commit;
         next = w.next;
       };
       noted = w.noted;
@@ -66,8 +66,8 @@ overflow_sub-self c =
     let n = c.args.job.allowance in
     let w = c.requires.went.1 in
     let e : CodeEntry = record { worker = c.args.worker; thread = t; local = c.args.steps; shared = c.act_of-shared.result } in
-    let j = subst (λ o. IsCommit p n m.limit c.requires.went.0 (entry_of c.args.worker c.args.job c.args.steps o) m.state) (sym c.act_of-shared.ensures) w.commit in
-    subst (λ k. k ≤ n) (sym c.steps_of.ensures) (commit_within p n m.limit c.requires.went.0 m.state (entry_view e) j)
+    let j = subst (λ o. IsCommit p n m.limit c.requires.went.0 (entry_of c.args.worker c.args.job c.args.steps o) m.state.config) (sym c.act_of-shared.ensures) w.commit in
+    subst (λ k. k ≤ n) (sym c.steps_of.ensures) (commit_within p n m.limit c.requires.went.0 m.state.config (entry_view e) j)
 
 pub overflow_sub-self-2 : goal.overflow_sub-self-2
 overflow_sub-self-2 c = part_lent c.args.self.now.out.items c.args.self.now.lent c.args.job.thread c.args.job.allowance c.requires.went.1.lent c.requires.went.1.out
@@ -81,9 +81,9 @@ returns-clause-kept c =
     let n = c.args.job.allowance in
     let w = c.requires.went.1 in
     let e : CodeEntry = record { worker = c.args.worker; thread = t; local = c.args.steps; shared = c.act_of-shared.result } in
-    let j = subst (λ o. IsCommit p n m.limit c.requires.went.0 (entry_of c.args.worker c.args.job c.args.steps o) m.state) (sym c.act_of-shared.ensures) w.commit in
+    let j = subst (λ o. IsCommit p n m.limit c.requires.went.0 (entry_of c.args.worker c.args.job c.args.steps o) m.state.config) (sym c.act_of-shared.ensures) w.commit in
     let a = option_map act_view c.act_of-shared.result in
-    let d = m.state in
+    let d = m.state.config in
     let st = commit_stands p m.budget m.limit n c.requires.went.0 d es m.left m.out.items (entry_view e) w.stands w.out j in
     let grown : map entry_view c.note-index.new.history.items ≡ noted es (entry_view e) = ap (map entry_view) c.note-index.ensures.history ∙ noted_view m.history.items e in
     let outs : c.take_back.new.out.items ≡ committed_out m.out.items t a = c.take_back.ensures in
@@ -95,6 +95,7 @@ returns-clause-kept c =
           subst (λ (h : List Entry). MachineInvariant p m.budget m.limit d h (m.left + (n - c.steps_of.result)) c.take_back.new.out.items) (sym grown)
           (subst (λ k. MachineInvariant p m.budget m.limit d (noted es (entry_view e)) (m.left + (n - k)) c.take_back.new.out.items) (sym c.steps_of.ensures)
           (subst (λ (o : Out). MachineInvariant p m.budget m.limit d (noted es (entry_view e)) (m.left + (n - length (entry_steps (entry_view e)))) o) (sym outs) st));
+      places = w.places;
       counted = w.counted;
       noted = c.note_threads.ensures;
       lent = lent ∙ ap allowances (sym outs);
@@ -107,9 +108,9 @@ returns-clause-committed c = λ before w.
     let t = c.args.job.thread in
     let n = c.args.job.allowance in
     let e : CodeEntry = record { worker = c.args.worker; thread = t; local = c.args.steps; shared = c.act_of-shared.result } in
-    let j = subst (λ o. IsCommit p n m.limit before (entry_of c.args.worker c.args.job c.args.steps o) m.state) (sym c.act_of-shared.ensures) w.commit in
+    let j = subst (λ o. IsCommit p n m.limit before (entry_of c.args.worker c.args.job c.args.steps o) m.state.config) (sym c.act_of-shared.ensures) w.commit in
     let a = option_map act_view c.act_of-shared.result in
-    let d = m.state in
+    let d = m.state.config in
     let grown : c.note-index.new.history.items ≡ noted_in m.history.items e = c.note-index.ensures.history in
     let outs : c.take_back.new.out.items ≡ committed_out m.out.items t a = c.take_back.ensures in
     let place : c.note-index.result ≡ place_of m.history.items e = c.note-index.ensures.place in

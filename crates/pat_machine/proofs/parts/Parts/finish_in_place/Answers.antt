@@ -1,4 +1,4 @@
-use Rattle.std.proofs.Common.{◌≡◌, Some, ◌-◌, ◌+◌, map, refl, sym, subst, length}
+use Rattle.std.proofs.Common.{◌≡◌, Some, ◌-◌, ◌+◌, map, refl, sym, subst, length, ◌∙◌}
 use Rattle.pat_semantics_spec.specs.Runs.{Entry, entry_steps, run_from, shared_step}
 use Rattle.pat_core.specs.Views.{program_view}
 use Rattle.pat_reduce.specs.Views.{entry_view}
@@ -15,6 +15,7 @@ use Rattle.pat_machine.specs.Shown.{program_of}
 use Rattle.pat_machine.specs.Parted.{shown}
 use Rattle.pat_machine.specs.Gives.{IsLent, Committed}
 use Rattle.pat_machine.proofs.Finishing.{entry_of, went_after}
+use Rattle.pat_machine.proofs.Lending.{place_there}
 use Rattle.pat_machine.proofs.Naming.{can_be_counted}
 use Rattle.pat_machine.proofs.parts.Parts.finish_in_place.Goals as goal
 
@@ -28,7 +29,14 @@ share_in_place-requires-clause-ordered c = c.in_ok-prepare.ensures.kept.stands.f
 pub share_in_place-requires-clause-room : goal.share_in_place-requires-clause-room
 share_in_place-requires-clause-room c =
     let m = c.prepare.new.self in
-    room_of (program_view m.code.program) m.budget m.limit m.state (map entry_view m.history.items) m.left m.out.items c.in_ok-prepare.ensures.kept.stands
+    room_of (program_view m.code.program) m.budget m.limit m.state.config (map entry_view m.history.items) m.left m.out.items c.in_ok-prepare.ensures.kept.stands
+
+pub share_in_place-requires-clause-space : goal.share_in_place-requires-clause-space
+share_in_place-requires-clause-space c =
+    let m = c.prepare.new.self in
+    let kept = c.in_ok-prepare.ensures.kept in
+    let lent = subst (λ x. IsLent x c.args.job) (sym c.in_ok-prepare.ensures.same) c.requires.lent in
+    place_there (program_view m.code.program) m.budget m.limit m.state (map entry_view m.history.items) m.left m.out.items c.args.job.thread c.args.job.allowance kept.stands kept.places lent
 
 pub share_in_place-requires-clause-counted : goal.share_in_place-requires-clause-counted
 share_in_place-requires-clause-counted c = c.in_ok-prepare.ensures.kept.counted
@@ -36,7 +44,7 @@ share_in_place-requires-clause-counted c = c.in_ok-prepare.ensures.kept.counted
 pub share_in_place-requires-clause-before : goal.share_in_place-requires-clause-before
 share_in_place-requires-clause-before c =
     let m = c.prepare.new.self in
-    can_be_counted (program_view m.code.program) m.budget m.limit m.state (map entry_view m.history.items) m.left m.out.items c.in_ok-prepare.ensures.kept.stands
+    can_be_counted (program_view m.code.program) m.budget m.limit m.state.config (map entry_view m.history.items) m.left m.out.items c.in_ok-prepare.ensures.kept.stands
 
 pub enter-requires-clause-room : goal.enter-requires-clause-room
 enter-requires-clause-room c =
@@ -60,8 +68,8 @@ share_in_place-requires-clause-after c = λ a d f.
     let lent = subst (λ x. IsLent x c.args.job) (sym c.in_ok-prepare.ensures.same) c.requires.lent in
     let h = subst (λ x. StandsStill (program_of x) x.config t) (sym c.in_ok-prepare.ensures.same) c.requires.still in
     let e = entry_of c.args.worker c.args.job 0 a in
-    let commit = commit_in_place p m.state t h c.args.worker n m.limit d a (kept.stands.table.some t n lent) f in
-    can_be_counted p m.budget m.limit d (noted es e) (m.left + (n - length (entry_steps e))) (committed_out m.out.items t a) (commit_stands p m.budget m.limit n m.state d es m.left m.out.items e kept.stands lent commit)
+    let commit = commit_in_place p m.state.config t h c.args.worker n m.limit d a (kept.stands.table.some t n lent) f in
+    can_be_counted p m.budget m.limit d (noted es e) (m.left + (n - length (entry_steps e))) (committed_out m.out.items t a) (commit_stands p m.budget m.limit n m.state.config d es m.left m.out.items e kept.stands lent commit)
 
 pub enter-requires-clause-went : goal.enter-requires-clause-went
 enter-requires-clause-went c =
@@ -73,10 +81,10 @@ enter-requires-clause-went c =
     let kept = c.in_ok-prepare.ensures.kept in
     let lent = subst (λ x. IsLent x c.args.job) (sym c.in_ok-prepare.ensures.same) c.requires.lent in
     let h = subst (λ x. StandsStill (program_of x) x.config t) (sym c.in_ok-prepare.ensures.same) c.requires.still in
-    let d = c.share_in_place.new.state in
-    let commit = commit_in_place p m.state t h c.args.worker n m.limit d (taken_act c.share_in_place.new.taken) (kept.stands.table.some t n lent) c.in_ok-share_in_place.ensures.ok in
-    let run = subst (λ x. run_from p x (shared_step t (taken_act c.share_in_place.new.taken)) ≡ Some d) (sym (with_same m.state t h.kept h.there)) c.in_ok-share_in_place.ensures.ok.taken in
-    (m.state, went_after _ m.state c.args.worker c.args.job 0 c.threads_made-newcomer.result 0 h.kept (top_of 0 h.kept) (taken_act c.share_in_place.new.taken) (taken_message c.share_in_place.new.taken) kept.stands kept.lent kept.noted lent c.threads_made-newcomer.ensures commit h.there run c.in_ok-share_in_place.ensures.counted c.in_ok-prepare.ensures.listed c.in_ok-share_in_place.ensures.message)
+    let d = c.share_in_place.new.state.config in
+    let commit = commit_in_place p m.state.config t h c.args.worker n m.limit d (taken_act c.share_in_place.new.taken) (kept.stands.table.some t n lent) c.in_ok-share_in_place.ensures.ok in
+    let run = subst (λ x. run_from p x (shared_step t (taken_act c.share_in_place.new.taken)) ≡ Some d) (sym (with_same m.state.config t h.kept h.there)) c.in_ok-share_in_place.ensures.ok.taken in
+    (m.state.config, went_after _ m.state.config c.args.worker c.args.job 0 c.threads_made-newcomer.result 0 h.kept (top_of 0 h.kept) (taken_act c.share_in_place.new.taken) (taken_message c.share_in_place.new.taken) kept.stands kept.lent kept.noted lent c.threads_made-newcomer.ensures commit h.there run (c.in_ok-share_in_place.ensures.places ∙ kept.places) c.in_ok-share_in_place.ensures.counted c.in_ok-prepare.ensures.listed c.in_ok-share_in_place.ensures.message)
 
 pub returns-clause-ok : goal.returns-clause-ok
 returns-clause-ok c =
@@ -88,8 +96,8 @@ returns-clause-ok c =
     let kept = c.in_ok-prepare.ensures.kept in
     let lent = subst (λ x. IsLent x c.args.job) (sym c.in_ok-prepare.ensures.same) c.requires.lent in
     let h = subst (λ x. StandsStill (program_of x) x.config t) (sym c.in_ok-prepare.ensures.same) c.requires.still in
-    let d = c.share_in_place.new.state in
-    let commit = commit_in_place p m.state t h c.args.worker n m.limit d (taken_act c.share_in_place.new.taken) (kept.stands.table.some t n lent) c.in_ok-share_in_place.ensures.ok in
-    let run = subst (λ x. run_from p x (shared_step t (taken_act c.share_in_place.new.taken)) ≡ Some d) (sym (with_same m.state t h.kept h.there)) c.in_ok-share_in_place.ensures.ok.taken in
+    let d = c.share_in_place.new.state.config in
+    let commit = commit_in_place p m.state.config t h c.args.worker n m.limit d (taken_act c.share_in_place.new.taken) (kept.stands.table.some t n lent) c.in_ok-share_in_place.ensures.ok in
+    let run = subst (λ x. run_from p x (shared_step t (taken_act c.share_in_place.new.taken)) ≡ Some d) (sym (with_same m.state.config t h.kept h.there)) c.in_ok-share_in_place.ensures.ok.taken in
     subst (λ x. Committed x c.args.worker c.args.job c.enter.result (shown c.enter.new.self)) c.in_ok-prepare.ensures.same
-    (c.enter.ensures.committed m.state (went_after _ m.state c.args.worker c.args.job 0 c.threads_made-newcomer.result 0 h.kept (top_of 0 h.kept) (taken_act c.share_in_place.new.taken) (taken_message c.share_in_place.new.taken) kept.stands kept.lent kept.noted lent c.threads_made-newcomer.ensures commit h.there run c.in_ok-share_in_place.ensures.counted c.in_ok-prepare.ensures.listed c.in_ok-share_in_place.ensures.message))
+    (c.enter.ensures.committed m.state.config (went_after _ m.state.config c.args.worker c.args.job 0 c.threads_made-newcomer.result 0 h.kept (top_of 0 h.kept) (taken_act c.share_in_place.new.taken) (taken_message c.share_in_place.new.taken) kept.stands kept.lent kept.noted lent c.threads_made-newcomer.ensures commit h.there run (c.in_ok-share_in_place.ensures.places ∙ kept.places) c.in_ok-share_in_place.ensures.counted c.in_ok-prepare.ensures.listed c.in_ok-share_in_place.ensures.message))

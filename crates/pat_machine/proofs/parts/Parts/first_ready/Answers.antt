@@ -11,4 +11,4 @@ first_ready-requires c = record { told = told c.args.self.now c.requires }
 pub returns : goal.returns
 returns c =
     let m = c.args.self.now in
-    c.first_ready.ensures ∙ ap (λ o. find (is_ready (program_view m.code.program) m.state m.limit o) c.args.threads.now) c.as_slice.ensures.value
+    c.first_ready.ensures ∙ ap (λ o. find (is_ready (program_view m.code.program) m.state.config m.limit o) c.args.threads.now) c.as_slice.ensures.value

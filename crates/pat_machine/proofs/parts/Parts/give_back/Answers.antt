@@ -16,7 +16,8 @@ returns-then-is_lent-clause-kept c =
     let all = c.requires.lent in
     let without = allowances_without m.out.items c.args.job.thread c.args.job.allowance is in
     record {
-      stands = give_back_stands (program_view m.code.program) m.budget m.limit m.state (map entry_view m.history.items) m.left m.out.items c.requires.stands c.args.job.thread c.args.job.allowance is;
+      stands = give_back_stands (program_view m.code.program) m.budget m.limit m.state.config (map entry_view m.history.items) m.left m.out.items c.requires.stands c.args.job.thread c.args.job.allowance is;
+      places = c.requires.places;
       counted = c.requires.counted;
       noted = c.requires.noted;
       lent = omega arith;

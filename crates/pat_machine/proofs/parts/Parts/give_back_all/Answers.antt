@@ -11,7 +11,7 @@ pub returns-then-self-eq0-clause-back : goal.returns-then-self-eq0-clause-back
 returns-then-self-eq0-clause-back c =
     let m = c.args.self.now in
     let none : allowances m.out.items ≡ 0 = sym c.requires.lent ∙ c.if-self-eq0.true in
-    let by : ℕ → Out → Shown = λ k o. record { named = record { program = m.code.program; budget = m.budget; limit = m.limit }; config = m.state; history = m.history.items; left = k; out = o; last = m.last } in
+    let by : ℕ → Out → Shown = λ k o. record { named = record { program = m.code.program; budget = m.budget; limit = m.limit }; config = m.state.config; history = m.history.items; left = k; out = o; last = m.last } in
     let same : m.left ≡ m.left + allowances m.out.items = omega arith in
     ap (λ k. by k m.out.items) same ∙ ap (by (m.left + allowances m.out.items)) (all_in_already m.out.items none c.requires.stands.table.some)
 
@@ -22,9 +22,10 @@ returns-clause-kept c =
     let es = map entry_view m.history.items in
     record {
       stands =
-          subst (λ k. MachineInvariant p m.budget m.limit m.state es (m.left + k) c.clear.new.out.items) (sym c.requires.lent)
-          (subst (λ (o : Out). MachineInvariant p m.budget m.limit m.state es (m.left + allowances m.out.items) o) (sym c.clear.ensures)
-          (give_all_stands p m.budget m.limit m.state es m.left m.out.items c.requires.stands));
+          subst (λ k. MachineInvariant p m.budget m.limit m.state.config es (m.left + k) c.clear.new.out.items) (sym c.requires.lent)
+          (subst (λ (o : Out). MachineInvariant p m.budget m.limit m.state.config es (m.left + allowances m.out.items) o) (sym c.clear.ensures)
+          (give_all_stands p m.budget m.limit m.state.config es m.left m.out.items c.requires.stands));
+      places = c.requires.places;
       counted = c.requires.counted;
       noted = c.requires.noted;
       lent = sym (nothing_lent (length m.out.items)) ∙ ap allowances (sym c.clear.ensures);

@@ -16,8 +16,8 @@ pub prospect-requires-clause-candidates : goal.prospect-requires-clause-candidat
 prospect-requires-clause-candidates c =
     let m = c.args.self.now in
     let p = program_view m.code.program in
-    subst (λ l. AreCandidates p m.state l c.as_slice-senders.result.now) (sym c.as_slice-others.ensures.value)
-    (subst (AreCandidates p m.state m.waits.awake.numbers.items) (sym c.as_slice-senders.ensures.value) (candidates p m.state m.waits c.requires.noted))
+    subst (λ l. AreCandidates p m.state.config l c.as_slice-senders.result.now) (sym c.as_slice-others.ensures.value)
+    (subst (AreCandidates p m.state.config m.waits.awake.numbers.items) (sym c.as_slice-senders.ensures.value) (candidates p m.state.config m.waits c.requires.noted))
 
 pub returns-in-Stuck : goal.returns-in-Stuck
 returns-in-Stuck c = stuck c.outcome_laws.ensures.outcomes c.args.self.now c.requires c.if-self-gt0.false c.in-Stuck.ensures

@@ -14,5 +14,5 @@ returns-then-is_top c =
     let x = thread_view c.in-Some.kept.now in
     let there = sym c.thread.ensures ∙ ap (λ o. option_map thread_view (option_copied o)) c.in-Some.is in
     let on_top = subst (λ w. IsLocalRun p a w c.args.run.steps (thread_view c.args.run.end)) (c.is_top.ensures.same c.if-is_top.true) c.requires.run in
-    subst (λ s. IsSettled p c.args.self.now.state c.args.job.thread a s) (sym c.ended.ensures)
+    subst (λ s. IsSettled p c.args.self.now.state.config c.args.job.thread a s) (sym c.ended.ensures)
     (record { kept = x; there = there; run = run_on_enough p a x (record { end = c.args.run.end; gone = a; steps = c.args.run.steps }) refl on_top })

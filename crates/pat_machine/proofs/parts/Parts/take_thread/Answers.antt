@@ -13,19 +13,19 @@ pub returns-then-not-is_ready-clause-taken : goal.returns-then-not-is_ready-clau
 returns-then-not-is_ready-clause-taken c =
     let m = c.args.self.now in
     let p = program_view m.code.program in
-    let is : is_ready p m.state m.limit m.out.items c.args.thread ≡ false = ap (λ o. is_ready p m.state m.limit o c.args.thread) (sym c.as_slice.ensures.value) ∙ sym c.is_ready.ensures ∙ c.if-not-is_ready.true in
-    (λ may. clash (passes_ready p m.state m.limit m.out.items c.args.thread may) is, refl)
+    let is : is_ready p m.state.config m.limit m.out.items c.args.thread ≡ false = ap (λ o. is_ready p m.state.config m.limit o c.args.thread) (sym c.as_slice.ensures.value) ∙ sym c.is_ready.ensures ∙ c.if-not-is_ready.true in
+    (λ may. clash (passes_ready p m.state.config m.limit m.out.items c.args.thread may) is, refl)
 
 pub returns-then-self-eq0-clause-taken : goal.returns-then-self-eq0-clause-taken
 returns-then-self-eq0-clause-taken c =
     let m = c.args.self.now in
     let p = program_view m.code.program in
-    let is : is_ready p m.state m.limit m.out.items c.args.thread ≡ true = ap (λ o. is_ready p m.state m.limit o c.args.thread) (sym c.as_slice.ensures.value) ∙ sym c.is_ready.ensures ∙ c.if-not-is_ready.false in
-    (ready_passes p m.state m.limit m.out.items c.args.thread is, c.if-self-eq0.true, refl)
+    let is : is_ready p m.state.config m.limit m.out.items c.args.thread ≡ true = ap (λ o. is_ready p m.state.config m.limit o c.args.thread) (sym c.as_slice.ensures.value) ∙ sym c.is_ready.ensures ∙ c.if-not-is_ready.false in
+    (ready_passes p m.state.config m.limit m.out.items c.args.thread is, c.if-self-eq0.true, refl)
 
 pub lend-requires-clause-ready : goal.lend-requires-clause-ready
 lend-requires-clause-ready c =
     let m = c.args.self.now in
     let p = program_view m.code.program in
-    let is : is_ready p m.state m.limit m.out.items c.args.thread ≡ true = ap (λ o. is_ready p m.state m.limit o c.args.thread) (sym c.as_slice.ensures.value) ∙ sym c.is_ready.ensures ∙ c.if-not-is_ready.false in
-    ready_passes p m.state m.limit m.out.items c.args.thread is
+    let is : is_ready p m.state.config m.limit m.out.items c.args.thread ≡ true = ap (λ o. is_ready p m.state.config m.limit o c.args.thread) (sym c.as_slice.ensures.value) ∙ sym c.is_ready.ensures ∙ c.if-not-is_ready.false in
+    ready_passes p m.state.config m.limit m.out.items c.args.thread is

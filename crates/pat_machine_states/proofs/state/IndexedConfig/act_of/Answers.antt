@@ -15,5 +15,5 @@ returns-in-Some c t tells =
     let r = redex p (control_view c.args.state.now.control) in
     let g = guard_view c.in-Some.guard in
     let at : guard_at r ≡ Some g = sym c.guard_of.ensures ∙ ap (option_map guard_view) c.in-Some.is in
-    c.guard_act.ensures t (tells_guard p c.args.self.now t (thread_view c.args.state.now) c.args.counted g at tells)
-    ∙ sym (ap (λ o. act_at c.args.self.now t o (plain_act p r (map frame_view c.args.state.now.frames))) at)
+    c.guard_act.ensures t (tells_guard p c.args.self.now.config t (thread_view c.args.state.now) c.args.counted g at tells)
+    ∙ sym (ap (λ o. act_at c.args.self.now.config t o (plain_act p r (map frame_view c.args.state.now.frames))) at)

@@ -15,7 +15,7 @@ use Rattle.pat_machine_states.proofs.state.IndexedConfig.awaited.Goals as goal
 pub returns-in-None : goal.returns-in-None
 returns-in-None c =
     let p = program_view c.args.code.now.program in
-    let d = c.args.self.now in
+    let d = c.args.self.now.config in
     let t = c.args.thread in
     let s = thread_view c.in_ok-state.state.now in
     let g = guard_view c.in_ok-guard.guard in

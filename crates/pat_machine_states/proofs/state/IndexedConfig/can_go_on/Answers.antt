@@ -10,4 +10,4 @@ pub returns : goal.returns
 returns c =
     c.is_some.ensures
     ∙ sym (some_map act_view c.open_act.result)
-    ∙ open_tells (program_view c.args.code.now.program) c.args.self.now c.args.limit c.args.thread (option_map act_view c.open_act.result) c.open_act.ensures
+    ∙ open_tells (program_view c.args.code.now.program) c.args.self.now.config c.args.limit c.args.thread (option_map act_view c.open_act.result) c.open_act.ensures

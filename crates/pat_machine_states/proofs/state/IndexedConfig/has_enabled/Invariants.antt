@@ -7,4 +7,4 @@ use Rattle.pat_machine_states.proofs.state.IndexedConfig.has_enabled.Given as go
 -- what is left decides it
 abbrev pub invariant-loop-thread : goal.invariant-loop-thread
 invariant-loop-thread l =
-    list_any (can_step_thread (program_view l.code.program) l.self) (drop l.thread-index l.threads) ≡ list_any (can_step_thread (program_view l.code.program) l.self) l.threads
+    list_any (can_step_thread (program_view l.code.program) l.self.config) (drop l.thread-index l.threads) ≡ list_any (can_step_thread (program_view l.code.program) l.self.config) l.threads

@@ -7,4 +7,4 @@ use Rattle.pat_machine_states.proofs.state.IndexedConfig.has_open.Given as goal
 -- what is left decides it
 abbrev pub invariant-loop-thread : goal.invariant-loop-thread
 invariant-loop-thread l =
-    list_any (can_go_on (program_view l.code.program) l.self l.limit) (drop l.thread-index l.threads) ≡ list_any (can_go_on (program_view l.code.program) l.self l.limit) l.threads
+    list_any (can_go_on (program_view l.code.program) l.self.config l.limit) (drop l.thread-index l.threads) ≡ list_any (can_go_on (program_view l.code.program) l.self.config l.limit) l.threads

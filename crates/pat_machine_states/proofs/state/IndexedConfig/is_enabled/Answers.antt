@@ -10,4 +10,4 @@ pub returns : goal.returns
 returns c =
     c.is_some.ensures
     ∙ sym (some_map act_view c.enabled_act.result)
-    ∙ enabled_tells (program_view c.args.code.now.program) c.args.self.now c.args.thread (option_map act_view c.enabled_act.result) c.enabled_act.ensures.enabled
+    ∙ enabled_tells (program_view c.args.code.now.program) c.args.self.now.config c.args.thread (option_map act_view c.enabled_act.result) c.enabled_act.ensures.enabled

@@ -2,13 +2,14 @@ use Rattle.std.proofs.Common.{length, Some, sym, ap, ◌∙◌, arith}
 use Rattle.pat_semantics_spec.specs.Configs.{Config}
 use Rattle.pat_machine_indexes.proofs.Boxed.{none_pending}
 use Rattle.pat_machine_states.proofs.Awaiting.{some_there, last_there}
+use Rattle.pat_machine_states.proofs.Seen.{config_of}
 use Rattle.pat_machine_states.proofs.state.IndexedConfig.last_message.Goals as goal
 
 pub returns-then-not-is_live : goal.returns-then-not-is_live
 returns-then-not-is_live c ms m last next =
     let i = c.self.inside in
     let b = c.in_ok-mailbox.mailbox in
-    let some = some_there i.placed i.latest i.mailboxes.mailboxes c.self.invariant ms m (ap (λ (d : Config). d.messages) c.self.view_is ∙ last) (next ∙ sym (ap (λ (d : Config). d.next_message) c.self.view_is)) b c.in_ok-mailbox.was in
+    let some = some_there i.placed i.latest i.mailboxes.mailboxes c.self.invariant ms m (ap (λ (d : Config). d.messages) (config_of c.self.view_is) ∙ last) (next ∙ sym (ap (λ (d : Config). d.next_message) (config_of c.self.view_is))) b c.in_ok-mailbox.was in
     let none = ap length (none_pending i.mailboxes.mailboxes b (sym c.is_live.ensures ∙ c.if-not-is_live.true)) in
     absurd (omega arith)
 
@@ -16,7 +17,7 @@ pub returns-then-count-eq0 : goal.returns-then-count-eq0
 returns-then-count-eq0 c ms m last next =
     let i = c.self.inside in
     let b = c.in_ok-mailbox.mailbox in
-    let some = some_there i.placed i.latest i.mailboxes.mailboxes c.self.invariant ms m (ap (λ (d : Config). d.messages) c.self.view_is ∙ last) (next ∙ sym (ap (λ (d : Config). d.next_message) c.self.view_is)) b c.in_ok-mailbox.was in
+    let some = some_there i.placed i.latest i.mailboxes.mailboxes c.self.invariant ms m (ap (λ (d : Config). d.messages) (config_of c.self.view_is) ∙ last) (next ∙ sym (ap (λ (d : Config). d.next_message) (config_of c.self.view_is))) b c.in_ok-mailbox.was in
     let none = sym c.len-count.ensures ∙ c.if-count-eq0.true in
     absurd (omega arith)
 
@@ -27,4 +28,4 @@ returns c ms m last next =
     let count = c.len-count.ensures in
     let some = c.if-count-eq0.false in
     ap Some
-    (last_there i.placed i.latest i.mailboxes.mailboxes c.self.invariant ms m (ap (λ (d : Config). d.messages) c.self.view_is ∙ last) (next ∙ sym (ap (λ (d : Config). d.next_message) c.self.view_is)) b c.in_ok-mailbox.was _ c.get.result.now (omega arith) c.get.ensures)
+    (last_there i.placed i.latest i.mailboxes.mailboxes c.self.invariant ms m (ap (λ (d : Config). d.messages) (config_of c.self.view_is) ∙ last) (next ∙ sym (ap (λ (d : Config). d.next_message) (config_of c.self.view_is))) b c.in_ok-mailbox.was _ c.get.result.now (omega arith) c.get.ensures)

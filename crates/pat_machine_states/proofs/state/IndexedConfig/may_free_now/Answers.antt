@@ -15,7 +15,7 @@ use Rattle.pat_machine_states.proofs.state.IndexedConfig.may_free_now.Goals as g
 pub returns-in-Some-guard_of : goal.returns-in-Some-guard_of
 returns-in-Some-guard_of c =
     let p = program_view c.args.code.now.program in
-    let d = c.args.self.now in
+    let d = c.args.self.now.config in
     let t = c.args.thread in
     let s = thread_view c.in-Some.state.now in
     let g = guard_view c.in-Some-guard_of.guard in

@@ -7,6 +7,7 @@ use Rattle.pat_machine_indexes.specs.messages.Mailboxes.{Contents}
 use Rattle.pat_machine_states.specs.Boxes.{state_view}
 use Rattle.pat_machine_indexes.proofs.Delivering.{live_by, within_by}
 use Rattle.pat_machine_states.proofs.Keeping.{receive_done, received_is}
+use Rattle.pat_machine_states.proofs.Seen.{config_of}
 use Rattle.pat_machine_states.proofs.state.IndexedConfig.receive.Goals as goal
 
 pub take-message-requires-clause-live : goal.take-message-requires-clause-live
@@ -36,12 +37,12 @@ returns-in-Ok-clause-step c =
     let s = thread_view c.in-Some.state.now in
     let there : thread_at i.placed t ≡ Some s = sym c.in-Some.ensures in
     let own = c.in-Ok.ensures.ok in
-    subst (λ d. step p d (record { thread = t; act = ActReceive c.args.number }) ≡ Some (state_view c.go_on.new.self c.take-message.new.self.mailboxes)) c.self.view_is
+    subst (λ d. step p d (record { thread = t; act = ActReceive c.args.number }) ≡ Some (state_view c.go_on.new.self c.take-message.new.self.mailboxes)) (config_of c.self.view_is)
     (receive_done p i.placed i.latest i.mailboxes.mailboxes c.self.invariant t c.args.number s there c.in-Ok.mailbox c.in-Ok.place (control_view c.in-Ok.control) own c.go_on.new.self (c.go_on.ensures s there) c.take-message.new.self.mailboxes (ap (λ (m : Contents). m.mailboxes) c.take-message.ensures.rest)).0
 
 pub returns-in-Ok-clause-message : goal.returns-in-Ok-clause-message
 returns-in-Ok-clause-message c =
     let i = c.self.inside in
     let own = c.in-Ok.ensures.ok in
-    subst (λ d. message_at d c.args.number ≡ Some (message_view c.take-message.result)) c.self.view_is
+    subst (λ d. message_at d c.args.number ≡ Some (message_view c.take-message.result)) (config_of c.self.view_is)
     (received_is i.placed i.latest i.mailboxes.mailboxes c.self.invariant c.in-Ok.mailbox c.in-Ok.place c.args.number own.message c.take-message.result own.there own.numbered c.take-message.ensures.message)

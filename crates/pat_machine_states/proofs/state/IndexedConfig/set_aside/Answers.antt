@@ -7,7 +7,7 @@ use Rattle.pat_machine_states.proofs.state.IndexedConfig.set_aside.Goals as goal
 pub swap-requires : goal.swap-requires
 swap-requires c =
     let top = thread_view c.args.top in
-    (top, ap (λ d. thread_at d c.args.thread) c.swap-kept.ensures.after ∙ there_after c.args.self.now c.args.thread (thread_view c.swap-kept.result) top c.swap-kept.ensures.before)
+    (top, ap (λ d. thread_at d c.args.thread) c.swap-kept.ensures.after ∙ there_after c.args.self.now.config c.args.thread (thread_view c.swap-kept.result) top c.swap-kept.ensures.before)
 
 pub returns-in-Err-clause-err : goal.returns-in-Err-clause-err
 returns-in-Err-clause-err c =
@@ -15,6 +15,6 @@ returns-in-Err-clause-err c =
     let kept = thread_view c.swap-kept.result in
     c.swap.ensures.after
     ∙ ap (λ d. with_thread d t (thread_view c.in-Err.kept)) c.swap-kept.ensures.after
-    ∙ with_twice c.args.self.now t (thread_view c.args.top) (thread_view c.in-Err.kept)
-    ∙ ap (with_thread c.args.self.now t) c.in-Err.ensures.err
-    ∙ with_same c.args.self.now t kept c.swap-kept.ensures.before
+    ∙ with_twice c.args.self.now.config t (thread_view c.args.top) (thread_view c.in-Err.kept)
+    ∙ ap (with_thread c.args.self.now.config t) c.in-Err.ensures.err
+    ∙ with_same c.args.self.now.config t kept c.swap-kept.ensures.before

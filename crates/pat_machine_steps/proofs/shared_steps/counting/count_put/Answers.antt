@@ -7,10 +7,10 @@ use Rattle.pat_machine_steps.proofs.shared_steps.counting.count_put.Goals as goa
 
 pub count_sent-requires-clause-places : goal.count_sent-requires-clause-places
 count_sent-requires-clause-places c =
-    subst (λ x. HasPlaces c.args.names.now (times_put c.args.state.now c.args.newcomer (Some (act_view x)))) c.in-Send.is
-    (subst (λ o. HasPlaces c.args.names.now (times_put c.args.state.now c.args.newcomer (taken_act o))) c.in-Some.is c.requires.places)
+    subst (λ x. HasPlaces c.args.names.now (times_put c.args.state.now.config c.args.newcomer (Some (act_view x)))) c.in-Send.is
+    (subst (λ o. HasPlaces c.args.names.now (times_put c.args.state.now.config c.args.newcomer (taken_act o))) c.in-Some.is c.requires.places)
 
 pub count_spawned-requires-clause-places : goal.count_spawned-requires-clause-places
 count_spawned-requires-clause-places c =
-    subst (λ x. HasPlaces c.args.names.now (times_put c.args.state.now c.args.newcomer (Some (act_view x)))) c.in-Spawn.is
-    (subst (λ o. HasPlaces c.args.names.now (times_put c.args.state.now c.args.newcomer (taken_act o))) c.in-Some.is c.requires.places)
+    subst (λ x. HasPlaces c.args.names.now (times_put c.args.state.now.config c.args.newcomer (Some (act_view x)))) c.in-Spawn.is
+    (subst (λ o. HasPlaces c.args.names.now (times_put c.args.state.now.config c.args.newcomer (taken_act o))) c.in-Some.is c.requires.places)

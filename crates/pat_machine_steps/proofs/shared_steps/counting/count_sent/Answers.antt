@@ -9,7 +9,7 @@ use Rattle.pat_machine_steps.proofs.shared_steps.counting.count_sent.Goals as go
 pub count_message-requires : goal.count_message-requires
 count_message-requires c =
     let q = c.requires.last in
-    let last : last_message c.args.state.now.messages ≡ Some (message_view c.in-Some.message.now) =
+    let last : last_message c.args.state.now.config.messages ≡ Some (message_view c.in-Some.message.now) =
     ap last_message q.last ∙ last_of q.before q.message ∙ sym (c.last_message.ensures q.before q.message q.last q.next) ∙ ap (λ o. option_map message_view (option_copied o)) c.in-Some.is
     in
     subst (λ o. HasPlaces c.args.names.now (λ a. times_if_message a o)) last c.requires.places
@@ -17,7 +17,7 @@ count_message-requires c =
 pub returns : goal.returns
 returns c =
     let q = c.requires.last in
-    let last : last_message c.args.state.now.messages ≡ Some (message_view c.in-Some.message.now) =
+    let last : last_message c.args.state.now.config.messages ≡ Some (message_view c.in-Some.message.now) =
     ap last_message q.last ∙ last_of q.before q.message ∙ sym (c.last_message.ensures q.before q.message q.last q.next) ∙ ap (λ o. option_map message_view (option_copied o)) c.in-Some.is
     in
     subst (λ o. Counts c.args.names.now (λ a. times_if_message a o) c.count_message.new.self) (sym last) c.count_message.ensures

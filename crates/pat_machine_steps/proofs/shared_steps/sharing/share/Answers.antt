@@ -14,13 +14,13 @@ pub finish-requires-clause-alone : goal.finish-requires-clause-alone
 finish-requires-clause-alone c = λ s at.
     let p = program_view c.args.code.now.program in
     let settled = c.args.settled in
-    counts_tell_without_top p c.args.state.now c.leave_thread.new.names.times.items c.args.thread settled.gone s (thread_view settled.end) c.requires.well c.requires.ordered at (c.requires.typed s at) (c.leave_thread.ensures.counted s at)
+    counts_tell_without_top p c.args.state.now.config c.leave_thread.new.names.times.items c.args.thread settled.gone s (thread_view settled.end) c.requires.well c.requires.ordered at (c.requires.typed s at) (c.leave_thread.ensures.counted s at)
 
 pub count_end-requires-clause-left : goal.count_end-requires-clause-left
 count_end-requires-clause-left c =
     let p = program_view c.args.code.now.program in
-    let m = c.args.state.now in
-    let d = c.finish.new.state in
+    let m = c.args.state.now.config in
+    let d = c.finish.new.state.config in
     let settled = c.args.settled in
     let q = c.requires.settled in
     let ns = c.leave_thread.new.names.times.items in

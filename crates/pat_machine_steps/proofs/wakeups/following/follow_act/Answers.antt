@@ -11,7 +11,7 @@ use Rattle.pat_machine_steps.proofs.wakeups.following.follow_act.Goals as goal
 pub returns-in-Send : goal.returns-in-Send
 returns-in-Send c =
     let p = program_view c.args.code.now.program in
-    let d = c.args.state.now in
+    let d = c.args.state.now.config in
     let t = c.args.stepped.now.thread in
     let n = c.args.stepped.now.newcomer in
     let w = c.args.waits.now in
@@ -34,7 +34,7 @@ returns-in-Send c =
 pub returns-in-Spawn : goal.returns-in-Spawn
 returns-in-Spawn c =
     let p = program_view c.args.code.now.program in
-    let d = c.args.state.now in
+    let d = c.args.state.now.config in
     let t = c.args.stepped.now.thread in
     let n = c.args.stepped.now.newcomer in
     let w = c.args.waits.now in
@@ -57,7 +57,7 @@ returns-in-Spawn c =
 pub returns-in-New : goal.returns-in-New
 returns-in-New c =
     let p = program_view c.args.code.now.program in
-    let d = c.args.state.now in
+    let d = c.args.state.now.config in
     let t = c.args.stepped.now.thread in
     let n = c.args.stepped.now.newcomer in
     let w = c.args.waits.now in
@@ -80,7 +80,7 @@ returns-in-New c =
 pub returns-in_default : goal.returns-in_default
 returns-in_default c =
     let p = program_view c.args.code.now.program in
-    let d = c.args.state.now in
+    let d = c.args.state.now.config in
     let t = c.args.stepped.now.thread in
     let n = c.args.stepped.now.newcomer in
     let w = c.args.waits.now in

@@ -8,12 +8,12 @@ use Rattle.pat_machine_steps.proofs.wakeups.following.follow_others.Goals as goa
 
 pub follow_act-requires-clause-were : goal.follow_act-requires-clause-were
 follow_act-requires-clause-were c =
-    subst (λ o. WereWoken (program_view c.args.code.now.program) c.args.waits.now c.args.stepped.now.thread (option_map act_view o) c.args.stepped.now.newcomer c.args.state.now) c.in-Some.is c.requires.were
+    subst (λ o. WereWoken (program_view c.args.code.now.program) c.args.waits.now c.args.stepped.now.thread (option_map act_view o) c.args.stepped.now.newcomer c.args.state.now.config) c.in-Some.is c.requires.were
 
 pub returns-in-None : goal.returns-in-None
 returns-in-None c =
     let p = program_view c.args.code.now.program in
-    let d = c.args.state.now in
+    let d = c.args.state.now.config in
     let t = c.args.stepped.now.thread in
     let n = c.args.stepped.now.newcomer in
     let w = c.args.waits.now in

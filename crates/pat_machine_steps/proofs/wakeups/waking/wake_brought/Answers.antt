@@ -11,7 +11,7 @@ use Rattle.pat_machine_steps.proofs.wakeups.waking.wake_brought.Goals as goal
 pub loop-value-preserved : goal.loop-value-preserved
 loop-value-preserved c =
     let p = program_view c.args.code.now.program in
-    let d = c.args.state.now in
+    let d = c.args.state.now.config in
     let values = c.args.values.now in
     let i = c.loop-value.value-index in
     let within = c.loop-value-test.true in

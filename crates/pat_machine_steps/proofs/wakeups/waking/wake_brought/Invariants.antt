@@ -7,4 +7,4 @@ use Rattle.pat_machine_steps.proofs.wakeups.waking.wake_brought.Given as goal
 
 -- those at the mailboxes so far are woken
 abbrev pub invariant-loop-value : goal.invariant-loop-value
-invariant-loop-value l = WakesThose (FreesBrought (program_view l.code.program) l.state (take l.value-index (map value_view l.values))) l.fn.waits l.waits
+invariant-loop-value l = WakesThose (FreesBrought (program_view l.code.program) l.state.config (take l.value-index (map value_view l.values))) l.fn.waits l.waits

@@ -14,7 +14,7 @@ use Rattle.pat_machine_steps.proofs.wakeups.waking.wake_freeing.Goals as goal
 pub returns-in-Some : goal.returns-in-Some
 returns-in-Some c =
     let p = program_view c.args.code.now.program in
-    let d = c.args.state.now in
+    let d = c.args.state.now.config in
     let values = c.as_slice.result.now in
     let received = option_map message_view (option_copied c.args.received) in
     both_woken (FreesNamed p d c.args.named.now) (FreesBrought p d (map value_view values)) (FreesListed p d c.args.named.now received)

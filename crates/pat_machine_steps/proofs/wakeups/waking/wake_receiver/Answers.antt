@@ -8,7 +8,7 @@ use Rattle.pat_machine_steps.proofs.wakeups.waking.wake_receiver.Goals as goal
 pub returns-in-Some : goal.returns-in-Some
 returns-in-Some c =
     let p = program_view c.args.code.now.program in
-    let d = c.args.state.now in
+    let d = c.args.state.now.config in
     let b = c.in-Some.mailbox in
     fewer_woken (ReceivesAt p d b) (IsReady p d) c.args.waits.now c.wake_to_receive.new.waits
     (λ a u (r : IsReady p d a u).

@@ -6,13 +6,13 @@ pub loop-place-init : goal.loop-place-init
 loop-place-init g c =
     let m = c.args.self.now in
     let own = c.index-chain.result.now in
-    (first_node m.chains m.held.items c.args.queue own c.requires.region c.requires.there c.index-chain.ensures, tt)
+    (first_node m.chains m.held.items c.args.queue own c.requires.region.holding c.requires.there c.index-chain.ensures, tt)
 
 pub value_at-value-requires : goal.value_at-value-requires
 value_at-value-requires g c =
     let m = c.args.self.now in
     let own = c.index-chain.result.now in
-    let v = value_here m.chains m.held.items c.args.queue own c.requires.region c.requires.there c.index-chain.ensures c.loop-place.place c.loop-place.node c.loop-place-test.true c.loop-place.invariant.0 in
+    let v = value_here m.chains m.held.items c.args.queue own c.requires.region.holding c.requires.there c.index-chain.ensures c.loop-place.place c.loop-place.node c.loop-place-test.true c.loop-place.invariant.0 in
     subst (λ (xs : List (Option g.row.T.Denot)). IsSome (get_or xs c.loop-place.node None)) (sym c.as_slice.ensures.value) (subst IsSome (sym v.2) refl)
 
 pub returns-then-passes : goal.returns-then-passes
@@ -20,14 +20,14 @@ returns-then-passes g c =
     let m = c.args.self.now in
     let own = c.index-chain.result.now in
     let is = ap (λ (xs : List (Option g.row.T.Denot)). get_or xs c.loop-place.node None) (sym c.as_slice.ensures.value) ∙ c.value_at-value.ensures in
-    search_found m.chains m.held.items c.args.queue own c.requires.region c.requires.there c.index-chain.ensures c.loop-place.place c.loop-place.node c.loop-place-test.true c.loop-place.invariant.0 (g.P.Test.passes c.args.test.now) c.value_at-value.result.now is c.loop-place.invariant.1 (sym c.passes.ensures ∙ c.if-passes.true)
+    search_found m.chains m.held.items c.args.queue own c.requires.region.holding c.requires.there c.index-chain.ensures c.loop-place.place c.loop-place.node c.loop-place-test.true c.loop-place.invariant.0 (g.P.Test.passes c.args.test.now) c.value_at-value.result.now is c.loop-place.invariant.1 (sym c.passes.ensures ∙ c.if-passes.true)
 
 pub index-node-requires : goal.index-node-requires
 index-node-requires g c =
     let m = c.args.self.now in
     let own = c.index-chain.result.now in
-    let inside = node_inside m.chains m.held.items c.args.queue own c.requires.region c.requires.there c.index-chain.ensures c.loop-place.place c.loop-place.node c.loop-place-test.true c.loop-place.invariant.0 in
-    let nodes = c.requires.region.nodes in
+    let inside = node_inside m.chains m.held.items c.args.queue own c.requires.region.holding c.requires.there c.index-chain.ensures c.loop-place.place c.loop-place.node c.loop-place-test.true c.loop-place.invariant.0 in
+    let nodes = c.requires.region.holding.nodes in
     let size = m.chains.links.ok.0 in
     omega arith
 
@@ -36,10 +36,10 @@ loop-place-preserved g c =
     let m = c.args.self.now in
     let own = c.index-chain.result.now in
     let is = ap (λ (xs : List (Option g.row.T.Denot)). get_or xs c.loop-place.node None) (sym c.as_slice.ensures.value) ∙ c.value_at-value.ensures in
-    (next_node m.chains m.held.items c.args.queue own c.requires.region c.requires.there c.index-chain.ensures c.loop-place.place c.loop-place.node c.loop-place-test.true c.loop-place.invariant.0 c.index-node.result.now c.index-node.ensures, search_none m.chains m.held.items c.args.queue own c.requires.region c.requires.there c.index-chain.ensures c.loop-place.place c.loop-place.node c.loop-place-test.true c.loop-place.invariant.0 (g.P.Test.passes c.args.test.now) c.value_at-value.result.now is c.loop-place.invariant.1 (sym c.passes.ensures ∙ c.if-passes.false))
+    (next_node m.chains m.held.items c.args.queue own c.requires.region.holding c.requires.there c.index-chain.ensures c.loop-place.place c.loop-place.node c.loop-place-test.true c.loop-place.invariant.0 c.index-node.result.now c.index-node.ensures, search_none m.chains m.held.items c.args.queue own c.requires.region.holding c.requires.there c.index-chain.ensures c.loop-place.place c.loop-place.node c.loop-place-test.true c.loop-place.invariant.0 (g.P.Test.passes c.args.test.now) c.value_at-value.result.now is c.loop-place.invariant.1 (sym c.passes.ensures ∙ c.if-passes.false))
 
 pub returns : goal.returns
 returns g c =
     let m = c.args.self.now in
     let own = c.index-chain.result.now in
-    search_end m.chains m.held.items c.args.queue own c.requires.region c.requires.there c.index-chain.ensures (g.P.Test.passes c.args.test.now) c.loop-place.place c.loop-place-test.false c.loop-place.invariant.1
+    search_end m.chains m.held.items c.args.queue own c.requires.region.holding c.requires.there c.index-chain.ensures (g.P.Test.passes c.args.test.now) c.loop-place.place c.loop-place-test.false c.loop-place.invariant.1

@@ -15,4 +15,4 @@ returns g c =
     let there = c.requires.there in
     let size = length-map (queue_nodes m) (values_of held) in
     let is = chain_is m.links.items m.queues.items c.args.queue own (omega arith) c.index.ensures in
-    sym (queue_length m held c.args.queue c.requires.region ∙ own_length m.links.items m.first_free m.spare m.queues.items c.args.queue own is)
+    sym (queue_length m held c.args.queue c.requires.region.holding ∙ own_length m.links.items m.first_free m.spare m.queues.items c.args.queue own is)

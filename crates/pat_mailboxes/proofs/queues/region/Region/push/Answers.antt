@@ -18,7 +18,7 @@ index_mut-requires g c =
     let n = c.give-node.new.self in
     let size = length-map (queue_nodes m.chains) (values_of m.held.items) in
     let there = c.requires.there in
-    let p = pushed_value m.chains n m.held.items c.args.queue c.give-node.result c.args.value c.requires.region (omega arith) c.give-node.ensures.chained c.give-node.ensures.nodes c.give-node.ensures.queues in
+    let p = pushed_value m.chains n m.held.items c.args.queue c.give-node.result c.args.value c.requires.region.holding (omega arith) c.give-node.ensures.chained c.give-node.ensures.nodes c.give-node.ensures.queues in
     let inside = p.2 in
     let held = m.held.ok.0 in
     omega arith
@@ -29,7 +29,7 @@ returns-clause-region g c =
     let n = c.give-node.new.self in
     let size = length-map (queue_nodes m.chains) (values_of m.held.items) in
     let there = c.requires.there in
-    let p = pushed_value m.chains n m.held.items c.args.queue c.give-node.result c.args.value c.requires.region (omega arith) c.give-node.ensures.chained c.give-node.ensures.nodes c.give-node.ensures.queues in
+    let p = pushed_value m.chains n m.held.items c.args.queue c.give-node.result c.args.value c.requires.region.holding (omega arith) c.give-node.ensures.chained c.give-node.ensures.nodes c.give-node.ensures.queues in
     p.0
 
 pub returns-clause-contents : goal.returns-clause-contents
@@ -38,5 +38,5 @@ returns-clause-contents g c =
     let n = c.give-node.new.self in
     let size = length-map (queue_nodes m.chains) (values_of m.held.items) in
     let there = c.requires.there in
-    let p = pushed_value m.chains n m.held.items c.args.queue c.give-node.result c.args.value c.requires.region (omega arith) c.give-node.ensures.chained c.give-node.ensures.nodes c.give-node.ensures.queues in
+    let p = pushed_value m.chains n m.held.items c.args.queue c.give-node.result c.args.value c.requires.region.holding (omega arith) c.give-node.ensures.chained c.give-node.ensures.nodes c.give-node.ensures.queues in
     p.1
