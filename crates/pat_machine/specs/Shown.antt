@@ -29,7 +29,7 @@ entries_of m = map entry_view m.history
 
 -- how many places for pending messages are enough: no more are pending than the limit allows, nor than steps are taken
 abbrev pub places_for : (budget limit : ℕ) → ℕ
-places_for budget limit = min limit budget
+places_for budget limit = min budget limit
 
 -- the facts in a machine's type
 abbrev pub IsMachine : Shown → Type 0

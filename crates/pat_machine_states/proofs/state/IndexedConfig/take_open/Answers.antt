@@ -6,7 +6,7 @@ use Rattle.pat_machine_states.proofs.state.IndexedConfig.take_open.Goals as goal
 
 pub returns-in-Ok-clause-ok : goal.returns-in-Ok-clause-ok
 returns-in-Ok-clause-ok c =
-    takes (program_view c.args.code.now.program) c.args.self.now.config c.step.new.self c.args.limit c.args.thread (act_view c.in-Some.act) c.requires.ordered c.in-Some.ensures c.in-Ok.ensures.step
+    takes (program_view c.args.code.now.program) c.args.self.now.config c.step.new.self.config c.args.limit c.args.thread (act_view c.in-Some.act) c.requires.ordered c.in-Some.ensures c.in-Ok.ensures.step
 
 pub step-requires-clause-place : goal.step-requires-clause-place
 step-requires-clause-place c = λ sends. c.requires.place ((c.in-Some.ensures.allowed (act_view c.in-Some.act) refl).1 sends)
