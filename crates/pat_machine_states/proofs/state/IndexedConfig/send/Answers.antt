@@ -33,8 +33,8 @@ send-requires-in-Ok-clause-last c =
     let refer = subst ReferToLive (sym (config_of c.self.view_is)) c.requires.live in
     last_there (program_view c.args.code.now.program) i.placed i.latest i.mailboxes.mailboxes c.self.invariant c.args.thread m c.send.new.self c.in-Ok.ensures ordered refer
 
-pub invariant_of-self-in-Ok : goal.invariant_of-self-in-Ok
-invariant_of-self-in-Ok c =
+pub invariant_of-self : goal.invariant_of-self
+invariant_of-self c =
     let i = c.self.inside in
     let m = c.in-Ok.message in
     let ordered = subst IsOrdered (sym (config_of c.self.view_is)) c.requires.ordered in
