@@ -1,5 +1,5 @@
 // Nodes with what they hold.
-ghost use Rattle.std.specs.Prelude.{◌≡◌, ℕ, ◌+◌, ◌<◌, ◌≤◌, List, [], ◌∷◌, ◌++◌, length, map, option_map, get_or, Some, None, IfOk, IsSome, OnOk, OnErr, slice_get, slice_set, remove, vec_len, vec_capacity};
+ghost use Rattle.std.specs.Prelude.{◌≡◌, ℕ, ◌+◌, ◌<◌, List, [], ◌∷◌, ◌++◌, length, map, option_map, get_or, Some, None, IfOk, IsSome, OnOk, OnErr, slice_get, slice_set, remove, vec_len, vec_capacity};
 ghost use Rattle.pat_mailboxes.specs.queues.Pooled.{IsRegion, contents, spare_in};
 ghost use Rattle.pat_mailboxes.specs.queues.Queues.{Finds};
 

@@ -1,5 +1,5 @@
 use Rattle.std.proofs.Common.{◌-◌, ◌+◌, map, refl, sym, subst, length, ◌∙◌}
-use Rattle.pat_semantics_spec.specs.Runs.{Entry, entry_steps}
+use Rattle.pat_semantics_spec.specs.Runs.{entry_steps}
 use Rattle.pat_core.specs.Views.{program_view}
 use Rattle.pat_reduce.specs.Views.{entry_view}
 use Rattle.pat_machine_spec.specs.Commits.{noted}

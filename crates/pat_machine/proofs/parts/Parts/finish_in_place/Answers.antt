@@ -1,5 +1,5 @@
-use Rattle.std.proofs.Common.{◌≡◌, Some, ◌-◌, ◌+◌, map, refl, sym, subst, length, ◌∙◌}
-use Rattle.pat_semantics_spec.specs.Runs.{Entry, entry_steps, run_from, shared_step}
+use Rattle.std.proofs.Common.{◌≡◌, Some, ◌-◌, ◌+◌, map, sym, subst, length, ◌∙◌}
+use Rattle.pat_semantics_spec.specs.Runs.{entry_steps, run_from, shared_step}
 use Rattle.pat_core.specs.Views.{program_view}
 use Rattle.pat_reduce.specs.Views.{entry_view}
 use Rattle.pat_machine_spec.specs.Commits.{noted}

@@ -1,7 +1,7 @@
 use Rattle.std.proofs.Common.{◌<◌, [], ◌∷◌, ◌++◌, length, get_or, slice_set, List, sym, ap, ◌∙◌, subst, arith}
 use Rattle.std.proofs.lemmas.List.{length-map}
 use Rattle.pat_mailboxes.specs.queues.Chained.{queue_nodes}
-use Rattle.pat_mailboxes.specs.queues.Pooled.{contents, values_of}
+use Rattle.pat_mailboxes.specs.queues.Pooled.{values_of}
 use Rattle.pat_mailboxes.proofs.Holding.{pushed_value}
 use Rattle.pat_mailboxes.proofs.queues.region.Region.push.Goals as goal
 
