@@ -28,17 +28,3 @@ pub fn a_fixed_pool_has_just_its_nodes(rt: &impl Abort, alloc: Global) {
     pool.release(queue);
     check(rt, pool.open().expect(rt, "memory") == queue);
 }
-
-// Each node is made at its first use, and used again before another is made.
-pub fn nodes_are_made_as_they_are_needed(rt: &impl Abort, alloc: Global) {
-    let mut pool: Pool<u32> = Pool::fixed(alloc, 1_000_000).expect(rt, "memory");
-    let queue = pool.open().expect(rt, "memory");
-    pool.push_back(queue, 7);
-    check(rt, pool.take_at(queue, 0) == 7);
-    pool.push_back(queue, 8);
-    pool.push_back(queue, 9);
-    check(rt, pool.spare() == 999_998);
-    pool.reserve(1_000_000).expect(rt, "memory");
-    check(rt, pool.spare() == 1_000_000);
-    check(rt, *pool.get(queue, 1) == 9);
-}
