@@ -65,7 +65,7 @@ impl Kept for Machine {
 }
 
 impl Machine {
-    /// The start of a program, with so many steps and at most so many pending messages.
+    /// The start of a program, with so many steps and at most so many pending messages. The places for these are taken here.
     pub fn new(
         alloc: Global,
         accepted: Accepted,
