@@ -55,7 +55,8 @@ impl Board {
         requires steps { steps ≤ most_steps }
         requires messages { (0 < messages) × (messages ≤ most_messages) }
         requires seats { (0 < seats) × (seats ≤ most_workers) }
-        ensures board { IfOk result (λ r. (r.0.name ≡ record { program = accepted; budget = steps; limit = messages }) × (r.0.passes ≡ seats)) }
+        ensures board { IfOk result (λ r. (r.0.name ≡ record { program = accepted; budget = steps; limit = messages })
+            × (r.0.passes ≡ seats)) }
         ensures new { IfOk result (λ r. AreNew r.0 r.1.items) }
         ensures seats { IfOk result (λ r. AreSeatsOf r.0 r.1.items) }
     {

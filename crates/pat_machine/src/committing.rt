@@ -25,7 +25,8 @@ impl Parts {
     /// Commits a job: its local steps, and then the shared step that is open.
     pub fn commit(&mut self, worker: u32, job: Job, run: LocalRun) -> Result<Receipt, CommitRefused>
         requires kept { IsKept self.old }
-        requires run { IsLocalRun (program_view self.old.code.program) job.allowance (thread_view run.start) run.steps (thread_view run.end) }
+        requires run { IsLocalRun (program_view self.old.code.program) job.allowance (thread_view run.start) run.steps
+            (thread_view run.end) }
         ensures kept { IsKept self.new }
         ensures commit { CommitGives (shown self.old) worker job result (shown self.new) }
     {
@@ -46,7 +47,8 @@ impl Parts {
     fn settle(&self, job: Job, run: LocalRun) -> Result<Settled, AllocError>
         requires kept { IsKept self.now }
         requires lent { IsLent (shown self.now) job }
-        requires run { IsLocalRun (program_view self.now.code.program) job.allowance (thread_view run.start) run.steps (thread_view run.end) }
+        requires run { IsLocalRun (program_view self.now.code.program) job.allowance (thread_view run.start) run.steps
+            (thread_view run.end) }
         ensures { IfOk result (IsSettled (program_view self.now.code.program) self.now.state.config job.thread job.allowance) }
     {
         match self.state.thread(job.thread) {
@@ -180,7 +182,8 @@ impl Parts {
         requires room { CanEnter self.old }
         requires went { (c : ConfigOf) × WentFrom self.old c worker job steps newcomer (taken_act taken.now) (taken_message taken.now) }
         ensures kept { IsKept self.new }
-        ensures committed { (c : ConfigOf) → WentFrom self.old c worker job steps newcomer (taken_act taken.now) (taken_message taken.now) → Committed (record (shown self.old) { config = c }) worker job result (shown self.new) }
+        ensures committed { (c : ConfigOf) → WentFrom self.old c worker job steps newcomer (taken_act taken.now) (taken_message taken.now)
+            → Committed (record (shown self.old) { config = c }) worker job result (shown self.new) }
     {
         note_threads(
             &mut self.waits,

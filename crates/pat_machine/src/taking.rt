@@ -66,7 +66,8 @@ impl Parts {
     // The first ready one of these threads.
     fn first_ready(&self, threads: &[u32]) -> Option<u32>
         requires { IsKept self.now }
-        ensures { result ≡ find (is_ready (program_view self.now.code.program) self.now.state.config self.now.limit self.now.out.items) threads.now }
+        ensures { result ≡ find
+            (is_ready (program_view self.now.code.program) self.now.state.config self.now.limit self.now.out.items) threads.now }
     {
         self.state.first_ready(
             &self.code,

@@ -26,7 +26,12 @@ impl IndexedConfig {
         state: &ThreadState,
         counted: Counted<'_>,
     ) -> Option<Act>
-        ensures { (t : ℕ) → TellsAlone (program_view code.now.program) self.now.config t (thread_view state.now) (says_alone (program_view code.now.program) counted.entry (thread_view state.now)) → option_map act_view result ≡ act_at self.now.config t (guard_at (redex (program_view code.now.program) (control_view state.now.control))) (plain_act (program_view code.now.program) (redex (program_view code.now.program) (control_view state.now.control)) (map frame_view state.now.frames)) }
+        ensures { (t : ℕ) → TellsAlone (program_view code.now.program) self.now.config t (thread_view state.now)
+            (says_alone (program_view code.now.program) counted.entry (thread_view state.now))
+            → option_map act_view result ≡ act_at self.now.config t
+            (guard_at (redex (program_view code.now.program) (control_view state.now.control)))
+            (plain_act (program_view code.now.program) (redex (program_view code.now.program) (control_view state.now.control))
+            (map frame_view state.now.frames)) }
     {
         match guard_of(code, &state.control) {
             Some(guard) => self.guard_act(&guard, &state.control, counted),
@@ -40,7 +45,9 @@ impl IndexedConfig {
         control: &Control,
         counted: Counted<'_>,
     ) -> Option<Act>
-        ensures { (t : ℕ) → GuardsAlone self.now.config t (guard_view guard.now) (names_alone counted.entry (control_view control.now) guard.now.mailbox) → option_map act_view result ≡ guard_act self.now.config t (guard_view guard.now) }
+        ensures { (t : ℕ) → GuardsAlone self.now.config t (guard_view guard.now)
+            (names_alone counted.entry (control_view control.now) guard.now.mailbox)
+            → option_map act_view result ≡ guard_act self.now.config t (guard_view guard.now) }
     {
         match first_message(&self.mailboxes, guard) {
             Some(number) => Some(Act::Receive(number)),
@@ -55,7 +62,9 @@ impl IndexedConfig {
         control: &Control,
         counted: Counted<'_>,
     ) -> Option<Act>
-        ensures { (t : ℕ) → GuardsAlone self.now.config t (guard_view guard.now) (names_alone counted.entry (control_view control.now) guard.now.mailbox) → option_map act_view result ≡ free_act self.now.config t (guard_view guard.now) guard.now.free }
+        ensures { (t : ℕ) → GuardsAlone self.now.config t (guard_view guard.now)
+            (names_alone counted.entry (control_view control.now) guard.now.mailbox)
+            → option_map act_view result ≡ free_act self.now.config t (guard_view guard.now) guard.now.free }
     {
         match guard.free {
             Some(_) => {
@@ -71,7 +80,8 @@ impl IndexedConfig {
 
     // Whether the mailbox may be freed by a thread with this control.
     fn may_free(&self, mailbox: u32, control: &Control, counted: Counted<'_>) -> bool
-        ensures { (t : ℕ) → IsReachedAlone self.now.config t mailbox (names_alone counted.entry (control_view control.now) mailbox) → result ≡ may_free self.now.config t mailbox }
+        ensures { (t : ℕ) → IsReachedAlone self.now.config t mailbox (names_alone counted.entry (control_view control.now) mailbox)
+            → result ≡ may_free self.now.config t mailbox }
     {
         self.is_live(mailbox) && !self.has_pending(mailbox) && counted.names_alone(control, mailbox)
     }

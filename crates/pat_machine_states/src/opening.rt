@@ -43,7 +43,8 @@ impl IndexedConfig {
     ) -> Option<Act>
         requires { StandsAlone (program_view code.now.program) self.now.config thread counted }
         ensures enabled { EnabledAct (program_view code.now.program) self.now.config thread (option_map act_view result) }
-        ensures least { IsOrdered self.now.config → IsLeast (program_view code.now.program) self.now.config thread (option_map act_view result) }
+        ensures least { IsOrdered self.now.config
+            → IsLeast (program_view code.now.program) self.now.config thread (option_map act_view result) }
     {
         match self.thread(thread) {
             Some(state) => self.act_of(code, state, counted),

@@ -62,7 +62,8 @@ impl IndexedConfig {
     // Whether one of the senders has an open step. They aren't looked at where there is no space.
     fn may_send(&self, code: &Executable, names: &RefCounts, limit: u32, senders: &[u32]) -> bool
         requires told { TellOfEach (program_view code.now.program) self.now.config names.now.times.items }
-        ensures { result ≡ (has_space self.now.config limit && list_any (can_go_on (program_view code.now.program) self.now.config limit) senders.now) }
+        ensures { result ≡ (has_space self.now.config limit
+            && list_any (can_go_on (program_view code.now.program) self.now.config limit) senders.now) }
     {
         self.has_space(limit) && self.has_open(code, names, limit, senders)
     }

@@ -48,11 +48,18 @@ impl IndexedConfig {
         requires there { (s : ThreadOf) × (thread_at self.old.config thread ≡ Some s) }
         requires room { HasRoom self.old.config }
         requires place { HasPlace self.old limit }
-        requires typed { (s : ThreadOf) → thread_at self.old.config thread ≡ Some s → IsTypedBySome (program_view code.now.program) (with_thread self.old.config thread (over (thread_view top) (below gone s))) }
-        requires frame { (s : ThreadOf) → thread_at self.old.config thread ≡ Some s → (0 < length (thread_view top).frames) ⊎ (below gone s ≡ []) }
-        requires alone { (s : ThreadOf) → thread_at self.old.config thread ≡ Some s → TellsAlone (program_view code.now.program) (with_thread self.old.config thread (over (thread_view top) (below gone s))) thread (over (thread_view top) (below gone s)) (says_alone (program_view code.now.program) counted (thread_view top)) }
-        ensures ok { OnOk result ((s : ThreadOf) → thread_at self.old.config thread ≡ Some s → Shares (program_view code.now.program) limit (with_thread self.old.config thread (over (thread_view top) (below gone s))) thread (taken_act taken.new) self.new.config) }
-        ensures message { OnOk result ((k : ℕ) → taken_act taken.new ≡ Some (ActReceive k) → taken_message taken.new ≡ message_at self.old.config k) }
+        requires typed { (s : ThreadOf) → thread_at self.old.config thread ≡ Some s
+            → IsTypedBySome (program_view code.now.program) (with_thread self.old.config thread (over (thread_view top) (below gone s))) }
+        requires frame { (s : ThreadOf) → thread_at self.old.config thread ≡ Some s
+            → (0 < length (thread_view top).frames) ⊎ (below gone s ≡ []) }
+        requires alone { (s : ThreadOf) → thread_at self.old.config thread ≡ Some s
+            → TellsAlone (program_view code.now.program) (with_thread self.old.config thread (over (thread_view top) (below gone s))) thread
+            (over (thread_view top) (below gone s)) (says_alone (program_view code.now.program) counted (thread_view top)) }
+        ensures ok { OnOk result ((s : ThreadOf) → thread_at self.old.config thread ≡ Some s
+            → Shares (program_view code.now.program) limit
+            (with_thread self.old.config thread (over (thread_view top) (below gone s))) thread (taken_act taken.new) self.new.config) }
+        ensures message { OnOk result ((k : ℕ) → taken_act taken.new ≡ Some (ActReceive k)
+            → taken_message taken.new ≡ message_at self.old.config k) }
         ensures err { OnErr result (self.new.config ≡ self.old.config) }
         ensures places { self.new.places ≡ self.old.places }
     {
@@ -87,9 +94,12 @@ impl IndexedConfig {
         requires room { HasRoom self.old.config }
         requires place { HasPlace self.old limit }
         requires typed { IsTypedBySome (program_view code.now.program) (with_thread self.old.config thread (thread_view top)) }
-        requires alone { TellsAlone (program_view code.now.program) (with_thread self.old.config thread (thread_view top)) thread (thread_view top) (says_alone (program_view code.now.program) counted (thread_view top)) }
-        ensures ok { OnOk result (Shares (program_view code.now.program) limit (with_thread self.old.config thread (thread_view top)) thread (taken_act taken.new) self.new.config) }
-        ensures message { OnOk result ((k : ℕ) → taken_act taken.new ≡ Some (ActReceive k) → taken_message taken.new ≡ message_at self.old.config k) }
+        requires alone { TellsAlone (program_view code.now.program) (with_thread self.old.config thread (thread_view top)) thread
+            (thread_view top) (says_alone (program_view code.now.program) counted (thread_view top)) }
+        ensures ok { OnOk result (Shares (program_view code.now.program) limit (with_thread self.old.config thread (thread_view top)) thread
+            (taken_act taken.new) self.new.config) }
+        ensures message { OnOk result ((k : ℕ) → taken_act taken.new ≡ Some (ActReceive k)
+            → taken_message taken.new ≡ message_at self.old.config k) }
         ensures err { OnErr result (self.new.config ≡ self.old.config) }
         ensures places { self.new.places ≡ self.old.places }
     {
@@ -122,8 +132,10 @@ impl IndexedConfig {
         requires ordered { IsOrdered self.old.config }
         requires live { ReferToLive self.old.config }
         requires alone { StandsAlone (program_view code.now.program) self.old.config thread counted }
-        ensures ok { OnOk result (Shares (program_view code.now.program) limit self.old.config thread (taken_act taken.new) self.new.config) }
-        ensures message { OnOk result ((k : ℕ) → taken_act taken.new ≡ Some (ActReceive k) → taken_message taken.new ≡ message_at self.old.config k) }
+        ensures ok { OnOk result (Shares (program_view code.now.program) limit self.old.config thread
+            (taken_act taken.new) self.new.config) }
+        ensures message { OnOk result ((k : ℕ) → taken_act taken.new ≡ Some (ActReceive k)
+            → taken_message taken.new ≡ message_at self.old.config k) }
         ensures err { OnErr result (self.new.config ≡ self.old.config) }
         ensures places { self.new.places ≡ self.old.places }
     {

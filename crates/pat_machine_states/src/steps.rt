@@ -31,9 +31,11 @@ impl IndexedConfig {
         requires live { ReferToLive self.old.config }
         requires enabled { IsEnabled (program_view code.now.program) self.old.config (step_view step.now) }
         requires place { act_view step.now.act ≡ ActSend → length self.old.config.messages < self.old.places }
-        ensures step { StepGives (λ c. c) (after_step (program_view code.now.program) self.old.config (step_view step.now)) self.old.config self.new.config (outcome result) }
+        ensures step { StepGives (λ c. c) (after_step (program_view code.now.program) self.old.config
+            (step_view step.now)) self.old.config self.new.config (outcome result) }
         ensures places { self.new.places ≡ self.old.places }
-        ensures message { IfOk result (λ m. (k : ℕ) → act_view step.now.act ≡ ActReceive k → option_map message_view m ≡ message_at self.old.config k) }
+        ensures message { IfOk result (λ m. (k : ℕ) → act_view step.now.act ≡ ActReceive k
+            → option_map message_view m ≡ message_at self.old.config k) }
     {
         match step.act {
             Act::New => no_message(self.make_mailbox(code, step.thread)),
@@ -58,7 +60,8 @@ impl IndexedConfig {
     ) -> Result<(), StepError>
         requires room { HasRoom self.old.config }
         requires beside { is_beside (act_view step.now.act) ≡ true }
-        ensures step { StepGives (λ c. c) (after_step (program_view code.now.program) self.old.config (step_view step.now)) self.old.config self.new.config result }
+        ensures step { StepGives (λ c. c) (after_step (program_view code.now.program) self.old.config
+            (step_view step.now)) self.old.config self.new.config result }
         ensures places { self.new.places ≡ self.old.places }
     {
         self.placed.step(alloc, code, step)
@@ -67,7 +70,8 @@ impl IndexedConfig {
     // The thread makes a mailbox.
     fn make_mailbox(&mut self, code: &Executable, thread: u32) -> Result<(), StepError>
         requires room { HasRoom self.old.config }
-        ensures step { StepGives (λ c. c) (after_step (program_view code.now.program) self.old.config (record { thread = thread; act = ActNew })) self.old.config self.new.config result }
+        ensures step { StepGives (λ c. c) (after_step (program_view code.now.program) self.old.config
+            (record { thread = thread; act = ActNew })) self.old.config self.new.config result }
         ensures places { self.new.places ≡ self.old.places }
     {
         self.mailboxes.reserve(1)?;
@@ -87,7 +91,8 @@ impl IndexedConfig {
         requires ordered { IsOrdered self.old.config }
         requires live { ReferToLive self.old.config }
         requires place { length self.old.config.messages < self.old.places }
-        ensures step { StepGives (λ c. c) (after_step (program_view code.now.program) self.old.config (record { thread = thread; act = ActSend })) self.old.config self.new.config result }
+        ensures step { StepGives (λ c. c) (after_step (program_view code.now.program) self.old.config
+            (record { thread = thread; act = ActSend })) self.old.config self.new.config result }
         ensures places { self.new.places ≡ self.old.places }
     {
         match self.placed.send(alloc, code, thread) {
@@ -103,7 +108,8 @@ impl IndexedConfig {
     // The thread frees the mailbox that it guards.
     fn free(&mut self, alloc: Global, code: &Executable, thread: u32) -> Result<(), StepError>
         requires { IsEnabled (program_view code.now.program) self.old.config (record { thread = thread; act = ActFree }) }
-        ensures step { StepGives (λ c. c) (after_step (program_view code.now.program) self.old.config (record { thread = thread; act = ActFree })) self.old.config self.new.config result }
+        ensures step { StepGives (λ c. c) (after_step (program_view code.now.program) self.old.config
+            (record { thread = thread; act = ActFree })) self.old.config self.new.config result }
         ensures places { self.new.places ≡ self.old.places }
     {
         match self.placed.free(alloc, code, thread) {
@@ -123,7 +129,8 @@ impl IndexedConfig {
         thread: u32,
         number: u32,
     ) -> Result<Message, StepError>
-        ensures step { StepGives (λ c. c) (after_step (program_view code.now.program) self.old.config (record { thread = thread; act = ActReceive number })) self.old.config self.new.config (outcome result) }
+        ensures step { StepGives (λ c. c) (after_step (program_view code.now.program) self.old.config
+            (record { thread = thread; act = ActReceive number })) self.old.config self.new.config (outcome result) }
         ensures places { self.new.places ≡ self.old.places }
         ensures message { IfOk result (λ m. message_at self.old.config number ≡ Some (message_view m)) }
     {

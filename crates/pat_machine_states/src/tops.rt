@@ -22,7 +22,8 @@ impl IndexedConfig {
         top: ThreadState,
     ) -> Result<(), AllocError>
         requires { (s : ThreadOf) × (thread_at self.old.config thread ≡ Some s) }
-        ensures ok { OnOk result ((s : ThreadOf) → thread_at self.old.config thread ≡ Some s → self.new.config ≡ with_thread self.old.config thread (over (thread_view top) (below gone s))) }
+        ensures ok { OnOk result ((s : ThreadOf) → thread_at self.old.config thread ≡ Some s
+            → self.new.config ≡ with_thread self.old.config thread (over (thread_view top) (below gone s))) }
         ensures err { OnErr result (self.new.config ≡ self.old.config) }
         ensures places { self.new.places ≡ self.old.places }
     {

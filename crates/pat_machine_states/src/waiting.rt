@@ -44,14 +44,16 @@ impl IndexedConfig {
 
     /// The mailbox of the last message, where that is the one that was sent last.
     pub fn last_mailbox(&self) -> Option<u32>
-        ensures { (ms : List MessageOf) (m : MessageOf) → self.now.config.messages ≡ ms ++ m ∷ [] → m.number + 1 ≡ self.now.config.next_message → result ≡ Some m.mailbox }
+        ensures { (ms : List MessageOf) (m : MessageOf) → self.now.config.messages ≡ ms ++ m ∷ []
+            → m.number + 1 ≡ self.now.config.next_message → result ≡ Some m.mailbox }
     {
         self.latest
     }
 
     /// The message that was sent last, where it is pending and the last one. It takes no memory, and no walk.
     pub fn last_message(&self) -> Option<&Message>
-        ensures { (ms : List MessageOf) (m : MessageOf) → self.now.config.messages ≡ ms ++ m ∷ [] → m.number + 1 ≡ self.now.config.next_message → option_map message_view (option_copied result) ≡ Some m }
+        ensures { (ms : List MessageOf) (m : MessageOf) → self.now.config.messages ≡ ms ++ m ∷ []
+            → m.number + 1 ≡ self.now.config.next_message → option_map message_view (option_copied result) ≡ Some m }
     {
         let mailbox = self.latest?;
         if !self.mailboxes.is_live(mailbox) {
@@ -66,7 +68,9 @@ impl IndexedConfig {
 
     /// Whether the thread may receive the message that was sent last, where that is pending and the last one. It takes no memory, and no walk.
     pub fn receives_last(&self, code: &Executable, thread: u32) -> bool
-        ensures { (ms : List MessageOf) (m : MessageOf) → self.now.config.messages ≡ ms ++ m ∷ [] → m.number + 1 ≡ self.now.config.next_message → IsTrue result ↔ IsEnabled (program_view code.now.program) self.now.config (record { thread = thread; act = ActReceive m.number }) }
+        ensures { (ms : List MessageOf) (m : MessageOf) → self.now.config.messages ≡ ms ++ m ∷ []
+            → m.number + 1 ≡ self.now.config.next_message → IsTrue result
+            ↔ IsEnabled (program_view code.now.program) self.now.config (record { thread = thread; act = ActReceive m.number }) }
     {
         let Some(state) = self.placed.thread(thread) else {
             return false;

@@ -72,7 +72,12 @@ impl Mailboxes {
     pub fn create(&mut self, mailbox: u32)
         requires room { 0 < self.old.spare }
         requires next { mailbox ≡ length self.old.mailboxes }
-        ensures { self.new ≡ record { mailboxes = self.old.mailboxes ++ Some (record { pending = [] }) ∷ []; room = self.old.room; spare = self.old.spare - 1 } }
+        ensures { self.new ≡ record {
+          mailboxes = self.old.mailboxes ++ Some (record { pending = [] }) ∷ [];
+          room = self.old.room;
+          spare
+              = self.old.spare - 1;
+        } }
     {
         // The number is the place that the entry gets.
         let _ = mailbox;
@@ -91,7 +96,13 @@ impl Mailboxes {
         requires room { all_pending self.old.mailboxes < self.old.room }
         requires live { IsLive self.old.mailboxes message.mailbox }
         requires last { AllByRecursion (λ m. m.number < message.number) (pending_at self.old.mailboxes message.mailbox) }
-        ensures { self.new ≡ record { mailboxes = slice_set self.old.mailboxes message.mailbox (Some (record { pending = pending_at self.old.mailboxes message.mailbox ++ message ∷ [] })); room = self.old.room; spare = self.old.spare } }
+        ensures { self.new ≡ record {
+          mailboxes = slice_set self.old.mailboxes message.mailbox
+              (Some (record { pending = pending_at self.old.mailboxes message.mailbox ++ message ∷ [] }));
+          room = self.old.room;
+          spare
+              = self.old.spare;
+        } }
     {
         let queue = queue_of(self.store.queues.as_slice(), message.mailbox);
         self.store.pool.push_back(queue, message);
@@ -112,7 +123,13 @@ impl Mailboxes {
         requires live { IsLive self.old.mailboxes mailbox }
         requires there { place < length (pending_at self.old.mailboxes mailbox) }
         ensures message { slice_get (pending_at self.old.mailboxes mailbox) place ≡ Some result }
-        ensures rest { self.new ≡ record { mailboxes = slice_set self.old.mailboxes mailbox (Some (record { pending = remove (pending_at self.old.mailboxes mailbox) place })); room = self.old.room; spare = self.old.spare } }
+        ensures rest { self.new ≡ record {
+          mailboxes
+              = slice_set self.old.mailboxes mailbox (Some (record { pending = remove (pending_at self.old.mailboxes mailbox) place }));
+          room
+              = self.old.room;
+          spare = self.old.spare;
+        } }
     {
         let queue = queue_of(self.store.queues.as_slice(), mailbox);
         self.store.pool.take_at(queue, place)
@@ -150,7 +167,12 @@ impl Mailboxes {
     pub fn free(&mut self, mailbox: u32)
         requires live { IsLive self.old.mailboxes mailbox }
         requires empty { pending_at self.old.mailboxes mailbox ≡ [] }
-        ensures { self.new ≡ record { mailboxes = slice_set self.old.mailboxes mailbox None; room = self.old.room; spare = self.old.spare } }
+        ensures { self.new ≡ record {
+          mailboxes = slice_set self.old.mailboxes mailbox None;
+          room = self.old.room;
+          spare
+              = self.old.spare;
+        } }
     {
         let queue = queue_of(self.store.queues.as_slice(), mailbox);
         self.store.queues[mailbox as usize] = None;

@@ -53,7 +53,8 @@ impl Store {
         ensures store { IsStore self.new room }
         ensures same { shown_in self.new ≡ shown_in self.old }
         ensures queues { self.new.queues ≡ self.old.queues }
-        ensures ready { length self.new.ready.items ≡ (if is_ok result then length self.old.ready.items + 1 else length self.old.ready.items) }
+        ensures ready { length self.new.ready.items
+            ≡ (if is_ok result then length self.old.ready.items + 1 else length self.old.ready.items) }
     {
         self.ready.reserve(1)?;
         let queue = self.pool.open()?;

@@ -70,7 +70,8 @@ fn prepare(
     receipts: &mut Vec<Receipt>,
     task: Task,
 ) -> Result<LocalRun, AllocError>
-    ensures run { IfOk result (λ r. IsLocalRun (program_view code.now.program) task.job.allowance (thread_view r.start) r.steps (thread_view r.end)) }
+    ensures run { IfOk result (λ r. IsLocalRun (program_view code.now.program) task.job.allowance (thread_view r.start) r.steps
+        (thread_view r.end)) }
     ensures receipts { receipts.new.items ≡ receipts.old.items }
     ensures room { OnOk result (vec_len receipts.new < vec_capacity receipts.new) }
 {

@@ -109,7 +109,8 @@ pub fn work_all<R: Threads + Wait + Sync, G: Gate>(
 ) -> Result<Vec<Worker>, AllocError>
     requires { All (λ p. IsReady turn.now.id code.now.program p) passes.items }
     ensures len { IfOk result (λ v. length v.items ≡ length passes.items) }
-    ensures each { IfOk result (λ v. (i : ℕ) (w : _) → i < length passes.items → IsWorked (slice_index_or passes.items i w.pass) (slice_index_or v.items i w)) }
+    ensures each { IfOk result (λ v. (i : ℕ) (w : _) → i < length passes.items
+        → IsWorked (slice_index_or passes.items i w.pass) (slice_index_or v.items i w)) }
 {
     thread::map_vec(
         rt,

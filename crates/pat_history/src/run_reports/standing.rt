@@ -30,7 +30,8 @@ fn push_words(
     steps: u64,
     remains: &Remains,
 ) -> Result<(), AllocError>
-    ensures { OnOk result (text.new.items ≡ text.old.items ++ standing_text (option_map outcome_view standing) steps remains.now.threads remains.now.live) }
+    ensures { OnOk result (text.new.items ≡ text.old.items
+        ++ standing_text (option_map outcome_view standing) steps remains.now.threads remains.now.live) }
 {
     match standing {
         Some(Outcome::Done) => {

@@ -48,7 +48,8 @@ fn copy_box(
     mailbox: u32,
     own: &mut Sequence<Message>,
 ) -> Result<(), AllocError>
-    ensures { OnOk result (map message_view own.new ≡ map message_view own.old ++ map message_view (pending_at mailboxes.now.mailboxes mailbox)) }
+    ensures { OnOk result (map message_view own.new ≡ map message_view own.old
+        ++ map message_view (pending_at mailboxes.now.mailboxes mailbox)) }
 {
     if !mailboxes.is_live(mailbox) {
         return Ok(());

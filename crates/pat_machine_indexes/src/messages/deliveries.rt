@@ -68,8 +68,11 @@ pub fn delivery(
     number: u32,
 ) -> Result<(u32, u32, Control), StepError>
     requires { AreKept (boxes_view mailboxes.now.mailboxes) }
-    ensures ok { IfOk result (λ d. IsDelivery (program_view code.now.program) (boxes_view mailboxes.now.mailboxes) (redex (program_view code.now.program) (control_view control.now)) number d.0 d.1 (control_view d.2)) }
-    ensures disabled { result ≡ Err Disabled → redex_received (program_view code.now.program) (messages_of (boxes_view mailboxes.now.mailboxes)) number (redex (program_view code.now.program) (control_view control.now)) ≡ None }
+    ensures ok { IfOk result (λ d. IsDelivery (program_view code.now.program) (boxes_view mailboxes.now.mailboxes)
+        (redex (program_view code.now.program) (control_view control.now)) number d.0 d.1 (control_view d.2)) }
+    ensures disabled { result ≡ Err Disabled
+        → redex_received (program_view code.now.program) (messages_of (boxes_view mailboxes.now.mailboxes)) number
+        (redex (program_view code.now.program) (control_view control.now)) ≡ None }
 {
     match guard_of(code, control) {
         Some(guard) => match find_numbered(mailboxes, guard.mailbox, number) {
@@ -86,7 +89,8 @@ pub fn delivery(
 // The message of a number that is pending in a mailbox, and its place.
 fn find_numbered(mailboxes: &Mailboxes, mailbox: u32, number: u32) -> Option<(u32, &Message)>
     ensures live { IfSome result (λ f. IsLive mailboxes.now.mailboxes mailbox) }
-    ensures there { IfSome result (λ f. (slice_get (pending_of mailboxes.now.mailboxes mailbox) f.0 ≡ Some f.1.now) × (f.1.now.number ≡ number)) }
+    ensures there { IfSome result (λ f. (slice_get (pending_of mailboxes.now.mailboxes mailbox) f.0 ≡ Some f.1.now)
+        × (f.1.now.number ≡ number)) }
     ensures none { IfNone result (find (λ m. nat_eq number m.number) (pending_of mailboxes.now.mailboxes mailbox) ≡ None) }
 {
     if !mailboxes.is_live(mailbox) {

@@ -47,7 +47,8 @@ pub fn count_thread(state: &IndexedConfig, names: &mut RefCounts, thread: u32, f
 pub fn leave_thread(state: &IndexedConfig, names: &mut RefCounts, thread: u32, frames: u32)
     requires there { (s : ThreadOf) × (thread_at state.now.config thread ≡ Some s) }
     requires counted { AreCounted names.old.times.items state.now.config }
-    ensures counted { (s : ThreadOf) → thread_at state.now.config thread ≡ Some s → AreCountedBut (λ a. times_in_thread a (top_of frames s)) names.new.times.items state.now.config }
+    ensures counted { (s : ThreadOf) → thread_at state.now.config thread ≡ Some s
+        → AreCountedBut (λ a. times_in_thread a (top_of frames s)) names.new.times.items state.now.config }
     ensures room { vec_capacity names.old.times ≤ vec_capacity names.new.times }
     ensures len { vec_len names.new.times ≡ vec_len names.old.times }
 {
@@ -63,7 +64,8 @@ fn leave_taken(names: &mut RefCounts, taken: &Option<Taken>)
     requires room { vec_len names.old.times < vec_capacity names.old.times }
     requires taken { (a : ℕ) → times_received (taken_act taken.now) (taken_message taken.now) a ≤ count_at names.old.times.items a }
     ensures whole { length names.new.times.items ≡ length names.old.times.items + made_by (taken_act taken.now) }
-    ensures times { (a : ℕ) → count_at names.new.times.items a + times_received (taken_act taken.now) (taken_message taken.now) a ≡ count_at names.old.times.items a }
+    ensures times { (a : ℕ) → count_at names.new.times.items a + times_received (taken_act taken.now) (taken_message taken.now) a
+        ≡ count_at names.old.times.items a }
 {
     match taken {
         Some(taken) => match taken.act {

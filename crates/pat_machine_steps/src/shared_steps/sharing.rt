@@ -41,13 +41,19 @@ pub fn share(
     requires space { HasPlace state.old limit }
     requires settled { IsSettled (program_view code.now.program) state.old.config thread allowance settled }
     requires frames { length settled.end.frames < number_count }
-    requires typed { (s : ThreadOf) → thread_at state.old.config thread ≡ Some s → IsTypedBySome (program_view code.now.program) (half_way state.old.config thread s settled) }
+    requires typed { (s : ThreadOf) → thread_at state.old.config thread ≡ Some s
+        → IsTypedBySome (program_view code.now.program) (half_way state.old.config thread s settled) }
     requires place { vec_len names.old.times < vec_capacity names.old.times }
     requires counted { AreCounted names.old.times.items state.old.config }
     requires before { CanBeCounted state.old.config }
-    requires after { (s : ThreadOf) (a : Option ActOf) (d : ConfigOf) → thread_at state.old.config thread ≡ Some s → Finishes (program_view code.now.program) allowance limit (half_way state.old.config thread s settled) thread settled.steps a d → CanBeCounted d }
-    ensures ok { OnOk result ((s : ThreadOf) → thread_at state.old.config thread ≡ Some s → Finishes (program_view code.now.program) allowance limit (half_way state.old.config thread s settled) thread settled.steps (taken_act taken.new) state.new.config) }
-    ensures message { OnOk result ((k : ℕ) → taken_act taken.new ≡ Some (ActReceive k) → taken_message taken.new ≡ message_at state.old.config k) }
+    requires after { (s : ThreadOf) (a : Option ActOf) (d : ConfigOf) → thread_at state.old.config thread ≡ Some s
+        → Finishes (program_view code.now.program) allowance limit (half_way state.old.config thread s settled) thread settled.steps a d
+        → CanBeCounted d }
+    ensures ok { OnOk result ((s : ThreadOf) → thread_at state.old.config thread ≡ Some s
+        → Finishes (program_view code.now.program) allowance limit (half_way state.old.config thread s settled) thread settled.steps
+        (taken_act taken.new) state.new.config) }
+    ensures message { OnOk result ((k : ℕ) → taken_act taken.new ≡ Some (ActReceive k)
+        → taken_message taken.new ≡ message_at state.old.config k) }
     ensures err { OnErr result (state.new.config ≡ state.old.config) }
     ensures places { state.new.places ≡ state.old.places }
     ensures counted { AreCounted names.new.times.items state.new.config }
@@ -90,9 +96,11 @@ pub fn share_in_place(
     requires place { vec_len names.old.times < vec_capacity names.old.times }
     requires counted { AreCounted names.old.times.items state.old.config }
     requires before { CanBeCounted state.old.config }
-    requires after { (a : Option ActOf) (d : ConfigOf) → Shares (program_view code.now.program) limit state.old.config thread a d → CanBeCounted d }
+    requires after { (a : Option ActOf) (d : ConfigOf) → Shares (program_view code.now.program) limit state.old.config thread a d
+        → CanBeCounted d }
     ensures ok { OnOk result (Shares (program_view code.now.program) limit state.old.config thread (taken_act taken.new) state.new.config) }
-    ensures message { OnOk result ((k : ℕ) → taken_act taken.new ≡ Some (ActReceive k) → taken_message taken.new ≡ message_at state.old.config k) }
+    ensures message { OnOk result ((k : ℕ) → taken_act taken.new ≡ Some (ActReceive k)
+        → taken_message taken.new ≡ message_at state.old.config k) }
     ensures err { OnErr result (state.new.config ≡ state.old.config) }
     ensures places { state.new.places ≡ state.old.places }
     ensures counted { AreCounted names.new.times.items state.new.config }
@@ -126,10 +134,16 @@ fn finish(
     requires room { HasRoom state.old.config }
     requires space { HasPlace state.old limit }
     requires settled { IsSettled (program_view code.now.program) state.old.config thread allowance settled }
-    requires typed { (s : ThreadOf) → thread_at state.old.config thread ≡ Some s → IsTypedBySome (program_view code.now.program) (half_way state.old.config thread s settled) }
-    requires alone { (s : ThreadOf) → thread_at state.old.config thread ≡ Some s → TellsAlone (program_view code.now.program) (half_way state.old.config thread s settled) thread (settled_thread s settled) (is_unnamed (program_view code.now.program) names.now.times.items (thread_view settled.end)) }
-    ensures ok { OnOk result ((s : ThreadOf) → thread_at state.old.config thread ≡ Some s → Finishes (program_view code.now.program) allowance limit (half_way state.old.config thread s settled) thread settled.steps (taken_act taken.new) state.new.config) }
-    ensures message { OnOk result ((k : ℕ) → taken_act taken.new ≡ Some (ActReceive k) → taken_message taken.new ≡ message_at state.old.config k) }
+    requires typed { (s : ThreadOf) → thread_at state.old.config thread ≡ Some s
+        → IsTypedBySome (program_view code.now.program) (half_way state.old.config thread s settled) }
+    requires alone { (s : ThreadOf) → thread_at state.old.config thread ≡ Some s
+        → TellsAlone (program_view code.now.program) (half_way state.old.config thread s settled) thread (settled_thread s settled)
+        (is_unnamed (program_view code.now.program) names.now.times.items (thread_view settled.end)) }
+    ensures ok { OnOk result ((s : ThreadOf) → thread_at state.old.config thread ≡ Some s
+        → Finishes (program_view code.now.program) allowance limit (half_way state.old.config thread s settled) thread settled.steps
+        (taken_act taken.new) state.new.config) }
+    ensures message { OnOk result ((k : ℕ) → taken_act taken.new ≡ Some (ActReceive k)
+        → taken_message taken.new ≡ message_at state.old.config k) }
     ensures err { OnErr result (state.new.config ≡ state.old.config) }
     ensures places { state.new.places ≡ state.old.places }
 {

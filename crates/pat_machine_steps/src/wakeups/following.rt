@@ -39,7 +39,9 @@ pub fn follow(
     requires hold { CanHold waits.old 2 }
     requires room { HasRoom waits.old }
     requires told { TellOfEach (program_view code.now.program) state.now.config names.now.times.items }
-    requires were { WereNoted (program_view code.now.program) waits.old stepped.now.thread (option_map act_view stepped.now.shared) stepped.now.newcomer state.now.config stepped.now.named.now (option_map message_view (option_copied stepped.now.received)) }
+    requires were { WereNoted (program_view code.now.program) waits.old stepped.now.thread
+        (option_map act_view stepped.now.shared) stepped.now.newcomer state.now.config stepped.now.named.now
+        (option_map message_view (option_copied stepped.now.received)) }
     ensures { AreNoted (program_view code.now.program) state.now.config waits.new.awake.numbers.items waits.new.senders.numbers.items waits.new.sleepers.items }
 {
     wake_freeing(waits, code, state, names, stepped.named, stepped.received);
@@ -59,7 +61,8 @@ fn follow_others(
     requires hold { CanHold waits.old 2 }
     requires room { HasRoom waits.old }
     requires told { TellOfEach (program_view code.now.program) state.now.config names.now.times.items }
-    requires were { WereWoken (program_view code.now.program) waits.old stepped.now.thread (option_map act_view stepped.now.shared) stepped.now.newcomer state.now.config }
+    requires were { WereWoken (program_view code.now.program) waits.old stepped.now.thread
+        (option_map act_view stepped.now.shared) stepped.now.newcomer state.now.config }
     ensures { Follows (program_view code.now.program) state.now.config waits.new stepped.now.thread }
 {
     match stepped.shared {
@@ -80,7 +83,8 @@ fn follow_act(
     requires hold { CanHold waits.old 2 }
     requires room { HasRoom waits.old }
     requires told { TellOfEach (program_view code.now.program) state.now.config names.now.times.items }
-    requires were { WereWoken (program_view code.now.program) waits.old stepped.now.thread (Some (act_view act)) stepped.now.newcomer state.now.config }
+    requires were { WereWoken (program_view code.now.program) waits.old stepped.now.thread
+        (Some (act_view act)) stepped.now.newcomer state.now.config }
     ensures { Follows (program_view code.now.program) state.now.config waits.new stepped.now.thread }
 {
     match act {

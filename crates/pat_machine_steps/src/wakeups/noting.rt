@@ -29,7 +29,8 @@ pub fn note_threads<'a>(
     requires hold { CanHold waits.old 2 }
     requires room { HasRoom waits.old }
     requires told { TellOfEach (program_view code.now.program) state.now.config names.now.times.items }
-    requires were { WereNoted (program_view code.now.program) waits.old thread (taken_act taken.now) newcomer state.now.config named.now (taken_message taken.now) }
+    requires were { WereNoted (program_view code.now.program) waits.old thread (taken_act taken.now) newcomer state.now.config named.now
+        (taken_message taken.now) }
     ensures { AreNoted (program_view code.now.program) state.now.config waits.new.awake.numbers.items waits.new.senders.numbers.items waits.new.sleepers.items }
 {
     let stepped = Stepped {

@@ -50,7 +50,8 @@ pub fn wake_freeing(
     requires order { IsInOrder waits.old }
     requires space { HasSpace waits.old 0 }
     requires told { TellOfEach (program_view code.now.program) state.now.config names.now.times.items }
-    ensures { WakesThose (FreesListed (program_view code.now.program) state.now.config named.now (option_map message_view (option_copied received.entry))) waits.old waits.new }
+    ensures { WakesThose (FreesListed (program_view code.now.program) state.now.config named.now
+        (option_map message_view (option_copied received.entry))) waits.old waits.new }
 {
     wake_named(waits, code, state, names, named);
     match received {

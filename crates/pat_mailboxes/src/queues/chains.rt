@@ -94,7 +94,8 @@ impl Chains {
         ensures spare { self.new.spare + 1 ≡ self.old.spare }
         ensures nodes { length self.new.links.items ≡ length self.old.links.items }
         ensures capacity { vec_capacity self.new.links ≡ vec_capacity self.old.links }
-        ensures queues { queue_nodes self.new ≡ slice_set (queue_nodes self.old) queue (nodes_in (queue_nodes self.old) queue ++ result ∷ []) }
+        ensures queues { queue_nodes self.new ≡ slice_set (queue_nodes self.old) queue
+            (nodes_in (queue_nodes self.old) queue ++ result ∷ []) }
     {
         let node = self.pop_free();
         self.append(queue, node);
@@ -110,7 +111,8 @@ impl Chains {
         ensures nodes { length self.new.links.items ≡ length self.old.links.items }
         ensures capacity { vec_capacity self.new.links ≡ vec_capacity self.old.links }
         ensures node { result ≡ slice_index (nodes_in (queue_nodes self.old) queue) place }
-        ensures queues { queue_nodes self.new ≡ slice_set (queue_nodes self.old) queue (remove (nodes_in (queue_nodes self.old) queue) place) }
+        ensures queues { queue_nodes self.new ≡ slice_set (queue_nodes self.old) queue
+            (remove (nodes_in (queue_nodes self.old) queue) place) }
     {
         let node = self.detach(queue, place);
         self.push_free(node);
@@ -156,7 +158,8 @@ impl Chains {
         ensures spare { self.new.spare ≡ self.old.spare }
         ensures nodes { length self.new.links.items ≡ length self.old.links.items }
         ensures capacity { vec_capacity self.new.links ≡ vec_capacity self.old.links }
-        ensures queues { queue_nodes self.new ≡ slice_set (queue_nodes self.old) queue (nodes_in (queue_nodes self.old) queue ++ node ∷ []) }
+        ensures queues { queue_nodes self.new ≡ slice_set (queue_nodes self.old) queue
+            (nodes_in (queue_nodes self.old) queue ++ node ∷ []) }
     {
         let chain = self.queues[queue as usize];
         if chain.len == 0 {
@@ -184,7 +187,8 @@ impl Chains {
         ensures nodes { length self.new.links.items ≡ length self.old.links.items }
         ensures capacity { vec_capacity self.new.links ≡ vec_capacity self.old.links }
         ensures node { result ≡ slice_index (nodes_in (queue_nodes self.old) queue) place }
-        ensures queues { queue_nodes self.new ≡ slice_set (queue_nodes self.old) queue (remove (nodes_in (queue_nodes self.old) queue) place) }
+        ensures queues { queue_nodes self.new ≡ slice_set (queue_nodes self.old) queue
+            (remove (nodes_in (queue_nodes self.old) queue) place) }
     {
         if place == 0 {
             self.pop_first(queue)
@@ -226,7 +230,8 @@ impl Chains {
         ensures nodes { length self.new.links.items ≡ length self.old.links.items }
         ensures capacity { vec_capacity self.new.links ≡ vec_capacity self.old.links }
         ensures node { result ≡ slice_index (nodes_in (queue_nodes self.old) queue) place }
-        ensures queues { queue_nodes self.new ≡ slice_set (queue_nodes self.old) queue (remove (nodes_in (queue_nodes self.old) queue) place) }
+        ensures queues { queue_nodes self.new ≡ slice_set (queue_nodes self.old) queue
+            (remove (nodes_in (queue_nodes self.old) queue) place) }
     {
         let chain = self.queues[queue as usize];
         let node = self.links[before as usize];

@@ -71,9 +71,11 @@ pub fn commit_in_turn<R: Wait>(
 ) -> Result<Receipt, CommitRefused>
     requires turn { pass.old.turn ≡ turn.now.id }
     requires free { pass.old.holds ≡ false }
-    requires run { (named : NamedOf) → pass.old.name ≡ Some named → IsLocalRun (program_view named.program) job.allowance (thread_view run.start) run.steps (thread_view run.end) }
+    requires run { (named : NamedOf) → pass.old.name ≡ Some named
+        → IsLocalRun (program_view named.program) job.allowance (thread_view run.start) run.steps (thread_view run.end) }
     ensures pass { pass.new ≡ record pass.old { seen = pass.new.seen } }
-    ensures committed { (found left : Shown) × IsHold pass.old pass.new.seen found left × CommittingGives found pass.old.number job result left }
+    ensures committed { (found left : Shown) × IsHold pass.old pass.new.seen found left
+        × CommittingGives found pass.old.number job result left }
 {
     let worker = pass.number();
     let mut machine = turn.hold(rt, pass);
