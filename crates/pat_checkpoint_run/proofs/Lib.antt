@@ -1,6 +1,7 @@
 mod Turns
 mod Courses
 mod Nexts
+mod Halves
 mod LocalsTaken
 mod ActsShared
 mod InterfacesFound

@@ -13,6 +13,7 @@ use Rattle.pat_reduce.specs.threads.ThreadViews.{thread_view}
 use Rattle.pat_reduce.specs.Acts.{EnabledAct}
 use Rattle.pat_reduce.specs.Views.{act_view, threads_view}
 use Rattle.pat_checkpoint_spec.specs.Turns.{able_above, next_thread}
+use Rattle.pat_checkpoint_run.specs.Searches.{first_from}
 
 drop_past : {A : Type 0} (xs : List A) (i : ℕ) → length xs ≤ i → drop i xs ≡ []
 drop_past [] zero h = refl
@@ -26,12 +27,8 @@ can_by p c t None none = sym none
 can_by p c t (Some a) h = sym h.1
 
 module _ (test : ℕ → Bool) (items : List (ℕ × ThreadState)) where
-  -- the first that passes, of those from a place on
-  abbrev pub first_from : ℕ → Option ℕ
-  first_from i = option_map (λ e. e.0) (find (λ e. test e.0) (threads_view (drop i items)))
-
   -- there is none behind the last
-  pub over : (i : ℕ) → length items ≤ i → first_from i ≡ None
+  pub over : (i : ℕ) → length items ≤ i → first_from test items i ≡ None
   over i past = ap (λ l. option_map (λ e. e.0) (find (λ e. test e.0) (threads_view l))) (drop_past items i past)
 
   module _ (i : ℕ) (e : ℕ × ThreadState) (within : i < length items) (read : e ≡ get_or items i e) where
@@ -41,10 +38,10 @@ module _ (test : ℕ → Bool) (items : List (ℕ × ThreadState)) where
     abbrev rest : Option (ℕ × Thread)
     rest = find (λ e. test e.0) (threads_view (drop (i + 1) items))
 
-    pub found : test e.0 ≡ true → first_from i ≡ Some e.0
+    pub found : test e.0 ≡ true → first_from test items i ≡ Some e.0
     found can = ap (λ l. option_map (λ e. e.0) (find (λ e. test e.0) (threads_view l))) front ∙ ap (option_map (λ e. e.0)) (cond-true (test e.0) (Some (e.0, thread_view e.1)) rest can)
 
-    pub passed : test e.0 ≡ false → first_from i ≡ first_from (i + 1)
+    pub passed : test e.0 ≡ false → first_from test items i ≡ first_from test items (i + 1)
     passed no_one = ap (λ l. option_map (λ e. e.0) (find (λ e. test e.0) (threads_view l))) front ∙ ap (option_map (λ e. e.0)) (cond-false (test e.0) (Some (e.0, thread_view e.1)) rest no_one)
 
 -- the first above the last one, or else the first of all

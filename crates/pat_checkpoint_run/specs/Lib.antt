@@ -1,2 +1,3 @@
 pub mod NextNumbers
 pub mod Courses
+pub mod Searches

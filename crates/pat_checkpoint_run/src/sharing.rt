@@ -31,7 +31,7 @@ pub fn share(
 {
     // A law: an act that is found enabled is the first one.
     turn_laws();
-    let Some(act) = config.enabled_act(code, turn.thread) else {
+    let Some(act) = config.act_at_place(code, turn.thread, turn.place) else {
         return Ok(None);
     };
     let control = &config.threads.items[turn.place].1.control;
