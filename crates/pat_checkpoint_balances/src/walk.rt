@@ -135,7 +135,7 @@ fn add_env(
 
 // ---- threads
 
-// The type with which a returned mailbox is held.
+// The type with which a returned mailbox is held: as a demand holds it, in a private part of `pat_obligations`, whose way in is a node.
 fn returnable(of: &TypeOf) -> Result<Option<MailboxType>, AllocError>
     ensures { IfOk result (λ o. option_map type_view o ≡ as_holding (result_view of.now)) }
 {

@@ -56,7 +56,7 @@ fn put_in_order(numbers: &mut Vec<u32>)
     numbers.dedup();
 }
 
-/// Adds the free variables of a term.
+/// Adds the free variables of a term. `pat_reduce_values` lists them alike for each run, without an order; here they ascend, and each stands once.
 fn add_term(
     own: &mut Sequence<u32>,
     free: &Sequence<Sequence<u32>>,

@@ -41,7 +41,7 @@ pub fn put_integer(alloc: Global, out: &mut Vec<u8>, n: i64) -> Result<(), Alloc
     out.extend_from_slice(digits.as_bytes())
 }
 
-/// Appends a string in quotes.
+/// Appends a string in quotes, as `pat_print` does, which keeps its atoms to itself.
 pub fn put_string(out: &mut Vec<u8>, text: &Text) -> Result<(), AllocError>
     ensures { OnOk result (out.new.items ≡ out.old.items ++ string_text text.now) }
 {

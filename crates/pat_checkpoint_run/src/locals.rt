@@ -33,7 +33,8 @@ pub fn take_locals(
     )
 }
 
-// As many local steps as there are within the allowance, in place; and how many they were.
+// As many local steps as there are within the allowance, in place; and how many they were. The machine takes them alike, of threads in a
+// store of its own.
 fn run_locally(
     alloc: Global,
     code: &Executable,

@@ -16,7 +16,7 @@ use pat_patterns::Pattern;
 use pat_sequences::Sequence;
 use std::alloc::{AllocError, Global};
 
-/// The closed form of a side.
+/// The closed form of a side. The solver has one for each of its own sides, whose values are measured; here they are a derivation's.
 #[derive(Drop)]
 pub enum ClosedForm<'a> {
     /// That of a variable's value.
