@@ -2,4 +2,6 @@ mod Rounding
 mod Steps
 mod Tagged
 mod Meaning
+mod Kept
+mod Singles
 mod Reflexive

@@ -1,5 +1,5 @@
 -- Sets are directly covered by themselves, so a constraint whose sides are the same is covered.
-use Rattle.std.proofs.Common.{◌≡◌, ℕ, suc, Bool, true, false, ◌&&◌, List, [], ◌∷◌, Some, None, refl, sym, ap, ◌∙◌, arith, zero-mul}
+use Rattle.std.proofs.Common.{◌≡◌, ℕ, suc, Bool, true, false, ◌&&◌, List, [], ◌∷◌, Option, Some, None, refl, sym, ap, ◌∙◌, subst, arith, zero-mul}
 use Rattle.std.specs.Prelude.{slice_get, is_some}
 use Rattle.std.specs.List.{AllByRecursion}
 use Rattle.pat_words_spec.specs.Patterns.{Pat}
@@ -14,7 +14,13 @@ use Rattle.pat_solve_bounded.specs.Limits.{within}
 use Rattle.pat_solve_elimination.proofs.Forms.{part_is}
 use Rattle.pat_solve_closed_forms.specs.declared.checking.Finding.{Finding}
 use Rattle.pat_solve_closed_forms.specs.declared.checking.Finding.TheVariants.{Covered, Uncovered, TooLarge}
+use Rattle.pat_solve_closed_forms.specs.declared.forms.SideForm.{SideForm}
+use Rattle.pat_solve_closed_forms.specs.Forms.{side_sets, side_view}
 use Rattle.pat_solve_closed_forms.specs.Findings.{have_forms, Follows}
+use Rattle.pat_solve_closed_forms.specs.declared.same.Comparison.{Comparison}
+use Rattle.pat_solve_closed_forms.specs.declared.same.Comparison.TheVariants.{Apart, Same, SameWithForm}
+use Rattle.pat_solve_closed_forms.specs.Comparisons.{Compares, ComparesParts}
+use Rattle.pat_solve_closed_forms.proofs.Singles.{single_form}
 use Rattle.pat_solve_closed_forms.proofs.Steps.{follows_uncovered}
 
 all_with : {A : Type 0} (P Q : A → Type 0) → ((x : A) → P x → Q x) → (xs : List A) → AllByRecursion P xs → AllByRecursion Q xs
@@ -72,11 +78,16 @@ same_covered n e f sets same own = record {
   covered = covered_by_itself sets;
 }
 
-pub follows_same : (m : ℕ) (e f : Pat) (before : Finding) (sets : List LinearSet) → e ≡ f → Some sets ≡ closed_form most_tags f → Follows m e f before before
+follows_same : (m : ℕ) (e f : Pat) (before : Finding) (sets : List LinearSet) → e ≡ f → Some sets ≡ closed_form most_tags f → Follows m e f before before
 follows_same m e f Covered sets same own = same_covered most_tags e f sets same own
 follows_same m e f (Uncovered k) sets same own =
     follows_uncovered m k e f sets sets (own ∙ sym (ap (closed_form most_tags) same)) own
 follows_same m e f TooLarge sets same own = tt
+
+-- both sides are this one, which has a closed form
+pub follows_there : (m : ℕ) (f : Pat) (before : Finding) (o : Option SideForm) (form : SideForm) → o ≡ Some form → side_view o ≡ closed_form most_tags f → Follows m f f before before
+follows_there m f before o form there own =
+    follows_same m f f before (side_sets form) refl (subst (λ x. side_view x ≡ closed_form most_tags f) there own)
 
 -- a side has no closed form
 pub follows_large : (m : ℕ) (e f : Pat) (before : Finding) → have_forms most_tags e f ≡ false → Follows m e f before TooLarge
@@ -98,5 +109,19 @@ no_right_form m e f before none =
 
 -- ---- sides that come to the same parts
 
-pub come_to_one : (e f p q : Pat) → Some p ≡ within e → Some q ≡ within f → p ≡ q → e ≡ f
+come_to_one : (e f p q : Pat) → Some p ≡ within e → Some q ≡ within f → p ≡ q → e ≡ f
 come_to_one e f p q left right same = sym (part_is e p left) ∙ same ∙ part_is f q right
+
+pub compares : (e f p q : Pat) (c : Comparison) → Some p ≡ within e → Some q ≡ within f → ComparesParts p q c → Compares e f c
+compares e f p q Apart left right h = tt
+compares e f p q Same left right h = come_to_one e f p q left right h
+compares e f p q SameWithForm left right h =
+    (come_to_one e f p q left right h.0, single_form most_tags f q right h.1)
+
+form_there : (o : Option (List LinearSet)) → is_some o ≡ true → (sets : List LinearSet) × (Some sets ≡ o)
+form_there (Some sets) h = (sets, refl)
+form_there None h = let clash : false ≡ true = h in cc
+
+pub follows_with_form : (m : ℕ) (e f : Pat) (before : Finding) → Compares e f SameWithForm → Follows m e f before before
+follows_with_form m e f before h =
+    let form = form_there (closed_form most_tags f) h.1 in follows_same m e f before form.0 h.0 form.1

@@ -1,5 +1,5 @@
-// Closed forms of an interface's values, each made once, and of the sides of its constraints.
-ghost use Rattle.std.specs.Prelude.{◌≡◌, ◌<◌, ℕ, None, length, map, get_or, IfOk, IsTrue};
+// Closed forms of an interface's values, each made once where it is asked for, and of the sides of its constraints.
+ghost use Rattle.std.specs.Prelude.{◌≡◌, ◌<◌, length, get_or, IfOk, OnOk, IfSome, IsTrue};
 ghost use Rattle.pat_words_spec.specs.Patterns.{subst_of};
 ghost use Rattle.pat_words_spec.specs.Tags.{tags_below};
 ghost use Rattle.pat_inclusion_spec.specs.Counts.{most_tags};
@@ -7,26 +7,33 @@ ghost use Rattle.pat_inclusion_spec.specs.ClosedForms.{closed_form};
 ghost use Rattle.pat_patterns.specs.Views.{pattern_view};
 ghost use Rattle.pat_linear.specs.Views.{sets_view};
 ghost use Rattle.pat_types.specs.Views.{right_view};
-ghost use Rattle.pat_solve_spec.specs.Assignments.{value_in};
-ghost use Rattle.pat_solve_bounded.specs.Views.{measured_list};
-ghost use Rattle.pat_solve_bounded.specs.replacing.Ascending.{IsAscending, paired};
 ghost use Rattle.pat_solve_closed_forms.specs.Sides.{right_pattern};
-ghost use Rattle.pat_solve_closed_forms.specs.Forms.{form_view, forms_list, side_sets, side_view, values_by, IsAssignment};
+ghost use Rattle.pat_solve_closed_forms.specs.Forms.{side_sets, side_view, values_by, IsAssignment, IsKept, AreKept};
 
 use pat_linear::LinearSet;
 use pat_patterns::Pattern;
-use pat_sequences::Sequence;
+use pat_sequences::{Sequence, let_go};
 use pat_solve_bounded::{Measured, Replacement, find_variable};
 use pat_solve_elimination::side_form;
 use pat_types::Right;
 use std::alloc::{AllocError, Global};
 
-/// Ascending variables with their values, and the closed form of each value, unless that is too large.
+/// Ascending variables with their values.
 #[derive(Clone, Copy)]
 pub struct Assignment<'a> {
     pub variables: &'a [u32],
     pub values: &'a [Measured],
-    pub forms: &'a [Option<Sequence<LinearSet>>],
+}
+
+/// What is kept of the closed form of a variable's value.
+#[derive(Drop)]
+pub enum KeptForm {
+    /// It isn't made yet.
+    Unmade,
+    /// There is none, since it is too large.
+    TooLarge,
+    /// Its sets.
+    Sets(Sequence<LinearSet>),
 }
 
 /// The closed form of a side.
@@ -50,55 +57,129 @@ impl<'a> SideForm<'a> {
     }
 }
 
-/// The closed forms of the variables' values.
-pub fn value_forms(
-    alloc: Global,
-    variables: &[u32],
-    values: &[Measured],
-) -> Result<Sequence<Option<Sequence<LinearSet>>>, AllocError>
-    requires ascending { IsAscending variables.now }
-    requires as_many { length variables.now ≡ length values.now }
-    requires tags { (k : ℕ) → IsTrue (tags_below most_tags (value_in (paired variables.now (measured_list values.now)) k)) }
-    ensures { IfOk result (λ forms. forms_list forms
-        ≡ map (λ k. closed_form most_tags (value_in (paired variables.now (measured_list values.now)) k)) variables.now) }
+/// For each variable that the closed form of its value isn't made yet.
+pub fn unmade_forms(alloc: Global, by: &Assignment) -> Result<Sequence<KeptForm>, AllocError>
+    ensures { IfOk result (AreKept by.now) }
 {
     let mut forms = Sequence::new(alloc);
-    for variable in variables {
-        let form = value_form(alloc, variables, values, *variable)?;
-        forms.push(form)?;
+    for _ in by.variables {
+        forms.push(KeptForm::Unmade)?;
     }
     Ok(forms)
 }
 
-/// The closed form of the variable's value.
-fn value_form(
+/// Whether the closed form at this place isn't made yet.
+fn is_unmade(forms: &[KeptForm], place: usize) -> bool
+    requires { place < length forms.now }
+{
+    matches!(&forms[place], KeptForm::Unmade)
+}
+
+/// Makes the closed form of the variable's value, if it isn't made yet.
+fn keep_form(
     alloc: Global,
-    variables: &[u32],
-    values: &[Measured],
     variable: u32,
-) -> Result<Option<Sequence<LinearSet>>, AllocError>
-    requires ascending { IsAscending variables.now }
-    requires as_many { length variables.now ≡ length values.now }
-    requires tags { IsTrue (tags_below most_tags (value_in (paired variables.now (measured_list values.now)) variable)) }
-    ensures { IfOk result (λ form. form_view form
-        ≡ closed_form most_tags (value_in (paired variables.now (measured_list values.now)) variable)) }
+    by: &Assignment,
+    forms: &mut Sequence<KeptForm>,
+) -> Result<(), AllocError>
+    requires by { IsAssignment by.now }
+    requires forms { AreKept by.now forms.old }
+    requires tags { IsTrue (tags_below most_tags (values_by by.now variable)) }
+    ensures { OnOk result (AreKept by.now forms.new) }
+{
+    match find_variable(by.variables, variable) {
+        Some(place) => keep_at(alloc, place, variable, by, forms),
+        None => Ok(()),
+    }
+}
+
+/// The same at the variable's place.
+fn keep_at(
+    alloc: Global,
+    place: usize,
+    variable: u32,
+    by: &Assignment,
+    forms: &mut Sequence<KeptForm>,
+) -> Result<(), AllocError>
+    requires by { IsAssignment by.now }
+    requires forms { AreKept by.now forms.old }
+    requires place { place < length by.now.variables.now }
+    requires variable { get_or by.now.variables.now place 0 ≡ variable }
+    requires tags { IsTrue (tags_below most_tags (values_by by.now variable)) }
+    ensures { OnOk result (AreKept by.now forms.new) }
+{
+    if !is_unmade(forms.as_slice(), place) {
+        return Ok(());
+    }
+    let form = value_form(alloc, variable, by)?;
+    let_go(forms.replace(place, form));
+    Ok(())
+}
+
+/// The closed form of the variable's value.
+fn value_form(alloc: Global, variable: u32, by: &Assignment) -> Result<KeptForm, AllocError>
+    requires by { IsAssignment by.now }
+    requires tags { IsTrue (tags_below most_tags (values_by by.now variable)) }
+    ensures { IfOk result (IsKept (closed_form most_tags (values_by by.now variable))) }
 {
     let side = Pattern::Var(variable);
-    side_form(alloc, &side, &Replacement::All(variables, values))
+    let own = side_form(alloc, &side, &Replacement::All(by.variables, by.values))?;
+    match own {
+        Some(sets) => Ok(KeptForm::Sets(sets)),
+        None => Ok(KeptForm::TooLarge),
+    }
+}
+
+/// Makes the closed form of a left side that is a variable, if it isn't made yet.
+pub fn keep_left(
+    alloc: Global,
+    side: &Pattern,
+    by: &Assignment,
+    forms: &mut Sequence<KeptForm>,
+) -> Result<(), AllocError>
+    requires by { IsAssignment by.now }
+    requires forms { AreKept by.now forms.old }
+    requires tags { IsTrue (tags_below most_tags (subst_of (values_by by.now) (pattern_view side.now))) }
+    ensures { OnOk result (AreKept by.now forms.new) }
+{
+    match side {
+        Pattern::Var(variable) => keep_form(alloc, *variable, by, forms),
+        _ => Ok(()),
+    }
+}
+
+/// The same of a right side.
+pub fn keep_right(
+    alloc: Global,
+    side: &Right,
+    by: &Assignment,
+    forms: &mut Sequence<KeptForm>,
+) -> Result<(), AllocError>
+    requires by { IsAssignment by.now }
+    requires forms { AreKept by.now forms.old }
+    requires tags { IsTrue (tags_below most_tags (subst_of (values_by by.now) (right_pattern (right_view side.now)))) }
+    ensures { OnOk result (AreKept by.now forms.new) }
+{
+    match side {
+        Right::Var(variable) => keep_form(alloc, *variable, by, forms),
+        Right::Pattern(_) => Ok(()),
+    }
 }
 
 /// The closed form of a left side, with its variables replaced; `None` exactly where that is too large.
 pub fn left_form<'a>(
     alloc: Global,
     side: &Pattern,
-    by: &Assignment<'a>,
+    by: &Assignment,
+    forms: &'a [KeptForm],
 ) -> Result<Option<SideForm<'a>>, AllocError>
     requires by { IsAssignment by.now }
+    requires forms { AreKept by.now forms.now }
     requires tags { IsTrue (tags_below most_tags (subst_of (values_by by.now) (pattern_view side.now))) }
     ensures { IfOk result (λ form. side_view form ≡ closed_form most_tags (subst_of (values_by by.now) (pattern_view side.now))) }
 {
     match side {
-        Pattern::Var(variable) => variable_form(alloc, *variable, by),
+        Pattern::Var(variable) => variable_form(alloc, *variable, by, forms),
         _ => own_form(alloc, side, by),
     }
 }
@@ -107,45 +188,51 @@ pub fn left_form<'a>(
 pub fn right_form<'a>(
     alloc: Global,
     side: &Right,
-    by: &Assignment<'a>,
+    by: &Assignment,
+    forms: &'a [KeptForm],
 ) -> Result<Option<SideForm<'a>>, AllocError>
     requires by { IsAssignment by.now }
+    requires forms { AreKept by.now forms.now }
     requires tags { IsTrue (tags_below most_tags (subst_of (values_by by.now) (right_pattern (right_view side.now)))) }
     ensures { IfOk result (λ form. side_view form
         ≡ closed_form most_tags (subst_of (values_by by.now) (right_pattern (right_view side.now)))) }
 {
     match side {
-        Right::Var(variable) => variable_form(alloc, *variable, by),
+        Right::Var(variable) => variable_form(alloc, *variable, by, forms),
         Right::Pattern(pattern) => own_form(alloc, pattern, by),
     }
 }
 
-/// The closed form of the variable's value, which is there already where the variable is among those with values.
+/// The closed form of the variable's value, which is held where it is made already.
 fn variable_form<'a>(
     alloc: Global,
     variable: u32,
-    by: &Assignment<'a>,
+    by: &Assignment,
+    forms: &'a [KeptForm],
 ) -> Result<Option<SideForm<'a>>, AllocError>
     requires by { IsAssignment by.now }
+    requires forms { AreKept by.now forms.now }
     requires tags { IsTrue (tags_below most_tags (values_by by.now variable)) }
     ensures { IfOk result (λ form. side_view form ≡ closed_form most_tags (values_by by.now variable)) }
 {
-    match find_variable(by.variables, variable) {
-        Some(place) => Ok(held_form(by, place)),
-        None => {
+    match kept_form(variable, by, forms) {
+        Some(KeptForm::Sets(sets)) => Ok(Some(SideForm::Held(sets.as_slice()))),
+        Some(KeptForm::TooLarge) => Ok(None),
+        Some(KeptForm::Unmade) | None => {
             let side = Pattern::Var(variable);
             own_form(alloc, &side, by)
         }
     }
 }
 
-/// The closed form at the place.
-fn held_form<'a>(by: &Assignment<'a>, place: usize) -> Option<SideForm<'a>>
-    requires { place < length by.now.forms.now }
-    ensures { side_view result ≡ get_or (forms_list by.now.forms.now) place None }
+/// What is kept of the closed form of the variable's value, if it has one.
+fn kept_form<'a>(variable: u32, by: &Assignment, forms: &'a [KeptForm]) -> Option<&'a KeptForm>
+    requires by { IsAssignment by.now }
+    requires forms { AreKept by.now forms.now }
+    ensures { IfSome result (λ form. IsKept (closed_form most_tags (values_by by.now variable)) form.now) }
 {
-    match &by.forms[place] {
-        Some(sets) => Some(SideForm::Held(sets.as_slice())),
+    match find_variable(by.variables, variable) {
+        Some(place) => Some(&forms[place]),
         None => None,
     }
 }
@@ -154,7 +241,7 @@ fn held_form<'a>(by: &Assignment<'a>, place: usize) -> Option<SideForm<'a>>
 fn own_form<'a>(
     alloc: Global,
     side: &Pattern,
-    by: &Assignment<'a>,
+    by: &Assignment,
 ) -> Result<Option<SideForm<'a>>, AllocError>
     requires by { IsAssignment by.now }
     requires tags { IsTrue (tags_below most_tags (subst_of (values_by by.now) (pattern_view side.now))) }

@@ -7,6 +7,8 @@ ghost use Rattle.pat_solve_bounded.specs.Limits.{within};
 ghost use Rattle.pat_solve_bounded.specs.Views.{part_view, limited_view};
 ghost use Rattle.pat_solve_bounded.specs.replacing.Replacing.{replaced_by, IsReplacement};
 ghost use Rattle.pat_solve_closed_forms.specs.Sides.{right_pattern};
+ghost use Rattle.pat_solve_closed_forms.specs.Singles.{is_single as is_single_of};
+ghost use Rattle.pat_solve_closed_forms.specs.Comparisons.{Compares, ComparesParts};
 ghost use Rattle.pat_solve_closed_forms.specs.Forms.{values_by, IsAssignment};
 
 use crate::forms::Assignment;
@@ -15,24 +17,34 @@ use pat_solve_bounded::{Part, Replacement, replaced};
 use pat_types::Right;
 use std::alloc::{AllocError, Global};
 
-/// Whether both sides are the same, neither too large, once their variables are replaced. Then the left one is covered by the right
-/// one, and no cover has to be looked for.
-pub fn sides_are_same(
+/// What is known of the sides of a constraint once their variables are replaced.
+#[derive(Clone, Copy)]
+pub enum Comparison {
+    /// Nothing.
+    Apart,
+    /// They are the same, so the left one is covered by the right one if they have a closed form.
+    Same,
+    /// They are the same and have a closed form.
+    SameWithForm,
+}
+
+/// Compares the sides. Where they are the same, no cover has to be looked for, and mostly no closed form either.
+pub fn compare(
     alloc: Global,
     left: &Pattern,
     right: &Right,
     by: &Assignment,
-) -> Result<bool, AllocError>
+) -> Result<Comparison, AllocError>
     requires { IsAssignment by.now }
-    ensures { IfOk result (λ yes. IsTrue yes
-        → subst_of (values_by by.now) (pattern_view left.now) ≡ subst_of (values_by by.now) (right_pattern (right_view right.now))) }
+    ensures { IfOk result (Compares (subst_of (values_by by.now) (pattern_view left.now))
+        (subst_of (values_by by.now) (right_pattern (right_view right.now)))) }
 {
     let values = Replacement::All(by.variables, by.values);
     let left = replaced(alloc, left, &values)?;
     let right = right_part(alloc, right, &values)?;
     match (left, right) {
-        (Some(left), Some(right)) => Ok(are_same(&left, &right)),
-        _ => Ok(false),
+        (Some(left), Some(right)) => Ok(compare_parts(&left, &right)),
+        _ => Ok(Comparison::Apart),
     }
 }
 
@@ -51,11 +63,28 @@ fn right_part<'a>(
     }
 }
 
-/// Whether both parts are the same pattern.
-fn are_same(left: &Part, right: &Part) -> bool
-    ensures { IsTrue result → part_view left.now ≡ part_view right.now }
+/// Compares the parts, which aren't too large.
+fn compare_parts(left: &Part, right: &Part) -> Comparison
+    ensures { ComparesParts (part_view left.now) (part_view right.now) result }
 {
     let left = left.as_measured();
     let right = right.as_measured();
-    left.pattern.is_same(&right.pattern)
+    if !left.pattern.is_same(&right.pattern) {
+        Comparison::Apart
+    } else if is_single(&right.pattern) {
+        Comparison::SameWithForm
+    } else {
+        Comparison::Same
+    }
+}
+
+/// Whether the pattern is made of tags and 1 by products alone. It has a single word then, and a closed form of a single set.
+fn is_single(p: &Pattern) -> bool
+    ensures { result ≡ is_single_of (pattern_view p.now) }
+{
+    match p {
+        Pattern::One | Pattern::Tag(_) => true,
+        Pattern::Prod(left, right) => is_single(left) && is_single(right),
+        Pattern::Zero | Pattern::Sum(..) | Pattern::Star(_) | Pattern::Var(_) => false,
+    }
 }

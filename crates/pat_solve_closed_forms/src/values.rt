@@ -34,7 +34,7 @@ pub enum ClosedValues {
 }
 
 /// The closed-form values of the interface, if they cover each of its constraints. The problem is that of a well-formed program in
-/// which no rule of inference is broken; the closed form of each value is made once.
+/// which no rule of inference is broken. The closed form of a value is made only where it is asked for, and once.
 pub fn interface_values(
     alloc: Global,
     index: &Index,

@@ -1,10 +1,4 @@
-use Rattle.std.proofs.Common.{ap, ◌∙◌}
-use Rattle.pat_solve_closed_forms.specs.Forms.{forms_list}
 use Rattle.pat_solve_closed_forms.proofs.checking.find.Goals as goal
 
 pub find_by-requires-clause-by : goal.find_by-requires-clause-by
-find_by-requires-clause-by c = record {
-  ascending = c.requires.ascending;
-  as_many = c.requires.as_many;
-  forms = ap forms_list c.as_slice.ensures ∙ c.in_ok-forms.ensures;
-}
+find_by-requires-clause-by c = record { ascending = c.requires.ascending; as_many = c.requires.as_many }

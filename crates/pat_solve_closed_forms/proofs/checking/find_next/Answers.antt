@@ -24,8 +24,8 @@ find_one-requires-clause-right c =
     let is = read_at (λ (d : Constraint). right_pattern (right_view d.right)) c.args.constraints.now c.args.number x c.requires.number c.index-constraints-number.is in
     subst (λ e. IsTrue (tags_below most_tags (subst_of (values_by c.args.by.now) e))) (sym is) c.requires.right
 
-pub returns : goal.returns
-returns c =
+pub returns-clause-found : goal.returns-clause-found
+returns-clause-found c =
     let x = c.index-constraints-number.result in
     let cs = c.args.constraints.now in
     let n = c.args.number in
@@ -33,4 +33,4 @@ returns c =
     let left = read_at (λ (d : Constraint). pattern_view d.left) cs n x c.requires.number c.index-constraints-number.is in
     let right = read_at (λ (d : Constraint). right_pattern (right_view d.right)) cs n x c.requires.number c.index-constraints-number.is in
     subst (λ e. IfOk c.find_one.result (Follows n (subst_of values e) (right_under values cs n) c.args.before)) left
-    (subst (λ e. IfOk c.find_one.result (Follows n (subst_of values (pattern_view x.left)) (subst_of values e) c.args.before)) right c.find_one.ensures)
+    (subst (λ e. IfOk c.find_one.result (Follows n (subst_of values (pattern_view x.left)) (subst_of values e) c.args.before)) right c.find_one.ensures.found)
