@@ -7,6 +7,6 @@ mod covers;
 mod sides;
 
 pub use adding::certificates;
-pub use closed::closed_values;
+pub use closed::unmade_forms;
 pub use context::Solved;
 pub use pat_certificate_checks::plain_values;

@@ -13,7 +13,6 @@ use Rattle.pat_derivations.specs.declared.data.Cert.{Cert as CodeCert}
 use Rattle.pat_derivations.specs.Views.{certs_view, vars_view, derivation_view}
 use Rattle.pat_certificate_checks.specs.Plain.{all_plain}
 use Rattle.pat_solve_bounds.specs.results.Views.{forms_of}
-use Rattle.pat_solve_derivation.specs.certificates.ClosedValues.{AreClosed}
 use Rattle.pat_solve_derivation.specs.declared.certificates.context.Solved.{Solved}
 
 -- what patterns may speak of, and the form of each interface's values
@@ -28,7 +27,6 @@ pub record IsSolved (s : Solved) : Type 0 where
   pub well : WellFormed (program_view s.program.now)
   pub values : IsTrue (values_fit (scope_in s))
   pub plain : patterns_view s.plain.now ≡ all_plain (vars_view s.derivation.now.vars)
-  pub closed : AreClosed (scope_in s) s.closed.now
 
 -- the inclusion is trivial, or shown by the values
 abbrev pub IsMetIn : Scope → (ℕ → Form) → ℕ → Pat → Pat → Type 0

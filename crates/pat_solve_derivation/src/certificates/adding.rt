@@ -9,12 +9,14 @@ ghost use Rattle.pat_obligations.specs.Views.{demand_view, demands_view};
 ghost use Rattle.pat_certificate_checks.specs.Views.{inclusion_view};
 ghost use Rattle.pat_solve_spec.specs.Derived.{AreCertsFor};
 ghost use Rattle.pat_solve_bounds.specs.results.Views.{form_of, forms_of};
+ghost use Rattle.pat_solve_derivation.specs.certificates.ClosedValues.{AreClosed};
 ghost use Rattle.pat_solve_derivation.specs.certificates.Making.{scope_in, forms_in, IsSolved, IsMet, IsMetIn, IsCertIf, Adds};
 
 use crate::certificates::context::Solved;
 use crate::certificates::covers::cover_between;
 use pat_certificate_checks::{Inclusion, inclusion_of, is_trivial, reflexive_of};
 use pat_derivations::Cert;
+use pat_linear::LinearSet;
 use pat_obligations::Demand;
 use pat_patterns::Pattern;
 use pat_sequences::Sequence;
@@ -35,16 +37,19 @@ fn bound_at(bounds: &[Option<u32>], interface: u32) -> Option<u32>
 fn certificate(
     alloc: Global,
     solved: &Solved,
+    closed: &mut Sequence<Option<Sequence<LinearSet>>>,
     interface: u32,
     left: &Pattern,
     right: &Pattern,
 ) -> Result<Option<Cert>, AllocError>
     requires solved { IsSolved solved.now }
+    requires closed { AreClosed (scope_in solved.now) closed.old }
     requires left { IsTrue (is_formed (scope_in solved.now) interface (pattern_view left.now)) }
     requires right { IsTrue (is_formed (scope_in solved.now) interface (pattern_view right.now)) }
     requires met { IsMetIn (scope_in solved.now) (forms_in solved.now) interface (pattern_view left.now) (pattern_view right.now) }
-    ensures { IfOk result (λ cert. IsCertIf (scope_in solved.now) interface (pattern_view left.now) (pattern_view right.now)
+    ensures cert { IfOk result (λ cert. IsCertIf (scope_in solved.now) interface (pattern_view left.now) (pattern_view right.now)
         (forms_in solved.now interface) (option_map cert_view cert)) }
+    ensures closed { OnOk result (AreClosed (scope_in solved.now) closed.new) }
 {
     if is_trivial(alloc, solved.plain, left, right)? {
         return Ok(None);
@@ -52,7 +57,7 @@ fn certificate(
     match bound_at(solved.bounds, interface) {
         Some(k) => Ok(Some(Cert::Grid(k))),
         None => {
-            let cover = cover_between(alloc, solved, interface, left, right)?;
+            let cover = cover_between(alloc, solved, closed, interface, left, right)?;
             Ok(Some(Cert::Cover(cover)))
         }
     }
@@ -62,19 +67,22 @@ fn certificate(
 fn push_certificate(
     alloc: Global,
     solved: &Solved,
+    closed: &mut Sequence<Option<Sequence<LinearSet>>>,
     needed: &Inclusion,
     certs: &mut Sequence<Cert>,
 ) -> Result<(), AllocError>
     requires solved { IsSolved solved.now }
+    requires closed { AreClosed (scope_in solved.now) closed.old }
     requires met { IsMet (scope_in solved.now) (forms_in solved.now) (inclusion_view needed.now) }
-    ensures { OnOk result (Adds (scope_in solved.now) (forms_in solved.now) (inclusion_view needed.now ∷ []) certs.old certs.new) }
+    ensures certs { OnOk result (Adds (scope_in solved.now) (forms_in solved.now) (inclusion_view needed.now ∷ []) certs.old certs.new) }
+    ensures closed { OnOk result (AreClosed (scope_in solved.now) closed.new) }
 {
     match needed.interface {
         // It is of an interface.
         None => unreachable!(),
         Some(interface) => {
             let left = needed.left.as_pattern();
-            match certificate(alloc, solved, interface, left, needed.right)? {
+            match certificate(alloc, solved, closed, interface, left, needed.right)? {
                 None => Ok(()),
                 Some(cert) => certs.push(cert),
             }
@@ -88,17 +96,20 @@ fn push_certificate(
 fn push_for(
     alloc: Global,
     solved: &Solved,
+    closed: &mut Sequence<Option<Sequence<LinearSet>>>,
     demand: &Demand,
     certs: &mut Sequence<Cert>,
 ) -> Result<(), AllocError>
     requires solved { IsSolved solved.now }
+    requires closed { AreClosed (scope_in solved.now) closed.old }
     requires met { AllByRecursion (IsMet (scope_in solved.now) (forms_in solved.now)) (inclusions_of (demand_view demand.now)) }
-    ensures { OnOk result (Adds (scope_in solved.now) (forms_in solved.now) (inclusions_of (demand_view demand.now)) certs.old certs.new) }
+    ensures certs { OnOk result (Adds (scope_in solved.now) (forms_in solved.now) (inclusions_of (demand_view demand.now)) certs.old certs.new) }
+    ensures closed { OnOk result (AreClosed (scope_in solved.now) closed.new) }
 {
     match reflexive_of(demand) {
         // It is trivial.
         Some(_) => Ok(()),
-        None => push_for_inclusion(alloc, solved, demand, certs),
+        None => push_for_inclusion(alloc, solved, closed, demand, certs),
     }
 }
 
@@ -107,16 +118,19 @@ fn push_for(
 fn push_for_inclusion(
     alloc: Global,
     solved: &Solved,
+    closed: &mut Sequence<Option<Sequence<LinearSet>>>,
     demand: &Demand,
     certs: &mut Sequence<Cert>,
 ) -> Result<(), AllocError>
     requires solved { IsSolved solved.now }
+    requires closed { AreClosed (scope_in solved.now) closed.old }
     requires met { AllByRecursion (IsMet (scope_in solved.now) (forms_in solved.now)) (inclusions_of (demand_view demand.now)) }
-    ensures { OnOk result (Adds (scope_in solved.now) (forms_in solved.now) (inclusions_of (demand_view demand.now)) certs.old certs.new) }
+    ensures certs { OnOk result (Adds (scope_in solved.now) (forms_in solved.now) (inclusions_of (demand_view demand.now)) certs.old certs.new) }
+    ensures closed { OnOk result (AreClosed (scope_in solved.now) closed.new) }
 {
     match inclusion_of(alloc, demand)? {
         None => Ok(()),
-        Some(needed) => push_certificate(alloc, solved, &needed, certs),
+        Some(needed) => push_certificate(alloc, solved, closed, &needed, certs),
     }
 }
 
@@ -125,16 +139,19 @@ fn push_for_inclusion(
 pub fn certificates(
     alloc: Global,
     solved: &Solved,
+    closed: &mut Sequence<Option<Sequence<LinearSet>>>,
     demands: &[Demand],
 ) -> Result<Sequence<Cert>, AllocError>
     requires solved { IsSolved solved.now }
+    requires closed { AreClosed (scope_in solved.now) closed.old }
     requires met { AllByRecursion (IsMet (scope_in solved.now) (forms_in solved.now)) (flat_map inclusions_of (demands_view demands.now)) }
-    ensures { IfOk result (λ certs. AreCertsFor (scope_in solved.now) (forms_in solved.now)
+    ensures certs { IfOk result (λ certs. AreCertsFor (scope_in solved.now) (forms_in solved.now)
         (flat_map inclusions_of (demands_view demands.now)) (certs_view certs)) }
+    ensures closed { OnOk result (AreClosed (scope_in solved.now) closed.new) }
 {
     let mut certs = Sequence::new(alloc);
     for demand in demands {
-        push_for(alloc, solved, demand, &mut certs)?;
+        push_for(alloc, solved, closed, demand, &mut certs)?;
     }
     Ok(certs)
 }

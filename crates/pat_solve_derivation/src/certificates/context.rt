@@ -1,9 +1,7 @@
 // What certificates are made with.
 use pat_core::Program;
 use pat_derivations::Derivation;
-use pat_linear::LinearSet;
 use pat_patterns::Pattern;
-use pat_sequences::Sequence;
 
 /// A program with values of its variables, and what is made of these once for all inclusions.
 #[derive(Clone, Copy)]
@@ -15,6 +13,4 @@ pub struct Solved<'a> {
     pub bounds: &'a [Option<u32>],
     /// For each number of a variable, from 0: its value where that is a pattern, and otherwise the variable.
     pub plain: &'a [Pattern],
-    /// For each number of a variable, from 0: the closed form of its value where that is a pattern, unless it is too large.
-    pub closed: &'a [Option<Sequence<LinearSet>>],
 }

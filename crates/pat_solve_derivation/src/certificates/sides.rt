@@ -6,7 +6,7 @@ ghost use Rattle.pat_inclusion_spec.specs.LinearSets.{LinearSet as GhostSet};
 ghost use Rattle.pat_inclusion_spec.specs.ClosedForms.{closed_form};
 ghost use Rattle.pat_linear.specs.Views.{sets_view};
 ghost use Rattle.pat_patterns.specs.Views.{pattern_view};
-ghost use Rattle.pat_solve_derivation.specs.certificates.ClosedValues.{closed_view};
+ghost use Rattle.pat_solve_derivation.specs.certificates.ClosedValues.{closed_view, AreClosed};
 ghost use Rattle.pat_solve_derivation.specs.certificates.Making.{scope_in, IsSolved};
 
 use crate::certificates::context::Solved;
@@ -50,14 +50,18 @@ fn kept_at<'a>(closed: &'a [Option<Sequence<LinearSet>>], number: u32) -> Option
 }
 
 /// The closed form of a side that is a variable, if it is kept.
-fn kept_form<'a>(solved: &Solved<'a>, side: &Pattern) -> Option<&'a [LinearSet]>
-    requires { IsSolved solved.now }
+fn kept_form<'a>(
+    solved: &Solved,
+    closed: &'a [Option<Sequence<LinearSet>>],
+    side: &Pattern,
+) -> Option<&'a [LinearSet]>
+    requires { AreClosed (scope_in solved.now) closed.now }
     ensures { IfSome result (λ sets. (i : ℕ) → IsTrue (is_formed (scope_in solved.now) i (pattern_view side.now))
         → closed_form ((scope_in solved.now).tags i) (subst_of (pattern_of (scope_in solved.now)) (pattern_view side.now))
         ≡ Some (sets_view sets.now)) }
 {
     match side {
-        Pattern::Var(number) => kept_at(solved.closed, *number),
+        Pattern::Var(number) => kept_at(closed, *number),
         _ => None,
     }
 }
@@ -66,18 +70,20 @@ fn kept_form<'a>(solved: &Solved<'a>, side: &Pattern) -> Option<&'a [LinearSet]>
 /// interface.
 pub fn side_form<'a>(
     alloc: Global,
-    solved: &Solved<'a>,
+    solved: &Solved,
+    closed: &'a [Option<Sequence<LinearSet>>],
     interface: u32,
     side: &Pattern,
 ) -> Result<ClosedForm<'a>, AllocError>
     requires solved { IsSolved solved.now }
+    requires closed { AreClosed (scope_in solved.now) closed.now }
     requires formed { IsTrue (is_formed (scope_in solved.now) interface (pattern_view side.now)) }
     requires small { (sets : List GhostSet) × (closed_form ((scope_in solved.now).tags interface)
         (subst_of (pattern_of (scope_in solved.now)) (pattern_view side.now)) ≡ Some sets) }
     ensures { IfOk result (λ form. closed_form ((scope_in solved.now).tags interface)
         (subst_of (pattern_of (scope_in solved.now)) (pattern_view side.now)) ≡ Some (closed_view form)) }
 {
-    match kept_form(solved, side) {
+    match kept_form(solved, closed, side) {
         Some(sets) => Ok(ClosedForm::Kept(sets)),
         None => match form_of(alloc, solved.program, solved.derivation, interface, side)? {
             Some(sets) => Ok(ClosedForm::Made(sets)),

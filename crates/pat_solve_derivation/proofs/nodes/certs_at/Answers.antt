@@ -23,8 +23,8 @@ certificates-requires-clause-met c =
     subst (λ ds. AllByRecursion (IsMet (scope_in c.args.solved.now) (forms_in c.args.solved.now)) (flat_map inclusions_of ds)) (sym is)
     (all_met p (forms_in c.args.solved.now) d c.requires.bare c.args.number node function line c.requires.node c.requires.line c.derived_laws.ensures.shown c.requires.solved.well c.requires.function)
 
-pub returns : goal.returns
-returns c =
+pub returns-clause-certs : goal.returns-clause-certs
+returns-clause-certs c =
     let p = program_view c.args.solved.now.program.now in
     let d = derivation_view c.args.solved.now.derivation.now in
     let s = scope_in c.args.solved.now in
@@ -37,4 +37,4 @@ returns c =
     (λ certs. AreCertsFor s forms (needed_at p d.vars c.args.number node function) (certs_view certs))
     (λ certs h. certs_needed p forms d c.requires.bare c.args.number node function line c.requires.node c.requires.line (certs_view certs)
     (subst (λ ds. AreCertsFor s forms (flat_map inclusions_of ds) (certs_view certs)) is h))
-    c.certificates.ensures
+    c.certificates.ensures.certs

@@ -22,8 +22,8 @@ function_of-function-requires c =
     subst (λ m. c.node_of-node.result.now.function < m) (length-map p.functions function_view)
     (function_within (program_view p) c.requires.solved.well c.args.number (node_view c.node_of-node.result.now) c.node_of-node.ensures)
 
-pub returns : goal.returns
-returns c =
+pub returns-clause-certs : goal.returns-clause-certs
+returns-clause-certs c =
     let p = program_view c.args.solved.now.program.now in
     let vars = (derivation_view c.args.solved.now.derivation.now).vars in
     let forms = forms_in c.args.solved.now in
@@ -32,4 +32,4 @@ returns c =
     IfOk-weaker c.certs_at.result (λ certs. AreCertsFor (scope_in c.args.solved.now) forms (needed_at p vars c.args.number node function) (certs_view certs))
     (λ certs. HasCerts p vars forms c.args.number (certs_view certs))
     (λ certs h. has_certs p vars forms c.args.number node function (certs_view certs) c.node_of-node.ensures c.function_of-function.ensures h)
-    c.certs_at.ensures
+    c.certs_at.ensures.certs

@@ -16,5 +16,9 @@ loop-number-preserved c =
     let certs = c.in_ok-certs.certs in
     let pushed : c.push.new.self ≡ all ++ certs ∷ [] = search rules in
     let pieces : map certs_view c.push.new.self ≡ map certs_view all ++ certs_view certs ∷ [] = ap (map certs_view) pushed ∙ map-append certs_view all (certs ∷ []) in
-    subst (AreMadeTo p vars forms (c.loop-number.number + 1)) (sym pieces)
-    (made_more p vars forms c.loop-number.number (map certs_view all) (certs_view certs) c.loop-number.invariant c.in_ok-certs.ensures)
+    record {
+      made =
+          subst (AreMadeTo p vars forms (c.loop-number.number + 1)) (sym pieces)
+          (made_more p vars forms c.loop-number.number (map certs_view all) (certs_view certs) c.loop-number.invariant.made c.in_ok-certs.ensures.certs);
+      closed = c.in_ok-certs.ensures.closed;
+    }

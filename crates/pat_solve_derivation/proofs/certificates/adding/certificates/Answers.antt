@@ -25,11 +25,12 @@ loop-demand-preserved c =
       met = (all_parts (IsMet s forms) own rest (subst (AllByRecursion (IsMet s forms)) whole c.loop-demand.invariant.met)).1;
       made = completes_more s forms all own rest c.loop-demand.certs c.push_for.new.certs
           (subst (λ (qs : List Inclusion). Completes s forms all qs c.loop-demand.certs) whole c.loop-demand.invariant.made)
-          c.in_ok-push_for.ensures;
+          c.in_ok-push_for.ensures.certs;
+      closed = c.in_ok-push_for.ensures.closed;
     }
 
-pub returns : goal.returns
-returns c =
+pub returns-clause-certs : goal.returns-clause-certs
+returns-clause-certs c =
     let s = scope_in c.args.solved.now in
     let forms = forms_in c.args.solved.now in
     let ds = c.args.demands.now in

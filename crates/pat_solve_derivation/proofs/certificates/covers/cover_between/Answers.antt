@@ -1,13 +1,8 @@
-use Rattle.std.proofs.Common.{◌≡◌, ◌≤◌, true, Some, length, sym, ap, ◌∙◌, arith}
-use Rattle.std.specs.Prelude.{IsTrue}
+use Rattle.std.proofs.Common.{◌≡◌, ◌≤◌, Some, length, sym, ap, ◌∙◌, arith}
 use Rattle.std.proofs.lemmas.List.{length-map}
-use Rattle.std.proofs.lemmas.Result.{IfOk-weaker}
 use Rattle.pat_words_spec.specs.Patterns.{subst_of}
 use Rattle.pat_inclusion_spec.specs.Values.{pattern_of}
-use Rattle.pat_inclusion_spec.specs.Counts.{most_tags}
 use Rattle.pat_inclusion_spec.specs.ClosedForms.{closed_form}
-use Rattle.pat_inclusion_spec.specs.Covers.{is_cover}
-use Rattle.pat_inclusion_spec.specs.Certificates.{cover_shows}
 use Rattle.pat_linear.specs.Views.{set_view, sets_view}
 use Rattle.pat_cover_certificates.specs.Views.{entries_view}
 use Rattle.pat_patterns.specs.Views.{pattern_view}
@@ -27,8 +22,8 @@ cover_of-requires-clause-few c =
     let as_many : length (sets_view sets) ≡ length sets = length-map sets set_view in
     omega (arith, short, as_many)
 
-pub returns : goal.returns
-returns c =
+pub returns-clause-cover : goal.returns-clause-cover
+returns-clause-cover c =
     let s = scope_in c.args.solved.now in
     let i = c.args.interface in
     let e = pattern_view c.args.left.now in
@@ -37,7 +32,5 @@ returns c =
     let right = sets_view c.as_slice-2.result.now in
     let left_is : Some left ≡ closed_form (s.tags i) (subst_of (pattern_of s) e) = ap (λ x. Some x) c.as_slice.ensures ∙ sym c.in_ok-left.ensures in
     let right_is : Some right ≡ closed_form (s.tags i) (subst_of (pattern_of s) f) = ap (λ x. Some x) c.as_slice-2.ensures ∙ sym c.in_ok-right.ensures in
-    IfOk-weaker c.cover_of.result (λ cover. is_cover most_tags left right (entries_view cover) ≡ true)
-    (λ cover. IsTrue (cover_shows (s.tags i) (entries_view cover) (subst_of (pattern_of s) e) (subst_of (pattern_of s) f)))
-    (λ cover h. sym (cover_shown s i e f left right (entries_view cover) c.tags_are_few.ensures c.requires.solved.values c.requires.left c.requires.right left_is right_is) ∙ h)
-    c.cover_of.ensures
+    sym (cover_shown s i e f left right (entries_view c.in_ok-cover.cover) c.tags_are_few.ensures c.requires.solved.values c.requires.left c.requires.right left_is right_is)
+    ∙ c.in_ok-cover.ensures

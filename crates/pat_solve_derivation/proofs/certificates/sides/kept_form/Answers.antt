@@ -8,4 +8,4 @@ use Rattle.pat_solve_derivation.proofs.certificates.sides.kept_form.Goals as goa
 pub returns-in-Var : goal.returns-in-Var
 returns-in-Var c =
     let variable : Var c.in-Var.number ≡ pattern_view c.args.side.now = search rules in
-    kept_side (scope_in c.args.solved.now) c.args.solved.now.closed.now c.in-Var.number (pattern_view c.args.side.now) c.kept_at.result variable c.requires.closed c.kept_at.ensures
+    kept_side (scope_in c.args.solved.now) c.args.closed.now c.in-Var.number (pattern_view c.args.side.now) c.kept_at.result variable c.requires c.kept_at.ensures
