@@ -103,7 +103,8 @@ fn push_for(
     requires solved { IsSolved solved.now }
     requires closed { AreClosed (scope_in solved.now) closed.old }
     requires met { AllByRecursion (IsMet (scope_in solved.now) (forms_in solved.now)) (inclusions_of (demand_view demand.now)) }
-    ensures certs { OnOk result (Adds (scope_in solved.now) (forms_in solved.now) (inclusions_of (demand_view demand.now)) certs.old certs.new) }
+    ensures certs { OnOk result (Adds (scope_in solved.now) (forms_in solved.now)
+        (inclusions_of (demand_view demand.now)) certs.old certs.new) }
     ensures closed { OnOk result (AreClosed (scope_in solved.now) closed.new) }
 {
     match reflexive_of(demand) {
@@ -125,7 +126,8 @@ fn push_for_inclusion(
     requires solved { IsSolved solved.now }
     requires closed { AreClosed (scope_in solved.now) closed.old }
     requires met { AllByRecursion (IsMet (scope_in solved.now) (forms_in solved.now)) (inclusions_of (demand_view demand.now)) }
-    ensures certs { OnOk result (Adds (scope_in solved.now) (forms_in solved.now) (inclusions_of (demand_view demand.now)) certs.old certs.new) }
+    ensures certs { OnOk result (Adds (scope_in solved.now) (forms_in solved.now)
+        (inclusions_of (demand_view demand.now)) certs.old certs.new) }
     ensures closed { OnOk result (AreClosed (scope_in solved.now) closed.new) }
 {
     match inclusion_of(alloc, demand)? {
