@@ -16,7 +16,7 @@ use Rattle.pat_reduce.specs.declared.threads.state.ThreadState.{ThreadState}
 use Rattle.pat_reduce.specs.threads.ThreadViews.{frame_view, thread_view}
 use Rattle.pat_reduce.specs.Views.{threads_view}
 use Rattle.pat_derivations.specs.declared.data.Cert.{Cert as CodeCert}
-use Rattle.pat_checkpoint_data.specs.declared.data.PartCerts.{PartCerts as CodeParts}
+use Rattle.pat_checkpoint_data.specs.Parts.{PartCerts as CodeParts}
 use Rattle.pat_checkpoint_data.specs.Views.{end_view, part_certs_view}
 use Rattle.pat_checkpoint_spec.specs.Kinds.{type_needs, control_needs, is_certified, frames_shown, thread_shown, threads_shown}
 use Rattle.pat_checkpoint_spec.specs.Written.{frames_need, threads_need, IsFormedNeed, NeedsFormed, CanBeShown, IsFirstUnshown}

@@ -12,7 +12,7 @@ use Rattle.pat_derivations.specs.declared.data.Cert.{Cert as CodeCert}
 use Rattle.pat_checkpoint_spec.specs.Kinds.{type_needs, control_needs, frames_shown, thread_shown, threads_shown}
 use Rattle.pat_checkpoint_spec.specs.Written.{CanBeShown, frames_need, threads_need}
 use Rattle.pat_checkpoint_certificates.specs.Searches.{program_in, scope_in, typing_in, bounds_in}
-use Rattle.pat_checkpoint_data.specs.declared.data.PartCerts.{PartCerts as CodeParts}
+use Rattle.pat_checkpoint_data.specs.Parts.{PartCerts as CodeParts}
 use Rattle.pat_checkpoint_data.specs.Views.{end_view, part_certs_view}
 use Rattle.pat_checkpoint_certificates.specs.Found.{IsFound, AreFound}
 use Rattle.pat_checkpoint_certificates.specs.declared.search.Search.{Search}

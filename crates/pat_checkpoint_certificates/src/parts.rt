@@ -218,7 +218,8 @@ fn certify_thread(
         None => Err(CertifyError::Unshown(line)),
         Some(control) => {
             let frames = certify_frames(alloc, search, frames, next)?;
-            Ok(PartCerts { control, frames })
+            let certs = PartCerts::of(alloc, control, frames)?;
+            Ok(certs)
         }
     }
 }

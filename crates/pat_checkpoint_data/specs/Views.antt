@@ -5,7 +5,7 @@ use Rattle.pat_derivations.specs.declared.data.Cert.{Cert}
 use Rattle.pat_derivations.specs.Views.{cert_view}
 use Rattle.pat_reduce.specs.Views.{config_view}
 use Rattle.pat_checkpoint_spec.specs.Checkpoints as checkpoints
-use Rattle.pat_checkpoint_data.specs.declared.data.PartCerts.{PartCerts}
+use Rattle.pat_checkpoint_data.specs.Parts.{PartCerts}
 use Rattle.pat_checkpoint_data.specs.declared.data.Checkpoint.{Checkpoint}
 
 -- a certificate, if there is one

@@ -1,16 +1,10 @@
 // Checkpoints: their data.
 ghost use Rattle.std.specs.Prelude.{◌≡◌};
 
+use crate::part_certs::PartCerts;
 use pat_derivations::Cert;
 use pat_reduce::Config;
-use pat_sequences::{Sequence, Stack};
-
-/// The certificates of a thread's parts: its control's, and those of its frames, the next one on top.
-#[derive(Drop)]
-pub struct PartCerts {
-    pub control: Option<Cert>,
-    pub frames: Stack<Option<Cert>>,
-}
+use pat_sequences::Sequence;
 
 /// A configuration with evidence that it is typed: in its order the interface of each live mailbox, a certificate for each balance
 /// that needs one, and for each thread those of its parts.

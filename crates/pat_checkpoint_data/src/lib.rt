@@ -2,5 +2,7 @@
 #![tactic(auto)]
 
 mod data;
+mod part_certs;
 
-pub use data::{Checkpoint, PartCerts};
+pub use data::Checkpoint;
+pub use part_certs::PartCerts;

@@ -15,7 +15,7 @@ use Rattle.pat_checkpoint_spec.specs.Checkpoints.{interface_at}
 use Rattle.pat_checkpoint_spec.specs.Kinds.{thread_fits, threads_shown, kinds_fit, parts_shown}
 use Rattle.pat_checkpoint_spec.specs.Mailboxes.{thread_keeps, order_holds}
 use Rattle.pat_checkpoint_data.specs.declared.data.Checkpoint.{Checkpoint}
-use Rattle.pat_checkpoint_data.specs.declared.data.PartCerts.{PartCerts}
+use Rattle.pat_checkpoint_data.specs.Parts.{PartCerts}
 use Rattle.pat_checkpoint_data.specs.Views.{part_certs_view, checkpoint_view}
 use Rattle.pat_checkpoint_parts.specs.declared.typing.Typing.{Typing}
 use Rattle.pat_checkpoint_parts.specs.Typed.{program_in, typing_in, scope_in}

@@ -1,5 +1,5 @@
 // Whether what each part gives is shown to fit what the next one wants.
-ghost use Rattle.std.specs.Prelude.{◌≡◌, map, reverse, Some, IsTrue, IfOk};
+ghost use Rattle.std.specs.Prelude.{◌≡◌, map, option_copied, reverse, Some, IsTrue, IfOk};
 ghost use Rattle.pat_semantics_spec.specs.Programs.{Polarity as Way};
 ghost use Rattle.pat_type_system_spec.specs.Types.{MailboxTerm};
 ghost use Rattle.pat_type_system_spec.specs.Holdings.{wanted};
@@ -61,10 +61,17 @@ fn thread_shown(
     ensures { IfOk result (λ yes. yes ≡ thread_shown_by (program_in typing.now) (typing_in typing.now) (scope_in typing.now) (thread_view state.now) (part_certs_view certs.now)) }
 {
     let frames = state.frames.as_slice();
-    if !control_shown(alloc, typing, plain, &state.control, frames, &certs.control)? {
+    if !control_shown(
+        alloc,
+        typing,
+        plain,
+        &state.control,
+        frames,
+        certs.control(),
+    )? {
         return Ok(false);
     }
-    frames_shown(alloc, typing, plain, frames, certs.frames.as_slice())
+    frames_shown(alloc, typing, plain, frames, certs)
 }
 
 /// Whether what a control gives is shown, where the frames below it stand from the last one up.
@@ -74,10 +81,10 @@ fn control_shown(
     plain: &[Pattern],
     control: &Control,
     frames: &[Frame],
-    cert: &Option<Cert>,
+    cert: Option<&Cert>,
 ) -> Result<bool, AllocError>
     requires { CanShow typing.now plain.now }
-    ensures { IfOk result (λ yes. yes ≡ is_certified_by (scope_in typing.now) (control_needs (program_in typing.now) (typing_in typing.now) (control_view control.now) (map frame_view (reverse frames.now))) (end_view cert.now)) }
+    ensures { IfOk result (λ yes. yes ≡ is_certified_by (scope_in typing.now) (control_needs (program_in typing.now) (typing_in typing.now) (control_view control.now) (map frame_view (reverse frames.now))) (end_view (option_copied cert.entry))) }
 {
     match control {
         Control::Node { node, .. } => { is_certified(alloc, typing, plain, *node, frames, cert) }
@@ -91,19 +98,19 @@ fn frames_shown(
     typing: &Typing<'_>,
     plain: &[Pattern],
     frames: &[Frame],
-    certs: &[Option<Cert>],
+    certs: &PartCerts,
 ) -> Result<bool, AllocError>
     requires { CanShow typing.now plain.now }
-    ensures { IfOk result (λ yes. yes ≡ frames_shown_by (program_in typing.now) (typing_in typing.now) (scope_in typing.now) (map frame_view (reverse frames.now)) (map end_view (reverse certs.now))) }
+    ensures { IfOk result (λ yes. yes ≡ frames_shown_by (program_in typing.now) (typing_in typing.now) (scope_in typing.now) (map frame_view (reverse frames.now)) (map end_view certs.now.frames)) }
 {
-    if frames.len() != certs.len() {
+    if frames.len() != certs.frame_count() {
         return Ok(false);
     }
     let mut shown = true;
     for (place, frame) in frames.iter().enumerate() {
         if shown {
             let below = &frames[..place];
-            shown = is_certified(alloc, typing, plain, frame.body, below, &certs[place])?;
+            shown = is_certified(alloc, typing, plain, frame.body, below, certs.frame(place))?;
         }
     }
     Ok(shown)
@@ -116,10 +123,10 @@ fn is_certified(
     plain: &[Pattern],
     node: u32,
     below: &[Frame],
-    cert: &Option<Cert>,
+    cert: Option<&Cert>,
 ) -> Result<bool, AllocError>
     requires { CanShow typing.now plain.now }
-    ensures { IfOk result (λ yes. yes ≡ is_certified_by (scope_in typing.now) (type_needs ((typing_in typing.now).results node) (wanted (program_in typing.now) (typing_in typing.now) (map frame_view (reverse below.now)))) (end_view cert.now)) }
+    ensures { IfOk result (λ yes. yes ≡ is_certified_by (scope_in typing.now) (type_needs ((typing_in typing.now).results node) (wanted (program_in typing.now) (typing_in typing.now) (map frame_view (reverse below.now)))) (end_view (option_copied cert.entry))) }
 {
     examining_laws();
     match (typing.type_of(node), typing.wanted(below)) {
@@ -135,12 +142,12 @@ fn type_fits(
     plain: &[Pattern],
     given: &TypeOf,
     wanted: &TypeOf,
-    cert: &Option<Cert>,
+    cert: Option<&Cert>,
 ) -> Result<bool, AllocError>
     requires can { CanShow typing.now plain.now }
     requires given { IsTrue (type_is_formed (scope_in typing.now) (result_view given.now)) }
     requires wanted { IsTrue (type_is_formed (scope_in typing.now) (result_view wanted.now)) }
-    ensures { IfOk result (λ yes. yes ≡ is_certified_by (scope_in typing.now) (type_needs (result_view given.now) (result_view wanted.now)) (end_view cert.now)) }
+    ensures { IfOk result (λ yes. yes ≡ is_certified_by (scope_in typing.now) (type_needs (result_view given.now) (result_view wanted.now)) (end_view (option_copied cert.entry))) }
 {
     match given {
         TypeOf::Base(_) => Ok(cert.is_none()),
@@ -160,12 +167,12 @@ fn pattern_fits(
     interface: u32,
     given: &Pattern,
     wanted: &TypeOf,
-    cert: &Option<Cert>,
+    cert: Option<&Cert>,
 ) -> Result<bool, AllocError>
     requires can { CanShow typing.now plain.now }
     requires given { IsTrue (is_formed (scope_in typing.now) interface (pattern_view given.now)) }
     requires wanted { IsTrue (type_is_formed (scope_in typing.now) (result_view wanted.now)) }
-    ensures { IfOk result (λ yes. (way : Way) → yes ≡ is_certified_by (scope_in typing.now) (type_needs (MailboxTerm interface way (pattern_view given.now)) (result_view wanted.now)) (end_view cert.now)) }
+    ensures { IfOk result (λ yes. (way : Way) → yes ≡ is_certified_by (scope_in typing.now) (type_needs (MailboxTerm interface way (pattern_view given.now)) (result_view wanted.now)) (end_view (option_copied cert.entry))) }
 {
     match wanted {
         TypeOf::Base(_) => Ok(cert.is_none()),
@@ -193,15 +200,14 @@ fn fits_by(
     polarity: Polarity,
     given: &Pattern,
     wanted: &Pattern,
-    cert: &Option<Cert>,
+    cert: Option<&Cert>,
 ) -> Result<bool, AllocError>
     requires can { CanShow typing.now plain.now }
     requires given { IsTrue (is_formed (scope_in typing.now) interface (pattern_view given.now)) }
     requires wanted { IsTrue (is_formed (scope_in typing.now) interface (pattern_view wanted.now)) }
-    ensures { IfOk result (λ yes. yes ≡ is_shown (scope_in typing.now) (fit_by (polarity_view polarity) (Some interface) (pattern_view given.now) (pattern_view wanted.now)) (end_view cert.now)) }
+    ensures { IfOk result (λ yes. yes ≡ is_shown (scope_in typing.now) (fit_by (polarity_view polarity) (Some interface) (pattern_view given.now) (pattern_view wanted.now)) (end_view (option_copied cert.entry))) }
 {
     let (program, derivation) = (typing.program, typing.derivation);
-    let cert = cert.as_ref();
     match polarity {
         Polarity::Sending => included(
             alloc, program, derivation, plain, interface, wanted, given, cert,

@@ -4,7 +4,7 @@ use Rattle.std.proofs.lemmas.List.{at_drop_more, length-map}
 use Rattle.pat_reduce.specs.declared.threads.state.ThreadState.{ThreadState}
 use Rattle.pat_reduce.specs.threads.ThreadViews.{frame_view}
 use Rattle.pat_reduce.specs.Views.{threads_view}
-use Rattle.pat_checkpoint_data.specs.declared.data.PartCerts.{PartCerts}
+use Rattle.pat_checkpoint_data.specs.Parts.{PartCerts}
 use Rattle.pat_checkpoint_data.specs.Views.{end_view, part_certs_view}
 use Rattle.pat_checkpoint_spec.specs.Checkpoints.{PartsAlign}
 

@@ -1,5 +1,5 @@
 -- Frames from the bottom up are those from the next one down, turned round.
-use Rattle.std.proofs.Common.{◌≡◌, ℕ, true, List, [], ◌∷◌, ◌++◌, length, map, Option, refl, sym, ap, ap₂, ◌∙◌, reverse, arith}
+use Rattle.std.proofs.Common.{◌≡◌, ℕ, true, List, [], ◌∷◌, ◌++◌, length, map, drop, ◌+◌, Option, refl, sym, ap, ap₂, ◌∙◌, reverse, arith}
 use Rattle.std.specs.Prelude.{◌&&◌, Bool}
 use Rattle.std.specs.List.{flat_map, list_all}
 use Rattle.std.proofs.lemmas.Grind.{flat_map-append, reverse_onto}
@@ -64,3 +64,12 @@ all_turned f (x ∷ xs) h =
 -- what holds of all of a slice holds of all of those the other way round
 pub all_of : {A B : Type 0} (f : B → Bool) (v : A → B) (xs own : List A) → reverse xs ≡ own → list_all f (map v xs) ≡ true → list_all f (map v own) ≡ true
 all_of f v xs own is h = ap (λ l. list_all f (map v l)) (sym is) ∙ ap (list_all f) (map_turned v xs) ∙ all_turned f (map v xs) h
+
+-- the lines of frames from a place on
+module _ (fs : List CodeFrame) (ks : List (Option CodeCert)) (i : ℕ) (f : CodeFrame) (k : Option CodeCert) (frame : drop i fs ≡ f ∷ drop (i + 1) fs) (cert : drop i ks ≡ k ∷ drop (i + 1) ks) where
+  pub next_line : frames_upwards (map frame_view (drop i fs)) (map end_view (drop i ks)) ≡ of_line (record { frame = frame_view f; cert = end_view k }) ++ frames_upwards (map frame_view (drop (i + 1) fs)) (map end_view (drop (i + 1) ks))
+  next_line = ap₂ (λ a b. frames_upwards (map frame_view a) (map end_view b)) frame cert
+
+-- what holds of an item and is left to be seen of those behind it
+pub next_of : {A B : Type 0} (f : B → Bool) (v : A → B) (xs : List A) (i : ℕ) (x : A) → drop i xs ≡ x ∷ drop (i + 1) xs → f (v x) ≡ true → list_all f (map v (drop (i + 1) xs)) ≡ list_all f (map v (drop i xs))
+next_of f v xs i x row holds = sym (ap (λ l. list_all f (map v l)) row ∙ ap (λ b. b && list_all f (map v (drop (i + 1) xs))) holds)

@@ -1,5 +1,5 @@
 // Lines.
-ghost use Rattle.std.specs.Prelude.{◌≡◌, ◌++◌, ◌∷◌, [], OnOk, IsTrue, codes, map};
+ghost use Rattle.std.specs.Prelude.{◌≡◌, ◌++◌, ◌∷◌, [], OnOk, IsTrue, codes, map, option_copied};
 ghost use Rattle.std.specs.Fmt.{decimal};
 ghost use Rattle.pat_core.specs.Views.{program_view};
 ghost use Rattle.pat_reduce_values.specs.ValueViews.{value_view, env_view};
@@ -23,9 +23,9 @@ use pat_reduce_values::Value;
 use std::alloc::{AllocError, Global};
 
 /// What a line ends with: a certificate behind a space, if there is one, and the newline.
-fn put_end(out: &mut Vec<u8>, cert: &Option<Cert>) -> Result<(), AllocError>
-    ensures text { OnOk result (out.new.items ≡ out.old.items ++ (cert_end (end_view cert.now) ++ 10 ∷ [])) }
-    ensures range { OnOk result (IsTrue (is_cert (end_view cert.now))) }
+fn put_end(out: &mut Vec<u8>, cert: Option<&Cert>) -> Result<(), AllocError>
+    ensures text { OnOk result (out.new.items ≡ out.old.items ++ (cert_end (end_view (option_copied cert.entry)) ++ 10 ∷ [])) }
+    ensures range { OnOk result (IsTrue (is_cert (end_view (option_copied cert.entry)))) }
 {
     match cert {
         None => put(out, b"\n"),
@@ -60,10 +60,10 @@ pub fn put_mailbox(
     program: &Program,
     number: u32,
     interface: u32,
-    cert: &Option<Cert>,
+    cert: Option<&Cert>,
 ) -> Result<(), AllocError>
-    ensures text { OnOk result (out.new.items ≡ out.old.items ++ line (mailbox_text (program_view program.now) (record { number = number; interface = interface; cert = end_view cert.now }))) }
-    ensures range { OnOk result (IsTrue (is_number number) × IsTrue (is_cert (end_view cert.now))) }
+    ensures text { OnOk result (out.new.items ≡ out.old.items ++ line (mailbox_text (program_view program.now) (record { number = number; interface = interface; cert = end_view (option_copied cert.entry) }))) }
+    ensures range { OnOk result (IsTrue (is_number number) × IsTrue (is_cert (end_view (option_copied cert.entry)))) }
 {
     put(out, b"mailbox ")?;
     put_number(out, number)?;
@@ -124,10 +124,10 @@ pub fn put_thread(
     out: &mut Vec<u8>,
     number: u32,
     control: &Control,
-    cert: &Option<Cert>,
+    cert: Option<&Cert>,
 ) -> Result<(), AllocError>
-    ensures text { OnOk result (out.new.items ≡ out.old.items ++ line (thread_text (record { number = number; control = control_view control.now; cert = end_view cert.now; frames = [] }))) }
-    ensures range { OnOk result (IsTrue (is_number number) × IsTrue (control_in_range (control_view control.now)) × IsTrue (is_cert (end_view cert.now))) }
+    ensures text { OnOk result (out.new.items ≡ out.old.items ++ line (thread_text (record { number = number; control = control_view control.now; cert = end_view (option_copied cert.entry); frames = [] }))) }
+    ensures range { OnOk result (IsTrue (is_number number) × IsTrue (control_in_range (control_view control.now)) × IsTrue (is_cert (end_view (option_copied cert.entry)))) }
 {
     put(out, b"thread ")?;
     put_number(out, number)?;
@@ -152,10 +152,10 @@ pub fn put_frame(
     alloc: Global,
     out: &mut Vec<u8>,
     frame: &Frame,
-    cert: &Option<Cert>,
+    cert: Option<&Cert>,
 ) -> Result<(), AllocError>
-    ensures text { OnOk result (out.new.items ≡ out.old.items ++ line (frame_text (record { frame = frame_view frame.now; cert = end_view cert.now }))) }
-    ensures range { OnOk result (IsTrue (frame_in_range (frame_view frame.now)) × IsTrue (is_cert (end_view cert.now))) }
+    ensures text { OnOk result (out.new.items ≡ out.old.items ++ line (frame_text (record { frame = frame_view frame.now; cert = end_view (option_copied cert.entry) }))) }
+    ensures range { OnOk result (IsTrue (frame_in_range (frame_view frame.now)) × IsTrue (is_cert (end_view (option_copied cert.entry)))) }
 {
     put(out, b"frame ")?;
     put_name(out, frame.var)?;

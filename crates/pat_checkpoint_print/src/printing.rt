@@ -1,5 +1,5 @@
 // The lines of a checkpoint, kind by kind.
-ghost use Rattle.std.specs.Prelude.{◌≡◌, ◌++◌, ℕ, List, Option, length, map, IfOk, OnOk, IsTrue};
+ghost use Rattle.std.specs.Prelude.{◌≡◌, ◌++◌, ℕ, List, Option, length, map, reverse, IfOk, OnOk, IsTrue};
 ghost use Rattle.pat_core.specs.Views.{program_view};
 ghost use Rattle.pat_semantics_spec.specs.Orders.{AscendsFrom};
 ghost use Rattle.pat_reduce.specs.Views.{threads_view};
@@ -37,7 +37,13 @@ fn put_mailboxes(
     ensures range { OnOk result (IsTrue (list_all is_number live.now) × IsTrue (list_all is_cert (map end_view certs.now))) }
 {
     for (place, number) in live.iter().enumerate() {
-        put_mailbox(out, program, *number, interfaces[place], &certs[place])?;
+        put_mailbox(
+            out,
+            program,
+            *number,
+            interfaces[place],
+            certs[place].as_ref(),
+        )?;
     }
     Ok(())
 }
@@ -68,14 +74,14 @@ fn put_frames(
     alloc: Global,
     out: &mut Vec<u8>,
     frames: &[Frame],
-    certs: &[Option<Cert>],
+    certs: &PartCerts,
 ) -> Result<(), AllocError>
-    requires { length certs.now ≡ length frames.now }
-    ensures text { OnOk result (out.new.items ≡ out.old.items ++ frames_upwards (map frame_view frames.now) (map end_view certs.now)) }
-    ensures range { OnOk result (IsTrue (list_all frame_in_range (map frame_view frames.now)) × IsTrue (list_all is_cert (map end_view certs.now))) }
+    requires { length certs.now.frames ≡ length frames.now }
+    ensures text { OnOk result (out.new.items ≡ out.old.items ++ frames_upwards (map frame_view frames.now) (map end_view (reverse certs.now.frames))) }
+    ensures range { OnOk result (IsTrue (list_all frame_in_range (map frame_view frames.now)) × IsTrue (list_all is_cert (map end_view (reverse certs.now.frames)))) }
 {
     for (place, frame) in frames.iter().enumerate() {
-        put_frame(alloc, out, frame, &certs[place])?;
+        put_frame(alloc, out, frame, certs.frame(place))?;
     }
     Ok(())
 }
@@ -92,8 +98,8 @@ fn put_whole_thread(
     ensures text { OnOk result (out.new.items ≡ out.old.items ++ thread_lines_text (thread_line_of (number, thread_view state.now) (part_certs_view certs.now))) }
     ensures range { OnOk result (IsTrue (thread_in_range (number, thread_view state.now)) × IsTrue (are_certs (part_certs_view certs.now))) }
 {
-    put_thread(alloc, out, number, &state.control, &certs.control)?;
-    put_frames(alloc, out, state.frames.as_slice(), certs.frames.as_slice())
+    put_thread(alloc, out, number, &state.control, certs.control())?;
+    put_frames(alloc, out, state.frames.as_slice(), certs)
 }
 
 /// The lines of threads.

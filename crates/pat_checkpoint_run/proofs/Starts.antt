@@ -6,7 +6,7 @@ use Rattle.pat_reduce.specs.declared.threads.state.ThreadState.{ThreadState}
 use Rattle.pat_reduce.specs.Views.{threads_view}
 use Rattle.pat_checkpoint_spec.specs.Checkpoints as checkpoints
 use Rattle.pat_checkpoint_spec.specs.Resumed.{no_certs}
-use Rattle.pat_checkpoint_data.specs.declared.data.PartCerts.{PartCerts}
+use Rattle.pat_checkpoint_data.specs.Parts.{PartCerts}
 use Rattle.pat_checkpoint_data.specs.Views.{end_view, part_certs_view}
 
 abbrev none_of : List (ℕ × Thread) → List checkpoints.PartCerts

@@ -8,7 +8,7 @@ ghost use Rattle.pat_checkpoint_data.specs.Views.{checkpoint_view, part_certs_vi
 use pat_checkpoint_data::{Checkpoint, PartCerts};
 use pat_reduce::{Config, ThreadState};
 use pat_reduce_values::Executable;
-use pat_sequences::{Sequence, Stack};
+use pat_sequences::Sequence;
 use std::alloc::{AllocError, Global};
 
 /// The start of the program as a checkpoint: nothing is live, and nothing needs a certificate.
@@ -34,10 +34,7 @@ fn without_certs(
 {
     let mut certs = Sequence::new(alloc);
     for _thread in threads {
-        certs.push(PartCerts {
-            control: None,
-            frames: Stack::new(alloc),
-        })?;
+        certs.push(PartCerts::bare())?;
     }
     Ok(certs)
 }

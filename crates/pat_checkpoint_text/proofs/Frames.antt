@@ -7,7 +7,7 @@ use Rattle.pat_inclusion_spec.specs.Certificates as certificates
 use Rattle.pat_reduce.specs.declared.threads.state.ThreadState.{ThreadState}
 use Rattle.pat_reduce.specs.threads.ThreadViews.{thread_view}
 use Rattle.pat_reduce.specs.Views.{threads_view}
-use Rattle.pat_checkpoint_data.specs.declared.data.PartCerts.{PartCerts}
+use Rattle.pat_checkpoint_data.specs.Parts.{PartCerts}
 use Rattle.pat_checkpoint_data.specs.declared.data.Checkpoint.{Checkpoint}
 use Rattle.pat_checkpoint_data.specs.Views.{part_certs_view}
 use Rattle.pat_checkpoint_spec.specs.Checkpoints as checkpoints

@@ -9,7 +9,7 @@ use Rattle.pat_reduce.specs.declared.threads.state.ThreadState.{ThreadState}
 use Rattle.pat_reduce.specs.declared.threads.state.Message.{Message}
 use Rattle.pat_reduce.specs.threads.ThreadViews.{thread_view, message_view}
 use Rattle.pat_reduce.specs.Views.{threads_view}
-use Rattle.pat_checkpoint_data.specs.declared.data.PartCerts.{PartCerts}
+use Rattle.pat_checkpoint_data.specs.Parts.{PartCerts}
 use Rattle.pat_checkpoint_data.specs.declared.data.Checkpoint.{Checkpoint}
 use Rattle.pat_checkpoint_data.specs.Views.{end_view, part_certs_view, checkpoint_view}
 use Rattle.pat_texts_spec.proofs.Choices.{passed, skipped}

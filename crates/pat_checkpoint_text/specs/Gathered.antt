@@ -6,7 +6,7 @@ use Rattle.pat_reduce.specs.declared.threads.state.ThreadState.{ThreadState}
 use Rattle.pat_reduce.specs.Views.{threads_view}
 use Rattle.pat_reduce.specs.threads.ThreadViews.{message_view}
 use Rattle.pat_derivations.specs.declared.data.Cert.{Cert}
-use Rattle.pat_checkpoint_data.specs.declared.data.PartCerts.{PartCerts}
+use Rattle.pat_checkpoint_data.specs.Parts.{PartCerts}
 use Rattle.pat_checkpoint_data.specs.declared.data.Checkpoint.{Checkpoint}
 use Rattle.pat_checkpoint_data.specs.Views.{end_view, part_certs_view}
 use Rattle.pat_checkpoint_spec.specs.text.Lines.{Lines, thread_of, certs_of}

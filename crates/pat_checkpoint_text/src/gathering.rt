@@ -129,10 +129,7 @@ fn push_thread(alloc: Global, x: &mut Checkpoint, line: ThreadLine) -> Result<()
         control: line.control,
         frames: Stack::new(alloc),
     };
-    let certs = PartCerts {
-        control: line.cert,
-        frames: Stack::new(alloc),
-    };
+    let certs = PartCerts::new(alloc, line.cert)?;
     x.config.threads.push((line.number, state))?;
     x.part_certs.push(certs)
 }
@@ -163,15 +160,6 @@ fn state_with(state: ThreadState, frame: Frame) -> Result<ThreadState, AllocErro
     Ok(state)
 }
 
-/// Its certificates, with that of this frame.
-fn certs_with(certs: PartCerts, cert: Option<Cert>) -> Result<PartCerts, AllocError>
-    ensures { IfOk result (λ k. k ≡ record { control = certs.control; frames = cert ∷ certs.frames }) }
-{
-    let mut certs = certs;
-    certs.frames.push(cert)?;
-    Ok(certs)
-}
-
 /// Puts the frame on top of those of the last thread, if there is one.
 fn frame_on_last(threads: &mut Sequence<(u32, ThreadState)>, frame: Frame) -> Result<(), Unread>
     ensures { Turns (with_frame frame) threads.old threads.new result }
@@ -187,12 +175,16 @@ fn frame_on_last(threads: &mut Sequence<(u32, ThreadState)>, frame: Frame) -> Re
 }
 
 /// Puts its certificate on top of those of the last thread's frames.
-fn cert_on_last(part_certs: &mut Sequence<PartCerts>, cert: Option<Cert>) -> Result<(), Unread>
+fn cert_on_last(
+    alloc: Global,
+    part_certs: &mut Sequence<PartCerts>,
+    cert: Option<Cert>,
+) -> Result<(), Unread>
     ensures { Turns (with_cert cert) part_certs.old part_certs.new result }
 {
     match part_certs.pop() {
         Some(certs) => {
-            let certs = certs_with(certs, cert)?;
+            let certs = certs.with_frame(alloc, cert)?;
             part_certs.push(certs)?;
             Ok(())
         }
@@ -211,7 +203,7 @@ fn add_frame(
 {
     let line = read_frame(alloc, program, text)?;
     frame_on_last(&mut x.config.threads, line.frame)?;
-    cert_on_last(&mut x.part_certs, line.cert)
+    cert_on_last(alloc, &mut x.part_certs, line.cert)
 }
 
 /// The checkpoint with a line more, behind the next numbers: mailboxes, then messages, then threads, each behind those of its kind with

@@ -10,7 +10,7 @@ ghost use Rattle.pat_checkpoint_text.specs.Places.{pieces_left, named_view};
 use crate::integers::read_integer;
 use crate::outside::first_piece;
 use crate::strings::read_string;
-use pat_derivation_lines::{Unread, number_of};
+use pat_derivation_lines::{Unread, number_of, room_for};
 use pat_reduce::Value;
 use pat_sequences::Sequence;
 use pat_texts::{behind, cut};
@@ -86,10 +86,10 @@ fn read_other_values(
 pub fn read_values(alloc: Global, text: &[u8]) -> Result<Sequence<Value>, Unread>
     ensures { Gives (map value_view) (reading.read_values text.now) result }
 {
-    let mut values = Sequence::new(alloc);
     if text.is_empty() {
-        return Ok(values);
+        return Ok(Sequence::new(alloc));
     }
+    let mut values = room_for(alloc, text, b',')?;
     let (first, others) = first_piece(text, b',');
     let value = read_value(alloc, first)?;
     values.push(value)?;
@@ -147,10 +147,10 @@ fn read_other_named(
 fn read_all_named(alloc: Global, text: &[u8]) -> Result<Sequence<(u32, Value)>, Unread>
     ensures { Gives env_view (outside.read_listed reading.read_named text.now) result }
 {
-    let mut env = Sequence::new(alloc);
     if text.is_empty() {
-        return Ok(env);
+        return Ok(Sequence::new(alloc));
     }
+    let mut env = room_for(alloc, text, b',')?;
     let (first, others) = first_piece(text, b',');
     let named = read_named(alloc, first)?;
     env.push(named)?;

@@ -8,6 +8,7 @@ ghost use Rattle.pat_derivations.specs.Views.{cert_view, certs_view};
 ghost use Rattle.pat_derivation_lines.specs.patterns.Answers.{Gives};
 
 use crate::patterns::Unread;
+use crate::room::room_for;
 use pat_cover_certificates::CoverEntry;
 use pat_derivations::Cert;
 use pat_sequences::Sequence;
@@ -28,10 +29,10 @@ pub fn number_of(text: &[u8]) -> Result<u32, Unread>
 pub fn read_numbers(alloc: Global, text: &[u8]) -> Result<Sequence<u32>, Unread>
     ensures { Gives (λ ns. ns) (reading.read_numbers text.now) result }
 {
-    let mut numbers = Sequence::new(alloc);
     if text.is_empty() {
-        return Ok(numbers);
+        return Ok(Sequence::new(alloc));
     }
+    let mut numbers = room_for(alloc, text, b',')?;
     let mut rest = Some(text);
     while let Some(more) = rest {
         let (own, others) = first_piece(more, b',');
@@ -46,7 +47,7 @@ pub fn read_numbers(alloc: Global, text: &[u8]) -> Result<Sequence<u32>, Unread>
 fn read_periods(alloc: Global, text: &[u8]) -> Result<Sequence<Sequence<u32>>, Unread>
     ensures { Gives (λ ns. ns) (read_each reading.read_numbers (pieces 59 text.now)) result }
 {
-    let mut periods = Sequence::new(alloc);
+    let mut periods = room_for(alloc, text, b';')?;
     let mut rest = Some(text);
     while let Some(more) = rest {
         let (own, others) = first_piece(more, b';');
@@ -66,6 +67,7 @@ fn entry_with(set: u32, periods: Sequence<Sequence<u32>>) -> Result<CoverEntry, 
         return Err(Unread::NotSpelled);
     }
     let base = periods.remove(0);
+    periods.items.shrink_to_fit();
     Ok(CoverEntry { set, base, periods })
 }
 
@@ -87,10 +89,10 @@ fn read_entry(alloc: Global, text: &[u8]) -> Result<CoverEntry, Unread>
 fn read_entries(alloc: Global, text: &[u8]) -> Result<Sequence<CoverEntry>, Unread>
     ensures { Gives entries_view (read_joined 124 reading.read_entry text.now) result }
 {
-    let mut entries = Sequence::new(alloc);
     if text.is_empty() {
-        return Ok(entries);
+        return Ok(Sequence::new(alloc));
     }
+    let mut entries = room_for(alloc, text, b'|')?;
     let mut rest = Some(text);
     while let Some(more) = rest {
         let (own, others) = first_piece(more, b'|');

@@ -6,7 +6,7 @@ use Rattle.pat_checkpoint_spec.specs.Kinds.{control_needs}
 use Rattle.pat_checkpoint_spec.specs.Written.{frames_need, IsFormedNeed, NeedsFormed, CanBeShown}
 use Rattle.pat_checkpoint_certificates.specs.Searches.{program_in, scope_in, typing_in, bounds_in}
 use Rattle.pat_checkpoint_certificates.specs.Found.{IsFound, IsUnshownFrom}
-use Rattle.pat_checkpoint_certificates.specs.Parts.{frames_of, thread_needs}
+use Rattle.pat_checkpoint_certificates.specs.Parts.{frames_of, thread_needs, ThreadFound}
 use Rattle.pat_checkpoint_certificates.proofs.Frames.{turned_back}
 use Rattle.pat_checkpoint_certificates.proofs.Turns.{control_unshown, thread_found}
 use Rattle.pat_checkpoint_certificates.proofs.Errors.{spent, passed, unshown_later}
@@ -70,11 +70,19 @@ returns-in_err-frames-in-Some-clause-unshown c =
     passed (IsUnshownFrom (scope_in s) (bounds_in s) c.args.line (thread_needs p y (thread_view t))) r.result q.0 e q.1 q.2
     (unshown_later (scope_in s) (bounds_in s) c.args.line c.in_ok-next.next (need (map frame_view t.frames) ∷ []) (reverse (frames_need p y (map frame_view t.frames))) e c.in_ok-next.ensures (able, tt) rest)
 
-pub returns-in_ok-frames-in-Some-clause-found : goal.returns-in_ok-frames-in-Some-clause-found
-returns-in_ok-frames-in-Some-clause-found c =
+pub returns-in_err-certs-in-Some-clause-unshown : goal.returns-in_err-certs-in-Some-clause-unshown
+returns-in_err-certs-in-Some-clause-unshown c =
+    let s = c.args.search.now in
+    let r = c.from_residual-in_err-certs-in-Some in
+    let q = err_from_is_err_and r.result r.ensures.1 in
+    spent (scope_in s) (bounds_in s) c.args.line (thread_needs (program_in s) (typing_in s) (thread_view c.args.thread.now)) r.result q.0 q.1 q.2
+
+pub returns-in_ok-certs-in-Some-clause-found : goal.returns-in_ok-certs-in-Some-clause-found
+returns-in_ok-certs-in-Some-clause-found c =
     let s = c.args.search.now in
     let t = c.args.thread.now in
     let same : frames_of c.as_slice-frames.result.now ≡ map frame_view t.frames = ap (map frame_view) c.as_slice-frames.ensures in
-    thread_found (program_in s) (typing_in s) (scope_in s) (bounds_in s) (thread_view t) (frames_of c.as_slice-frames.result.now) c.in-Some.control c.in_ok-frames-in-Some.frames same
+    subst (ThreadFound s (thread_view t)) (sym c.in_ok-certs-in-Some.ensures)
+    (thread_found (program_in s) (typing_in s) (scope_in s) (bounds_in s) (thread_view t) (frames_of c.as_slice-frames.result.now) c.in-Some.control c.in_ok-frames-in-Some.frames same
     (subst (IsFound (scope_in s) (bounds_in s) (control_needs (program_in s) (typing_in s) (control_view t.control) (frames_of c.as_slice-frames.result.now))) c.in-Some.is c.in_ok-show_control.ensures)
-    c.in_ok-frames-in-Some.ensures.found
+    c.in_ok-frames-in-Some.ensures.found)

@@ -7,4 +7,4 @@ use Rattle.pat_checkpoint_parts.proofs.showing.frames_shown.Given as goal
 
 -- it is so of the frames so far
 abbrev pub invariant-loop-place : goal.invariant-loop-place
-invariant-loop-place l = l.shown ≡ frames_shown (program_in l.typing) (typing_in l.typing) (scope_in l.typing) (map frame_view (reverse (take l.place l.frames))) (map end_view (reverse (take l.place l.certs)))
+invariant-loop-place l = l.shown ≡ frames_shown (program_in l.typing) (typing_in l.typing) (scope_in l.typing) (map frame_view (reverse (take l.place l.frames))) (map end_view (reverse (take l.place (reverse l.certs.frames))))

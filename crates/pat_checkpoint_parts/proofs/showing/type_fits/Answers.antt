@@ -1,5 +1,5 @@
 use Rattle.std.proofs.Common.{sym, ap, ◌∙◌, subst}
-use Rattle.std.specs.Prelude.{IsTrue}
+use Rattle.std.specs.Prelude.{IsTrue, option_copied}
 use Rattle.std.proofs.lemmas.Result.{IfOk-weaker}
 use Rattle.pat_derivation_spec.specs.Rules.{type_is_formed}
 use Rattle.pat_primitives.specs.Views.{polarity_view}
@@ -17,4 +17,4 @@ returns-in-Mailbox c =
     let s = scope_in c.args.typing.now in
     IfOk-weaker c.pattern_fits.result _ _ (λ answer h.
     h (polarity_view c.in-Mailbox.polarity)
-    ∙ ap (λ k. is_certified s (type_needs (result_view k) (result_view c.args.wanted.now)) (end_view c.args.cert.now)) (sym c.in-Mailbox.is)) c.pattern_fits.ensures
+    ∙ ap (λ k. is_certified s (type_needs (result_view k) (result_view c.args.wanted.now)) (end_view (option_copied c.args.cert))) (sym c.in-Mailbox.is)) c.pattern_fits.ensures

@@ -1,6 +1,7 @@
-use Rattle.std.proofs.Common.{[], map}
+use Rattle.std.proofs.Common.{[], map, reverse}
 use Rattle.std.specs.List.{list_all}
 use Rattle.std.proofs.lemmas.Bool.{and_from}
+use Rattle.std.proofs.lemmas.List.{reverse-reverse}
 use Rattle.pat_texts_spec.specs.Numbers.{is_number}
 use Rattle.pat_reduce.specs.threads.ThreadViews.{control_view, frame_view}
 use Rattle.pat_checkpoint_data.specs.Views.{end_view}
@@ -17,11 +18,11 @@ pub returns-clause-text : goal.returns-clause-text
 returns-clause-text c =
     let own = c.args.state.now in
     let certs = c.args.certs.now in
-    let turned = frames_turned c.as_slice.result.now own.frames c.as_slice-2.result.now certs.frames c.as_slice.ensures c.as_slice-2.ensures c.requires in
+    let turned = frames_turned c.as_slice.result.now own.frames (reverse certs.frames) certs.frames c.as_slice.ensures (reverse-reverse certs.frames) c.requires in
     also c.put_frames.result
     (joined c.args.out.now.items c.put_thread.new.out.items c.put_frames.new.out.items
     (line (thread_text (record { number = c.args.number; control = control_view own.control; cert = end_view certs.control; frames = [] })))
-    (frames_upwards (map frame_view c.as_slice.result.now) (map end_view c.as_slice-2.result.now))
+    (frames_upwards (map frame_view c.as_slice.result.now) (map end_view (reverse certs.frames)))
     (frames_text (frame_lines (map frame_view own.frames) (map end_view certs.frames)))
     c.in_ok-put_thread.ensures.text turned)
     c.put_frames.ensures.text
@@ -34,6 +35,6 @@ returns-clause-range c =
     also c.put_frames.result
     (λ h. (
       and_from (is_number c.args.number) _ own.0 (and_from k fs own.1 (all_of frame_in_range frame_view c.as_slice.result.now c.args.state.now.frames c.as_slice.ensures h.0)),
-      and_from (is_cert (end_view c.args.certs.now.control)) (list_all is_cert (map end_view c.args.certs.now.frames)) own.2 (all_of is_cert end_view c.as_slice-2.result.now c.args.certs.now.frames c.as_slice-2.ensures h.1),
+      and_from (is_cert (end_view c.args.certs.now.control)) (list_all is_cert (map end_view c.args.certs.now.frames)) own.2 (all_of is_cert end_view (reverse c.args.certs.now.frames) c.args.certs.now.frames (reverse-reverse c.args.certs.now.frames) h.1),
     ))
     c.put_frames.ensures.range
