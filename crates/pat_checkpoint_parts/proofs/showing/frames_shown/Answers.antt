@@ -19,7 +19,7 @@ returns-then-frames-frame_count c =
     let ends = c.args.certs.now.frames in
     let back = length-reverse ends in
     sym (ap (λ l. frames_shown (program_in t) (typing_in t) (scope_in t) (map frame_view (reverse frames)) (map end_view l)) (sym (reverse-reverse ends))
-    ∙ frames_unequal (program_in t) (typing_in t) (scope_in t) (map frame_view (reverse frames)) (map end_view (reverse (reverse ends))) (mapped_reversed frame_view end_view frames (reverse ends) (λ same. c.if-frames-frame_count.true (same ∙ back))))
+    ∙ frames_unequal (program_in t) (typing_in t) (scope_in t) (map frame_view (reverse frames)) (map end_view (reverse (reverse ends))) (mapped_reversed frame_view end_view frames (reverse ends) (λ same. c.if-frames-frame_count.true (same ∙ back ∙ sym c.frame_count.ensures))))
 
 pub loop-place-preserved : goal.loop-place-preserved
 loop-place-preserved c =
@@ -29,7 +29,7 @@ loop-place-preserved c =
     let certs = reverse ends in
     let k = c.loop-place.place in
     let f = c.index-frames-place.result in
-    let same : length frames ≡ length ends = c.if-frames-frame_count.false in
+    let same : length frames ≡ length ends = c.if-frames-frame_count.false ∙ c.frame_count.ensures in
     let back : length certs ≡ length ends = length-reverse ends in
     let less : k < length frames = c.loop-place-test.true in
     let also : k < length certs = omega arith in
@@ -49,7 +49,7 @@ returns c =
     let frames = c.args.frames.now in
     let ends = c.args.certs.now.frames in
     let k = c.loop-place.place in
-    let same : length frames ≡ length ends = c.if-frames-frame_count.false in
+    let same : length frames ≡ length ends = c.if-frames-frame_count.false ∙ c.frame_count.ensures in
     let back : length (reverse ends) ≡ length ends = length-reverse ends in
     c.loop-place.invariant
     ∙ ap (λ l. frames_shown (program_in t) (typing_in t) (scope_in t) (map frame_view (reverse l)) (map end_view (reverse (take k (reverse ends))))) (take_all k frames (omega (arith, c.loop-place-test.false)))

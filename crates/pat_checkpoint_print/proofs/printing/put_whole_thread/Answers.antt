@@ -1,4 +1,4 @@
-use Rattle.std.proofs.Common.{[], map, reverse}
+use Rattle.std.proofs.Common.{[], ◌++◌, map, reverse, sym, ap, ◌∙◌}
 use Rattle.std.specs.List.{list_all}
 use Rattle.std.proofs.lemmas.Bool.{and_from}
 use Rattle.std.proofs.lemmas.List.{reverse-reverse}
@@ -24,7 +24,7 @@ returns-clause-text c =
     (line (thread_text (record { number = c.args.number; control = control_view own.control; cert = end_view certs.control; frames = [] })))
     (frames_upwards (map frame_view c.as_slice.result.now) (map end_view (reverse certs.frames)))
     (frames_text (frame_lines (map frame_view own.frames) (map end_view certs.frames)))
-    c.in_ok-put_thread.ensures.text turned)
+    (c.in_ok-put_thread.ensures.text ∙ ap (λ o. c.args.out.now.items ++ line (thread_text (record { number = c.args.number; control = control_view own.control; cert = end_view o; frames = [] }))) c.control.ensures) turned)
     c.put_frames.ensures.text
 
 pub returns-clause-range : goal.returns-clause-range
@@ -35,6 +35,6 @@ returns-clause-range c =
     also c.put_frames.result
     (λ h. (
       and_from (is_number c.args.number) _ own.0 (and_from k fs own.1 (all_of frame_in_range frame_view c.as_slice.result.now c.args.state.now.frames c.as_slice.ensures h.0)),
-      and_from (is_cert (end_view c.args.certs.now.control)) (list_all is_cert (map end_view c.args.certs.now.frames)) own.2 (all_of is_cert end_view (reverse c.args.certs.now.frames) c.args.certs.now.frames (reverse-reverse c.args.certs.now.frames) h.1),
+      and_from (is_cert (end_view c.args.certs.now.control)) (list_all is_cert (map end_view c.args.certs.now.frames)) (sym (ap (λ o. is_cert (end_view o)) c.control.ensures) ∙ own.2) (all_of is_cert end_view (reverse c.args.certs.now.frames) c.args.certs.now.frames (reverse-reverse c.args.certs.now.frames) h.1),
     ))
     c.put_frames.ensures.range
