@@ -48,7 +48,8 @@ pub fn write(
     requires typed { CanBeCertified (program_view program.now) (derivation_view derivation.now) (config_view config) interfaces }
     requires there { AllByRecursion (λ i. i < length (program_view program.now).interfaces) interfaces }
     requires strings { HasSpelledStrings (config_view config) }
-    ensures written { IfOk result (λ text. IsWritten (program_view program.now) (derivation_view derivation.now) (config_view config) interfaces text.items) }
+    ensures written { IfOk result (λ text. IsWritten (program_view program.now) (derivation_view derivation.now)
+        (config_view config) interfaces text.items) }
     ensures unshown { IfErr result (IsRefusal (program_view program.now) (derivation_view derivation.now) (config_view config) interfaces) }
 {
     checked_laws();
@@ -75,7 +76,8 @@ fn text_of(alloc: Global, program: &Program, checkpoint: &Checkpoint) -> Result<
 
 /// The same refusal. A text of more lines than there are numbers of 32 bits is more than memory has.
 fn refusal_of(error: CertifyError) -> WriteError
-    ensures { (p : GhostProgram) (d : GhostDerivation) (c : GhostConfig) (interfaces : List ℕ) → IsUnshown p d c interfaces error → IsRefusal p d c interfaces result }
+    ensures { (p : GhostProgram) (d : GhostDerivation) (c : GhostConfig) (interfaces : List ℕ) → IsUnshown p d c interfaces error
+        → IsRefusal p d c interfaces result }
 {
     match error {
         CertifyError::Unshown(line) => {

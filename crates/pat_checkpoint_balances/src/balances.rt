@@ -58,7 +58,8 @@ pub fn balances_hold(
     requires differ { IsTrue (mailboxes_differ (config_view checkpoint.now.config)) }
     requires messages { IsTrue (messages_hold (program_view program.now) (checkpoint_view checkpoint.now)) }
     requires sides { IsGathered (program_view program.now) (derivation_view derivation.now) (checkpoint_view checkpoint.now) sides.now }
-    ensures { IfOk result (λ yes. yes ≡ balances_hold_of (program_view program.now) (derivation_view derivation.now) (checkpoint_view checkpoint.now)) }
+    ensures { IfOk result (λ yes. yes ≡ balances_hold_of (program_view program.now) (derivation_view derivation.now)
+        (checkpoint_view checkpoint.now)) }
 {
     let interfaces = checkpoint.interfaces.as_slice();
     let certs = checkpoint.mailbox_certs.as_slice();
@@ -98,7 +99,9 @@ fn is_balanced(
     requires side { place < length sides.now.coming }
     requires interface { place < length checkpoint.now.interfaces }
     requires cert { place < length checkpoint.now.mailbox_certs }
-    ensures { IfOk result (λ yes. shown_from (program_view program.now) (derivation_view derivation.now) (checkpoint_view checkpoint.now) place ≡ (yes && shown_from (program_view program.now) (derivation_view derivation.now) (checkpoint_view checkpoint.now) (suc place))) }
+    ensures { IfOk result (λ yes. shown_from (program_view program.now) (derivation_view derivation.now)
+        (checkpoint_view checkpoint.now) place ≡ (yes
+        && shown_from (program_view program.now) (derivation_view derivation.now) (checkpoint_view checkpoint.now) (suc place))) }
 {
     examining_laws();
     validity_laws();

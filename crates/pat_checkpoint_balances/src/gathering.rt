@@ -77,7 +77,8 @@ fn parted(
     held: &[(u32, MailboxType)],
 ) -> Result<Sides, AllocError>
     requires { IsTrue (ascends 0 live.now) }
-    ensures { IfOk result (λ sides. (ms : List Messages) → rows_view tags ≡ map (tags_of ms) live.now → Parted live.now ms (needs_view held.now) sides) }
+    ensures { IfOk result (λ sides. (ms : List Messages) → rows_view tags ≡ map (tags_of ms) live.now
+        → Parted live.now ms (needs_view held.now) sides) }
 {
     let receivers = no_rows(alloc, live.len())?;
     let mut sides = Sides {
@@ -98,7 +99,8 @@ fn add_side(
     of: &MailboxType,
 ) -> Result<(), AllocError>
     requires { IsTrue (ascends 0 live.now) }
-    ensures { OnOk result ((ms : List Messages) (hs : List Held) → Parted live.now ms hs sides.old → Parted live.now ms (hs ++ (mailbox, type_view of.now) ∷ []) sides.new) }
+    ensures { OnOk result ((ms : List Messages) (hs : List Held) → Parted live.now ms hs sides.old
+        → Parted live.now ms (hs ++ (mailbox, type_view of.now) ∷ []) sides.new) }
 {
     let pattern = of.pattern.copy()?;
     match of.polarity {

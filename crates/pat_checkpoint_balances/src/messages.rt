@@ -49,7 +49,8 @@ fn message_fits(program: &Program, live: &[u32], interfaces: &[u32], message: &M
 
 fn values_fit(live: &[u32], interfaces: &[u32], values: &[Value], payloads: &[Sort]) -> bool
     requires { IsTrue (ascends 0 live.now) }
-    ensures { result ≡ values_fit_kinds (interface_at live.now interfaces.now) (map value_view values.now) (map kind_of (map sort_view payloads.now)) }
+    ensures { result ≡ values_fit_kinds (interface_at live.now interfaces.now) (map value_view values.now)
+        (map kind_of (map sort_view payloads.now)) }
 {
     if values.len() != payloads.len() {
         return false;

@@ -43,7 +43,8 @@ pub fn add(
     pattern: Pattern,
 ) -> Result<(), AllocError>
     requires { IsTrue (ascends 0 live.now) }
-    ensures { OnOk result ((row : ℕ → List Pat) → rows_view rows.old ≡ map row live.now → rows_view rows.new ≡ map (with_one row mailbox (pattern_view pattern)) live.now) }
+    ensures { OnOk result ((row : ℕ → List Pat) → rows_view rows.old ≡ map row live.now
+        → rows_view rows.new ≡ map (with_one row mailbox (pattern_view pattern)) live.now) }
 {
     match place_of(live, mailbox) {
         None => Ok(()),

@@ -45,7 +45,9 @@ pub fn all_held(
 ) -> Result<Sequence<(u32, MailboxType)>, AllocError>
     requires well { WellFormed (program_view program.now) }
     requires numbers { IsTrue (numbers_hold (config_view checkpoint.now.config)) }
-    ensures { IfOk result (λ held. needs_view held ≡ all_held_by (program_view program.now) (written_typing (program_view program.now) (derivation_view derivation.now)) (interfaces_of (checkpoint_view checkpoint.now)) (config_view checkpoint.now.config)) }
+    ensures { IfOk result (λ held. needs_view held
+        ≡ all_held_by (program_view program.now) (written_typing (program_view program.now) (derivation_view derivation.now))
+        (interfaces_of (checkpoint_view checkpoint.now)) (config_view checkpoint.now.config)) }
 {
     let tables = tables_of(alloc, program, derivation)?;
     let mut held = Sequence::new(alloc);
@@ -108,7 +110,8 @@ fn add_values(
     types: &LookUps<'_>,
     env: &[(u32, Value)],
 ) -> Result<(), AllocError>
-    ensures { OnOk result (needs_view held.new ≡ needs_view held.old ++ env_holds (need_of (needs_view types.now.env.now)) (env_view env.now)) }
+    ensures { OnOk result (needs_view held.new ≡ needs_view held.old
+        ++ env_holds (need_of (needs_view types.now.env.now)) (env_view env.now)) }
 {
     let mut near = 0;
     for (variable, value) in env {
@@ -163,7 +166,8 @@ fn given_to(
     tables: &Tables<'_>,
     body: u32,
 ) -> Result<Option<MailboxType>, AllocError>
-    ensures { IfOk result (λ o. (p : Programs) → AreTables p (derivation_view derivation.now) tables.now → option_map type_view o ≡ as_holding (type_at (written_typing p (derivation_view derivation.now)) (bound_of_let p.nodes body))) }
+    ensures { IfOk result (λ o. (p : Programs) → AreTables p (derivation_view derivation.now) tables.now
+        → option_map type_view o ≡ as_holding (type_at (written_typing p (derivation_view derivation.now)) (bound_of_let p.nodes body))) }
 {
     let Some(bound) = bound_of(tables.bounds.as_slice(), body) else {
         return Ok(None);
@@ -182,7 +186,9 @@ fn add_control(
     control: &Control,
     frames: &Stack<Frame>,
 ) -> Result<(), AllocError>
-    ensures { OnOk result ((p : Programs) → AreTables p (derivation_view derivation.now) tables.now → needs_view held.new ≡ needs_view held.old ++ control_holds p (written_typing p (derivation_view derivation.now)) (control_view control.now) (map frame_view frames.now)) }
+    ensures { OnOk result ((p : Programs) → AreTables p (derivation_view derivation.now) tables.now
+        → needs_view held.new ≡ needs_view held.old
+        ++ control_holds p (written_typing p (derivation_view derivation.now)) (control_view control.now) (map frame_view frames.now)) }
 {
     match control {
         Control::Node { node, env } => {
@@ -204,7 +210,8 @@ fn add_frames(
     envs: &[LookUps<'_>],
     frames: &[Frame],
 ) -> Result<(), AllocError>
-    ensures { OnOk result (needs_view held.new ≡ needs_view held.old ++ frames_hold_in_turn (needs_of envs.now) (map frame_view frames.now)) }
+    ensures { OnOk result (needs_view held.new ≡ needs_view held.old
+        ++ frames_hold_in_turn (needs_of envs.now) (map frame_view frames.now)) }
 {
     for frame in frames {
         add_env(held, envs, frame.body, frame.env.as_slice())?;
@@ -218,7 +225,9 @@ fn add_thread(
     tables: &Tables<'_>,
     thread: &ThreadState,
 ) -> Result<(), AllocError>
-    ensures { OnOk result ((p : Programs) → AreTables p (derivation_view derivation.now) tables.now → needs_view held.new ≡ needs_view held.old ++ thread_holds p (written_typing p (derivation_view derivation.now)) (thread_view thread.now)) }
+    ensures { OnOk result ((p : Programs) → AreTables p (derivation_view derivation.now) tables.now
+        → needs_view held.new ≡ needs_view held.old
+        ++ thread_holds p (written_typing p (derivation_view derivation.now)) (thread_view thread.now)) }
 {
     add_control(held, derivation, tables, &thread.control, &thread.frames)?;
     add_frames(held, tables.envs.as_slice(), thread.frames.as_slice())?;
@@ -242,7 +251,8 @@ fn add_payloads(
     payloads: &[Sort],
     values: &[Value],
 ) -> Result<(), AllocError>
-    ensures { OnOk result (needs_view held.new ≡ needs_view held.old ++ payload_holds (λ k. option_and_then payload_sort (slice_get (map sort_view payloads.now) k)) 0 (map value_view values.now)) }
+    ensures { OnOk result (needs_view held.new ≡ needs_view held.old
+        ++ payload_holds (λ k. option_and_then payload_sort (slice_get (map sort_view payloads.now) k)) 0 (map value_view values.now)) }
 {
     for place in 0..values.len() {
         let of = payload_at(payloads, place)?;
@@ -257,7 +267,9 @@ fn add_message(
     interface: u32,
     message: &Message,
 ) -> Result<(), AllocError>
-    ensures { OnOk result (needs_view held.new ≡ needs_view held.old ++ payload_holds (declared_types (tag_at (program_view program.now) interface (message_view message.now).tag)) 0 (message_view message.now).values) }
+    ensures { OnOk result (needs_view held.new ≡ needs_view held.old
+        ++ payload_holds (declared_types (tag_at (program_view program.now) interface (message_view message.now).tag)) 0
+        (message_view message.now).values) }
 {
     match tag_of(program, interface, message.tag) {
         None => Ok(()),
@@ -277,7 +289,9 @@ fn add_messages(
     checkpoint: &Checkpoint,
 ) -> Result<(), AllocError>
     requires { IsTrue (ascends 0 checkpoint.now.config.live) }
-    ensures { OnOk result (needs_view held.new ≡ needs_view held.old ++ messages_hold_types (program_view program.now) (interfaces_of (checkpoint_view checkpoint.now)) (config_view checkpoint.now.config).messages) }
+    ensures { OnOk result (needs_view held.new ≡ needs_view held.old
+        ++ messages_hold_types (program_view program.now) (interfaces_of (checkpoint_view checkpoint.now))
+        (config_view checkpoint.now.config).messages) }
 {
     let live = checkpoint.config.live.as_slice();
     let interfaces = checkpoint.interfaces.as_slice();

@@ -35,8 +35,12 @@ fn show_balance(
     requires coming { place < length sides.now.coming }
     requires receivers { place < length sides.now.receivers }
     requires sides { IsGathered (program_in search.now) (derivation_view search.now.derivation.now) (checkpoint_view bare.now) sides.now }
-    requires formed { IsFormedNeed (scope_in search.now) (Some (balance_needs (program_in search.now) (typing_in search.now) (interfaces_of (checkpoint_view bare.now)) (checkpoint_view bare.now).config mailbox)) }
-    ensures { IfOk result (IsFound (scope_in search.now) (bounds_in search.now) (Some (balance_needs (program_in search.now) (typing_in search.now) (interfaces_of (checkpoint_view bare.now)) (checkpoint_view bare.now).config mailbox))) }
+    requires formed { IsFormedNeed (scope_in search.now)
+        (Some (balance_needs (program_in search.now) (typing_in search.now) (interfaces_of (checkpoint_view bare.now))
+        (checkpoint_view bare.now).config mailbox)) }
+    ensures { IfOk result (IsFound (scope_in search.now) (bounds_in search.now)
+        (Some (balance_needs (program_in search.now) (typing_in search.now) (interfaces_of (checkpoint_view bare.now))
+        (checkpoint_view bare.now).config mailbox))) }
 {
     let live = bare.config.live.as_slice();
     let interfaces = bare.interfaces.as_slice();
@@ -62,10 +66,14 @@ fn certify_balance(
     requires live { IsTrue (ascends 0 bare.now.config.live) }
     requires place { place < length bare.now.config.live }
     requires sides { IsGathered (program_in search.now) (derivation_view search.now.derivation.now) (checkpoint_view bare.now) sides.now }
-    requires formed { NeedsFormed (scope_in search.now) (balances_need (program_in search.now) (derivation_view search.now.derivation.now) (checkpoint_view bare.now) bare.now.config.live) }
+    requires formed { NeedsFormed (scope_in search.now)
+        (balances_need (program_in search.now) (derivation_view search.now.derivation.now)
+        (checkpoint_view bare.now) bare.now.config.live) }
     requires before { BalancesCanBeShown search.now bare.now (take place bare.now.config.live) }
     ensures found { IfOk result (λ cert. BalanceFoundAt search.now bare.now place cert) }
-    ensures unshown { IfErr result (IsUnshownFrom (scope_in search.now) (bounds_in search.now) first (balances_need (program_in search.now) (derivation_view search.now.derivation.now) (checkpoint_view bare.now) bare.now.config.live)) }
+    ensures unshown { IfErr result (IsUnshownFrom (scope_in search.now) (bounds_in search.now) first
+        (balances_need (program_in search.now) (derivation_view search.now.derivation.now)
+        (checkpoint_view bare.now) bare.now.config.live)) }
 {
     let live = bare.config.live.as_slice();
     match show_balance(alloc, search, bare, sides, place, live[place])? {
@@ -85,9 +93,13 @@ pub fn certify_balances(
     requires search { IsSearch search.now }
     requires live { IsTrue (ascends 0 bare.now.config.live) }
     requires sides { IsGathered (program_in search.now) (derivation_view search.now.derivation.now) (checkpoint_view bare.now) sides.now }
-    requires formed { NeedsFormed (scope_in search.now) (balances_need (program_in search.now) (derivation_view search.now.derivation.now) (checkpoint_view bare.now) bare.now.config.live) }
+    requires formed { NeedsFormed (scope_in search.now)
+        (balances_need (program_in search.now) (derivation_view search.now.derivation.now)
+        (checkpoint_view bare.now) bare.now.config.live) }
     ensures found { IfOk result (BalancesFound search.now bare.now bare.now.config.live) }
-    ensures unshown { IfErr result (IsUnshownFrom (scope_in search.now) (bounds_in search.now) first (balances_need (program_in search.now) (derivation_view search.now.derivation.now) (checkpoint_view bare.now) bare.now.config.live)) }
+    ensures unshown { IfErr result (IsUnshownFrom (scope_in search.now) (bounds_in search.now) first
+        (balances_need (program_in search.now) (derivation_view search.now.derivation.now)
+        (checkpoint_view bare.now) bare.now.config.live)) }
 {
     let mut certs = Sequence::new(alloc);
     for place in 0..bare.config.live.len() {

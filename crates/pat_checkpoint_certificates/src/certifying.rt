@@ -63,7 +63,13 @@ fn with_certs(
     mailbox_certs: Sequence<Option<Cert>>,
     part_certs: Sequence<PartCerts>,
 ) -> Checkpoint
-    ensures { checkpoint_view result ≡ record { config = config_view bare.config; interfaces = bare.interfaces; mailbox_certs = map end_view mailbox_certs; part_certs = map part_certs_view part_certs } }
+    ensures { checkpoint_view result ≡ record {
+      config = config_view bare.config;
+      interfaces = bare.interfaces;
+      mailbox_certs
+          = map end_view mailbox_certs;
+      part_certs = map part_certs_view part_certs;
+    } }
 {
     let (config, interfaces, _, _) = bare.into_parts();
     Checkpoint {
@@ -92,7 +98,9 @@ fn certify_mailboxes(
     requires valid { IsValid (program_in search.now) (derivation_view search.now.derivation.now) }
     requires stands { IsTrue (stands_typed (program_in search.now) (derivation_view search.now.derivation.now) (checkpoint_view bare.now)) }
     ensures found { IfOk result (BalancesFound search.now bare.now bare.now.config.live) }
-    ensures unshown { IfErr result (IsUnshownFrom (scope_in search.now) (bounds_in search.now) 1 (lines_need (program_in search.now) (typing_in search.now) (interfaces_of (checkpoint_view bare.now)) (checkpoint_view bare.now).config)) }
+    ensures unshown { IfErr result (IsUnshownFrom (scope_in search.now) (bounds_in search.now) 1
+        (lines_need (program_in search.now) (typing_in search.now) (interfaces_of (checkpoint_view bare.now))
+        (checkpoint_view bare.now).config)) }
 {
     writing_laws();
     let sides = sides_of(alloc, search.program, search.derivation, bare)?;
@@ -111,7 +119,9 @@ fn certify_parts(
     requires stands { IsTrue (stands_typed (program_in search.now) (derivation_view search.now.derivation.now) (checkpoint_view bare.now)) }
     requires balances { BalancesCanBeShown search.now bare.now bare.now.config.live }
     ensures found { IfOk result (ThreadsFound search.now (threads_view bare.now.config.threads)) }
-    ensures unshown { IfErr result (IsUnshownFrom (scope_in search.now) (bounds_in search.now) 1 (lines_need (program_in search.now) (typing_in search.now) (interfaces_of (checkpoint_view bare.now)) (checkpoint_view bare.now).config)) }
+    ensures unshown { IfErr result (IsUnshownFrom (scope_in search.now) (bounds_in search.now) 1
+        (lines_need (program_in search.now) (typing_in search.now) (interfaces_of (checkpoint_view bare.now))
+        (checkpoint_view bare.now).config)) }
 {
     writing_laws();
     let line = first_part(&bare.config)?;
@@ -129,8 +139,10 @@ fn certify_with(
     requires search { IsSearch search.now }
     requires valid { IsValid (program_in search.now) (derivation_view search.now.derivation.now) }
     requires typed { CanBeCertified (program_in search.now) (derivation_view search.now.derivation.now) (config_view config) interfaces }
-    ensures certified { IfOk result (λ x. IsCertified (program_in search.now) (derivation_view search.now.derivation.now) (config_view config) interfaces (checkpoint_view x)) }
-    ensures unshown { IfErr result (IsUnshown (program_in search.now) (derivation_view search.now.derivation.now) (config_view config) interfaces) }
+    ensures certified { IfOk result (λ x. IsCertified (program_in search.now) (derivation_view search.now.derivation.now)
+        (config_view config) interfaces (checkpoint_view x)) }
+    ensures unshown { IfErr result (IsUnshown (program_in search.now) (derivation_view search.now.derivation.now)
+        (config_view config) interfaces) }
 {
     checked_laws();
     resumed_laws();
@@ -153,7 +165,8 @@ pub fn certify(
     requires well { WellFormed (program_view program.now) }
     requires valid { IsValid (program_view program.now) (derivation_view derivation.now) }
     requires typed { CanBeCertified (program_view program.now) (derivation_view derivation.now) (config_view config) interfaces }
-    ensures certified { IfOk result (λ x. IsCertified (program_view program.now) (derivation_view derivation.now) (config_view config) interfaces (checkpoint_view x)) }
+    ensures certified { IfOk result (λ x. IsCertified (program_view program.now) (derivation_view derivation.now)
+        (config_view config) interfaces (checkpoint_view x)) }
     ensures unshown { IfErr result (IsUnshown (program_view program.now) (derivation_view derivation.now) (config_view config) interfaces) }
 {
     validity_laws();

@@ -43,7 +43,8 @@ fn result_at<'a>(derivation: &'a Derivation, node: u32) -> Option<&'a TypeOf>
 /// What these frames, the last one first, want of what is above them, if there is one and it has a type.
 fn wanted<'a>(search: &Search<'a>, below: &[Frame]) -> Option<&'a TypeOf>
     requires { IsSearch search.now }
-    ensures { or_unit (option_map result_view (option_copied result)) ≡ wanted_by (program_in search.now) (typing_in search.now) (frames_of below.now) }
+    ensures { or_unit (option_map result_view (option_copied result))
+        ≡ wanted_by (program_in search.now) (typing_in search.now) (frames_of below.now) }
 {
     let Some(frame) = below.last() else {
         return None;
@@ -99,7 +100,8 @@ fn lies_in<'a>(interface: Option<u32>, left: &'a Pattern, right: &'a Pattern) ->
 
 /// The same where there may be no types, which then are unit.
 fn needed<'a>(given: Option<&'a TypeOf>, asked: Option<&'a TypeOf>) -> Option<Need<'a>>
-    ensures { option_map need_view result ≡ type_needs (or_unit (option_map result_view (option_copied given.entry))) (or_unit (option_map result_view (option_copied asked.entry))) }
+    ensures { option_map need_view result ≡ type_needs (or_unit (option_map result_view (option_copied given.entry)))
+        (or_unit (option_map result_view (option_copied asked.entry))) }
 {
     match given {
         None => None,
@@ -118,8 +120,12 @@ fn show_part(
     below: &[Frame],
 ) -> Result<Option<Option<Cert>>, AllocError>
     requires search { IsSearch search.now }
-    requires formed { IsFormedNeed (scope_in search.now) (type_needs ((typing_in search.now).results node) (wanted_by (program_in search.now) (typing_in search.now) (frames_of below.now))) }
-    ensures { IfOk result (IsFound (scope_in search.now) (bounds_in search.now) (type_needs ((typing_in search.now).results node) (wanted_by (program_in search.now) (typing_in search.now) (frames_of below.now)))) }
+    requires formed { IsFormedNeed (scope_in search.now)
+        (type_needs ((typing_in search.now).results node)
+        (wanted_by (program_in search.now) (typing_in search.now) (frames_of below.now))) }
+    ensures { IfOk result (IsFound (scope_in search.now) (bounds_in search.now)
+        (type_needs ((typing_in search.now).results node)
+        (wanted_by (program_in search.now) (typing_in search.now) (frames_of below.now)))) }
 {
     let given = result_at(search.derivation, node);
     let asked = wanted(search, below);
@@ -135,8 +141,10 @@ fn show_control(
     frames: &[Frame],
 ) -> Result<Option<Option<Cert>>, AllocError>
     requires search { IsSearch search.now }
-    requires formed { IsFormedNeed (scope_in search.now) (control_needs (program_in search.now) (typing_in search.now) (control_view control.now) (frames_of frames.now)) }
-    ensures { IfOk result (IsFound (scope_in search.now) (bounds_in search.now) (control_needs (program_in search.now) (typing_in search.now) (control_view control.now) (frames_of frames.now))) }
+    requires formed { IsFormedNeed (scope_in search.now)
+        (control_needs (program_in search.now) (typing_in search.now) (control_view control.now) (frames_of frames.now)) }
+    ensures { IfOk result (IsFound (scope_in search.now) (bounds_in search.now)
+        (control_needs (program_in search.now) (typing_in search.now) (control_view control.now) (frames_of frames.now))) }
 {
     match control {
         Control::Node { node, env: _ } => show_part(alloc, search, *node, frames),
@@ -153,7 +161,8 @@ fn show_frame(
 ) -> Result<Option<Option<Cert>>, AllocError>
     requires search { IsSearch search.now }
     requires place { place < length frames.now }
-    requires formed { NeedsFormed (scope_in search.now) (frames_need (program_in search.now) (typing_in search.now) (frames_of frames.now)) }
+    requires formed { NeedsFormed (scope_in search.now)
+        (frames_need (program_in search.now) (typing_in search.now) (frames_of frames.now)) }
     ensures { IfOk result (IsFoundAt search.now frames.now place) }
 {
     show_part(alloc, search, frames[place].body, &frames[..place])
@@ -169,10 +178,12 @@ fn certify_frame(
 ) -> Result<Option<Cert>, CertifyError>
     requires search { IsSearch search.now }
     requires place { place < length frames.now }
-    requires formed { NeedsFormed (scope_in search.now) (frames_need (program_in search.now) (typing_in search.now) (frames_of frames.now)) }
+    requires formed { NeedsFormed (scope_in search.now)
+        (frames_need (program_in search.now) (typing_in search.now) (frames_of frames.now)) }
     requires below { CanAllBeShown search.now (take place frames.now) }
     ensures found { IfOk result (λ cert. IsFoundAt search.now frames.now place (Some cert)) }
-    ensures unshown { IfErr result (IsUnshownFrom (scope_in search.now) (bounds_in search.now) line (reverse (frames_need (program_in search.now) (typing_in search.now) (frames_of frames.now)))) }
+    ensures unshown { IfErr result (IsUnshownFrom (scope_in search.now) (bounds_in search.now) line
+        (reverse (frames_need (program_in search.now) (typing_in search.now) (frames_of frames.now)))) }
 {
     match show_frame(alloc, search, frames, place)? {
         None => Err(unshown(line, place)),
@@ -188,9 +199,11 @@ fn certify_frames(
     line: usize,
 ) -> Result<Stack<Option<Cert>>, CertifyError>
     requires search { IsSearch search.now }
-    requires formed { NeedsFormed (scope_in search.now) (frames_need (program_in search.now) (typing_in search.now) (frames_of frames.now)) }
+    requires formed { NeedsFormed (scope_in search.now)
+        (frames_need (program_in search.now) (typing_in search.now) (frames_of frames.now)) }
     ensures found { IfOk result (FramesFound search.now frames.now) }
-    ensures unshown { IfErr result (IsUnshownFrom (scope_in search.now) (bounds_in search.now) line (reverse (frames_need (program_in search.now) (typing_in search.now) (frames_of frames.now)))) }
+    ensures unshown { IfErr result (IsUnshownFrom (scope_in search.now) (bounds_in search.now) line
+        (reverse (frames_need (program_in search.now) (typing_in search.now) (frames_of frames.now)))) }
 {
     let mut certs = Stack::new(alloc);
     for place in 0..frames.len() {
@@ -208,9 +221,11 @@ fn certify_thread(
     line: usize,
 ) -> Result<PartCerts, CertifyError>
     requires search { IsSearch search.now }
-    requires formed { NeedsFormed (scope_in search.now) (thread_needs (program_in search.now) (typing_in search.now) (thread_view thread.now)) }
+    requires formed { NeedsFormed (scope_in search.now)
+        (thread_needs (program_in search.now) (typing_in search.now) (thread_view thread.now)) }
     ensures found { IfOk result (ThreadFound search.now (thread_view thread.now)) }
-    ensures unshown { IfErr result (IsUnshownFrom (scope_in search.now) (bounds_in search.now) line (thread_needs (program_in search.now) (typing_in search.now) (thread_view thread.now))) }
+    ensures unshown { IfErr result (IsUnshownFrom (scope_in search.now) (bounds_in search.now) line
+        (thread_needs (program_in search.now) (typing_in search.now) (thread_view thread.now))) }
 {
     let next = line_after(line, 1)?;
     let frames = thread.frames.as_slice();
@@ -240,9 +255,11 @@ pub fn certify_threads(
     first: usize,
 ) -> Result<Sequence<PartCerts>, CertifyError>
     requires search { IsSearch search.now }
-    requires formed { NeedsFormed (scope_in search.now) (threads_need (program_in search.now) (typing_in search.now) (threads_view threads.now)) }
+    requires formed { NeedsFormed (scope_in search.now)
+        (threads_need (program_in search.now) (typing_in search.now) (threads_view threads.now)) }
     ensures found { IfOk result (ThreadsFound search.now (threads_view threads.now)) }
-    ensures unshown { IfErr result (IsUnshownFrom (scope_in search.now) (bounds_in search.now) first (threads_need (program_in search.now) (typing_in search.now) (threads_view threads.now))) }
+    ensures unshown { IfErr result (IsUnshownFrom (scope_in search.now) (bounds_in search.now) first
+        (threads_need (program_in search.now) (typing_in search.now) (threads_view threads.now))) }
 {
     let mut certs = Sequence::new(alloc);
     let mut line = first;

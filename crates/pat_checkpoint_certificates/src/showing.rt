@@ -45,7 +45,9 @@ fn cover_between(
     requires search { IsSearch search.now }
     requires left { IsTrue (is_formed (scope_in search.now) interface (pattern_view left.now)) }
     requires right { IsTrue (is_formed (scope_in search.now) interface (pattern_view right.now)) }
-    ensures { let s = scope_in search.now in IfOk result (IsCover (s.tags interface) (subst_of (pattern_of s) (pattern_view left.now)) (subst_of (pattern_of s) (pattern_view right.now))) }
+    ensures { let s = scope_in search.now in
+        IfOk result (IsCover (s.tags interface) (subst_of (pattern_of s) (pattern_view left.now))
+        (subst_of (pattern_of s) (pattern_view right.now))) }
 {
     tags_are_few(search.program, interface);
     let Some(lefts) = form_of(alloc, search.program, search.derivation, interface, left)? else {
@@ -100,7 +102,8 @@ pub fn show_one(
     requires search { IsSearch search.now }
     requires left { IsTrue (is_formed (scope_in search.now) interface (pattern_view left.now)) }
     requires right { IsTrue (is_formed (scope_in search.now) interface (pattern_view right.now)) }
-    ensures { IfOk result (IsFound (scope_in search.now) (bounds_in search.now) (Some (inclusion (Some interface) (pattern_view left.now) (pattern_view right.now)))) }
+    ensures { IfOk result (IsFound (scope_in search.now) (bounds_in search.now)
+        (Some (inclusion (Some interface) (pattern_view left.now) (pattern_view right.now)))) }
 {
     if is_trivial(alloc, search.plain, left, right)? {
         return Ok(Some(None));

@@ -120,7 +120,9 @@ fn message_differs(marks: &mut Marks<'_>, message: &Message) -> Result<bool, All
 fn is_new(marks: &mut Marks<'_>, value: &Value) -> bool
     requires { IsTrue (value_lives marks.old.live.now (value_view value.now)) }
     ensures live { marks.new.live.now ≡ marks.old.live.now }
-    ensures one { (rest : List values.Value) → are_new (is_marked marks.old) (mailboxes_of (value_view value.now ∷ rest)) ≡ (result && are_new (is_marked marks.new) (mailboxes_of rest)) }
+    ensures one { (rest : List values.Value)
+        → are_new (is_marked marks.old) (mailboxes_of (value_view value.now ∷ rest))
+        ≡ (result && are_new (is_marked marks.new) (mailboxes_of rest)) }
 {
     let Value::Mailbox(mailbox) = value else {
         return true;

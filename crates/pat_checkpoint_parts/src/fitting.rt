@@ -78,7 +78,8 @@ impl<'a> Parts<'a> {
 
     /// Whether the value has the kind, if there is one.
     fn fits_some(&self, value: &Value, kind: Option<&Kind>) -> bool
-        ensures { result ≡ value_fits_some (interfaces_in self.now) (value_view value.now) (option_map kind_view (option_copied kind.entry)) }
+        ensures { result ≡ value_fits_some (interfaces_in self.now) (value_view value.now)
+            (option_map kind_view (option_copied kind.entry)) }
     {
         match kind {
             None => false,
@@ -88,7 +89,8 @@ impl<'a> Parts<'a> {
 
     /// Whether each value has the kind of its variable.
     fn values_fit(&self, kinds: &[Kind], env: &[(u32, Value)]) -> bool
-        ensures { result ≡ list_all (λ e. value_fits_some (interfaces_in self.now) e.1 (option_map kind_view (slice_get kinds.now e.0))) (env_view env.now) }
+        ensures { result ≡ list_all (λ e. value_fits_some (interfaces_in self.now) e.1 (option_map kind_view (slice_get kinds.now e.0)))
+            (env_view env.now) }
     {
         for (variable, value) in env {
             if !self.fits_some(value, kinds.get(*variable as usize)) {
@@ -110,7 +112,8 @@ impl<'a> Parts<'a> {
 
     /// The kinds of the variables of the node's function, if the node is there.
     fn variables_of(&self, node: u32) -> Option<&'a [Kind]>
-        ensures { option_map (λ kinds. map kind_view kinds.now) result ≡ option_map (λ g. g.vars) (function_of (program_in self.now.typing) node) }
+        ensures { option_map (λ kinds. map kind_view kinds.now) result
+            ≡ option_map (λ g. g.vars) (function_of (program_in self.now.typing) node) }
     {
         let program = self.typing.program;
         match program.nodes.as_slice().get(node as usize) {
@@ -136,7 +139,8 @@ impl<'a> Parts<'a> {
     /// Whether each thread fits.
     pub fn threads_fit(&self, threads: &[(u32, ThreadState)]) -> bool
         requires { IsTrue (list_all (λ e. thread_ascends e.1) (threads_view threads.now)) }
-        ensures { result ≡ list_all (λ e. thread_fits_by (program_in self.now.typing) (typing_in self.now.typing) (interfaces_in self.now) e.1) (threads_view threads.now) }
+        ensures { result ≡ list_all (λ e. thread_fits_by (program_in self.now.typing) (typing_in self.now.typing)
+            (interfaces_in self.now) e.1) (threads_view threads.now) }
     {
         for (_, state) in threads {
             if !self.thread_fits(state) {
@@ -148,7 +152,8 @@ impl<'a> Parts<'a> {
 
     fn thread_fits(&self, state: &ThreadState) -> bool
         requires { IsTrue (thread_ascends (thread_view state.now)) }
-        ensures { result ≡ thread_fits_by (program_in self.now.typing) (typing_in self.now.typing) (interfaces_in self.now) (thread_view state.now) }
+        ensures { result ≡ thread_fits_by (program_in self.now.typing) (typing_in self.now.typing) (interfaces_in self.now)
+            (thread_view state.now) }
     {
         let frames = state.frames.as_slice();
         self.control_fits(&state.control, frames) && self.frames_fit(frames)
@@ -157,7 +162,8 @@ impl<'a> Parts<'a> {
     /// Whether a control fits, where the frames below it stand from the last one up.
     fn control_fits(&self, control: &Control, frames: &[Frame]) -> bool
         requires { IsTrue (control_ascends (control_view control.now)) }
-        ensures { result ≡ control_fits_by (program_in self.now.typing) (typing_in self.now.typing) (interfaces_in self.now) (control_view control.now) (map frame_view (reverse frames.now)) }
+        ensures { result ≡ control_fits_by (program_in self.now.typing) (typing_in self.now.typing) (interfaces_in self.now)
+            (control_view control.now) (map frame_view (reverse frames.now)) }
     {
         let wanted = self.typing.wanted(frames);
         match control {
@@ -172,7 +178,8 @@ impl<'a> Parts<'a> {
     /// Whether frames that stand from the last one up fit.
     fn frames_fit(&self, frames: &[Frame]) -> bool
         requires { IsTrue (list_all (λ f. ascends 0 (keys_of f.env)) (map frame_view frames.now)) }
-        ensures { result ≡ frames_fit_by (program_in self.now.typing) (typing_in self.now.typing) (interfaces_in self.now) (map frame_view (reverse frames.now)) }
+        ensures { result ≡ frames_fit_by (program_in self.now.typing) (typing_in self.now.typing) (interfaces_in self.now)
+            (map frame_view (reverse frames.now)) }
     {
         let mut fit = true;
         for (place, frame) in frames.iter().enumerate() {
@@ -184,7 +191,8 @@ impl<'a> Parts<'a> {
     /// Whether a frame fits what those below it, from the last one up, want.
     fn frame_fits(&self, frame: &Frame, below: &[Frame]) -> bool
         requires { IsTrue (ascends 0 (keys_of (frame_view frame.now).env)) }
-        ensures { result ≡ frame_fits_by (program_in self.now.typing) (typing_in self.now.typing) (interfaces_in self.now) (frame_view frame.now) (map frame_view (reverse below.now)) }
+        ensures { result ≡ frame_fits_by (program_in self.now.typing) (typing_in self.now.typing) (interfaces_in self.now)
+            (frame_view frame.now) (map frame_view (reverse below.now)) }
     {
         self.part_fits(frame.body, frame.var, frame.env.as_slice())
             && is_frame_of(frame, self.typing.let_of(frame.body))
@@ -270,7 +278,8 @@ fn is_base(base: Base, of: Option<&TypeOf>) -> bool
 
 /// Whether the type is that of a mailbox of this interface and polarity.
 fn is_of(interface: u32, polarity: Polarity, of: Option<&TypeOf>) -> bool
-    ensures { (e : Pat) → result ≡ types_agree_by (MailboxTerm interface (polarity_view polarity) e) (type_or_unit (option_copied of.entry)) }
+    ensures { (e : Pat) → result ≡ types_agree_by (MailboxTerm interface (polarity_view polarity) e)
+        (type_or_unit (option_copied of.entry)) }
 {
     match of {
         None => false,

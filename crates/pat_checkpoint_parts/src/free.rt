@@ -62,7 +62,8 @@ fn add_term(
     free: &Sequence<Sequence<u32>>,
     core: &Core,
 ) -> Result<(), AllocError>
-    ensures { OnOk result ((x : ℕ) → is_among x own.new ≡ (is_among x own.old || core_uses (λ k. is_listed free.now k x) x (core_view core.now))) }
+    ensures { OnOk result ((x : ℕ) → is_among x own.new
+        ≡ (is_among x own.old || core_uses (λ k. is_listed free.now k x) x (core_view core.now))) }
 {
     match core {
         Core::Value(e) => add_variables(own, e),
@@ -102,7 +103,8 @@ fn add_optional(
     free: &Sequence<Sequence<u32>>,
     node: Option<u32>,
 ) -> Result<(), AllocError>
-    ensures { OnOk result ((x : ℕ) → is_among x own.new ≡ (is_among x own.old || list_any (λ k. is_listed free.now k x) (option_list node))) }
+    ensures { OnOk result ((x : ℕ) → is_among x own.new
+        ≡ (is_among x own.old || list_any (λ k. is_listed free.now k x) (option_list node))) }
 {
     match node {
         Some(node) => add_all(own, free, node, &[], None),
@@ -116,7 +118,8 @@ fn add_clauses(
     free: &Sequence<Sequence<u32>>,
     clauses: &[Clause],
 ) -> Result<(), AllocError>
-    ensures { OnOk result ((x : ℕ) → is_among x own.new ≡ (is_among x own.old || list_any (clause_uses (λ k. is_listed free.now k x) x) (map clause_view clauses.now))) }
+    ensures { OnOk result ((x : ℕ) → is_among x own.new
+        ≡ (is_among x own.old || list_any (clause_uses (λ k. is_listed free.now k x) x) (map clause_view clauses.now))) }
 {
     for clause in clauses {
         add_all(
@@ -138,7 +141,8 @@ fn add_all(
     bound: &[u32],
     last: Option<u32>,
 ) -> Result<(), AllocError>
-    ensures { OnOk result ((x : ℕ) → is_among x own.new ≡ (is_among x own.old || (is_listed free.now node x && not (is_among x (bound.now ++ option_list last))))) }
+    ensures { OnOk result ((x : ℕ) → is_among x own.new
+        ≡ (is_among x own.old || (is_listed free.now node x && not (is_among x (bound.now ++ option_list last))))) }
 {
     let Some(variables) = free.as_slice().get(node as usize) else {
         return Ok(());

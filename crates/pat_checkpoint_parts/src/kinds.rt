@@ -31,7 +31,8 @@ pub fn kinds_hold(
     requires valid { IsValid (program_view program.now) (derivation_view derivation.now) }
     requires plain { patterns_view plain.now ≡ all_plain (derivation_view derivation.now).vars }
     requires numbers { IsTrue (numbers_hold (checkpoint_view checkpoint.now).config) }
-    ensures { IfOk result (λ yes. yes ≡ kinds_hold_by (program_view program.now) (derivation_view derivation.now) (checkpoint_view checkpoint.now)) }
+    ensures { IfOk result (λ yes. yes ≡ kinds_hold_by (program_view program.now) (derivation_view derivation.now)
+        (checkpoint_view checkpoint.now)) }
 {
     let config = &checkpoint.config;
     let live = config.live.as_slice();

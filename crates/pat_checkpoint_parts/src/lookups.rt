@@ -70,7 +70,8 @@ impl<'a> Typing<'a> {
 
     /// What the frames, from the last one up, want of what is above them: the type of what the uppermost one's `let` binds.
     pub fn wanted(&self, frames: &[Frame]) -> Option<&'a TypeOf>
-        ensures { type_or_unit (option_copied result) ≡ wanted_by (program_in self.now) (typing_in self.now) (map frame_view (reverse frames.now)) }
+        ensures { type_or_unit (option_copied result)
+            ≡ wanted_by (program_in self.now) (typing_in self.now) (map frame_view (reverse frames.now)) }
     {
         match top_of(frames) {
             None => None,

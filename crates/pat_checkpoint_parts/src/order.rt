@@ -37,7 +37,8 @@ pub fn order_holds(
     requires well { WellFormed (program_view program.now) }
     requires numbers { IsTrue (numbers_hold (config_view config.now)) }
     requires differ { IsTrue (mailboxes_differ (config_view config.now)) }
-    ensures { IfOk result (λ yes. yes ≡ order_holds_by (program_view program.now) (derivation_view derivation.now) (config_view config.now)) }
+    ensures { IfOk result (λ yes. yes ≡ order_holds_by (program_view program.now) (derivation_view derivation.now)
+        (config_view config.now)) }
 {
     let typing = Typing::new(alloc, program, derivation)?;
     let mut marks = Marks::new(alloc, config.live.as_slice())?;
@@ -51,7 +52,8 @@ fn threads_keep(
 ) -> Result<bool, AllocError>
     requires live { IsTrue (list_all (λ e. thread_lives marks.old.live.now e.1) (threads_view threads.now)) }
     requires differ { IsTrue (list_all (λ e. thread_differs e.1) (threads_view threads.now)) }
-    ensures { IfOk result (λ yes. yes ≡ list_all (λ e. thread_keeps_by (program_in typing.now) (typing_in typing.now) e.1) (threads_view threads.now)) }
+    ensures { IfOk result (λ yes. yes ≡ list_all (λ e. thread_keeps_by (program_in typing.now) (typing_in typing.now) e.1)
+        (threads_view threads.now)) }
 {
     for (_, state) in threads {
         if !thread_keeps(typing, marks, state)? {
@@ -117,7 +119,9 @@ fn control_keeps(
 ) -> bool
     requires live { IsTrue (control_lives marks.now.live.now (control_view control.now)) }
     requires differ { IsTrue (control_differs (control_view control.now)) }
-    ensures { result ≡ keeps_marked (is_marked marks.now) (λ b. control_held (program_in typing.now) (typing_in typing.now) b (control_view control.now) (map frame_view (reverse frames.now))) (mailboxes_of (control_values (control_view control.now))) }
+    ensures { result ≡ keeps_marked (is_marked marks.now)
+        (λ b. control_held (program_in typing.now) (typing_in typing.now) b (control_view control.now)
+        (map frame_view (reverse frames.now))) (mailboxes_of (control_values (control_view control.now))) }
 {
     match control {
         Control::Node { node, env } => part_keeps(typing, marks, *node, env.as_slice()),
@@ -139,7 +143,8 @@ fn is_mailbox(of: Option<&TypeOf>) -> bool
 fn part_keeps(typing: &Typing<'_>, marks: &Marks<'_>, node: u32, env: &[(u32, Value)]) -> bool
     requires live { IsTrue (env_lives marks.now.live.now (env_view env.now)) }
     requires differ { IsTrue (env_differs (env_view env.now)) }
-    ensures { result ≡ keeps_marked (is_marked marks.now) (λ b. held ((typing_in typing.now).envs node) b (env_view env.now)) (mailboxes_of (values_of (env_view env.now))) }
+    ensures { result ≡ keeps_marked (is_marked marks.now) (λ b. held ((typing_in typing.now).envs node) b (env_view env.now))
+        (mailboxes_of (values_of (env_view env.now))) }
 {
     let types = LookUps::new(typing.needs_of(node));
     let mut near = 0;

@@ -37,7 +37,8 @@ pub fn threads_shown(
     certs: &[PartCerts],
 ) -> Result<bool, AllocError>
     requires { CanShow typing.now plain.now }
-    ensures { IfOk result (λ yes. yes ≡ threads_shown_by (program_in typing.now) (typing_in typing.now) (scope_in typing.now) (threads_view threads.now) (map part_certs_view certs.now)) }
+    ensures { IfOk result (λ yes. yes ≡ threads_shown_by (program_in typing.now) (typing_in typing.now) (scope_in typing.now)
+        (threads_view threads.now) (map part_certs_view certs.now)) }
 {
     if threads.len() != certs.len() {
         return Ok(false);
@@ -58,7 +59,8 @@ fn thread_shown(
     certs: &PartCerts,
 ) -> Result<bool, AllocError>
     requires { CanShow typing.now plain.now }
-    ensures { IfOk result (λ yes. yes ≡ thread_shown_by (program_in typing.now) (typing_in typing.now) (scope_in typing.now) (thread_view state.now) (part_certs_view certs.now)) }
+    ensures { IfOk result (λ yes. yes ≡ thread_shown_by (program_in typing.now) (typing_in typing.now) (scope_in typing.now)
+        (thread_view state.now) (part_certs_view certs.now)) }
 {
     let frames = state.frames.as_slice();
     if !control_shown(
@@ -84,7 +86,9 @@ fn control_shown(
     cert: Option<&Cert>,
 ) -> Result<bool, AllocError>
     requires { CanShow typing.now plain.now }
-    ensures { IfOk result (λ yes. yes ≡ is_certified_by (scope_in typing.now) (control_needs (program_in typing.now) (typing_in typing.now) (control_view control.now) (map frame_view (reverse frames.now))) (end_view (option_copied cert.entry))) }
+    ensures { IfOk result (λ yes. yes ≡ is_certified_by (scope_in typing.now)
+        (control_needs (program_in typing.now) (typing_in typing.now) (control_view control.now) (map frame_view (reverse frames.now)))
+        (end_view (option_copied cert.entry))) }
 {
     match control {
         Control::Node { node, .. } => { is_certified(alloc, typing, plain, *node, frames, cert) }
@@ -101,7 +105,8 @@ fn frames_shown(
     certs: &PartCerts,
 ) -> Result<bool, AllocError>
     requires { CanShow typing.now plain.now }
-    ensures { IfOk result (λ yes. yes ≡ frames_shown_by (program_in typing.now) (typing_in typing.now) (scope_in typing.now) (map frame_view (reverse frames.now)) (map end_view certs.now.frames)) }
+    ensures { IfOk result (λ yes. yes ≡ frames_shown_by (program_in typing.now) (typing_in typing.now) (scope_in typing.now)
+        (map frame_view (reverse frames.now)) (map end_view certs.now.frames)) }
 {
     if frames.len() != certs.frame_count() {
         return Ok(false);
@@ -126,7 +131,10 @@ fn is_certified(
     cert: Option<&Cert>,
 ) -> Result<bool, AllocError>
     requires { CanShow typing.now plain.now }
-    ensures { IfOk result (λ yes. yes ≡ is_certified_by (scope_in typing.now) (type_needs ((typing_in typing.now).results node) (wanted (program_in typing.now) (typing_in typing.now) (map frame_view (reverse below.now)))) (end_view (option_copied cert.entry))) }
+    ensures { IfOk result (λ yes. yes ≡ is_certified_by (scope_in typing.now)
+        (type_needs ((typing_in typing.now).results node)
+        (wanted (program_in typing.now) (typing_in typing.now) (map frame_view (reverse below.now))))
+        (end_view (option_copied cert.entry))) }
 {
     examining_laws();
     match (typing.type_of(node), typing.wanted(below)) {
@@ -147,7 +155,8 @@ fn type_fits(
     requires can { CanShow typing.now plain.now }
     requires given { IsTrue (type_is_formed (scope_in typing.now) (result_view given.now)) }
     requires wanted { IsTrue (type_is_formed (scope_in typing.now) (result_view wanted.now)) }
-    ensures { IfOk result (λ yes. yes ≡ is_certified_by (scope_in typing.now) (type_needs (result_view given.now) (result_view wanted.now)) (end_view (option_copied cert.entry))) }
+    ensures { IfOk result (λ yes. yes ≡ is_certified_by (scope_in typing.now) (type_needs (result_view given.now) (result_view wanted.now))
+        (end_view (option_copied cert.entry))) }
 {
     match given {
         TypeOf::Base(_) => Ok(cert.is_none()),
@@ -172,7 +181,9 @@ fn pattern_fits(
     requires can { CanShow typing.now plain.now }
     requires given { IsTrue (is_formed (scope_in typing.now) interface (pattern_view given.now)) }
     requires wanted { IsTrue (type_is_formed (scope_in typing.now) (result_view wanted.now)) }
-    ensures { IfOk result (λ yes. (way : Way) → yes ≡ is_certified_by (scope_in typing.now) (type_needs (MailboxTerm interface way (pattern_view given.now)) (result_view wanted.now)) (end_view (option_copied cert.entry))) }
+    ensures { IfOk result (λ yes. (way : Way)
+        → yes ≡ is_certified_by (scope_in typing.now)
+        (type_needs (MailboxTerm interface way (pattern_view given.now)) (result_view wanted.now)) (end_view (option_copied cert.entry))) }
 {
     match wanted {
         TypeOf::Base(_) => Ok(cert.is_none()),
@@ -205,7 +216,9 @@ fn fits_by(
     requires can { CanShow typing.now plain.now }
     requires given { IsTrue (is_formed (scope_in typing.now) interface (pattern_view given.now)) }
     requires wanted { IsTrue (is_formed (scope_in typing.now) interface (pattern_view wanted.now)) }
-    ensures { IfOk result (λ yes. yes ≡ is_shown (scope_in typing.now) (fit_by (polarity_view polarity) (Some interface) (pattern_view given.now) (pattern_view wanted.now)) (end_view (option_copied cert.entry))) }
+    ensures { IfOk result (λ yes. yes ≡ is_shown (scope_in typing.now)
+        (fit_by (polarity_view polarity) (Some interface) (pattern_view given.now) (pattern_view wanted.now))
+        (end_view (option_copied cert.entry))) }
 {
     let (program, derivation) = (typing.program, typing.derivation);
     match polarity {

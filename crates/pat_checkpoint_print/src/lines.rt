@@ -62,7 +62,9 @@ pub fn put_mailbox(
     interface: u32,
     cert: Option<&Cert>,
 ) -> Result<(), AllocError>
-    ensures text { OnOk result (out.new.items ≡ out.old.items ++ line (mailbox_text (program_view program.now) (record { number = number; interface = interface; cert = end_view (option_copied cert.entry) }))) }
+    ensures text { OnOk result (out.new.items ≡ out.old.items
+        ++ line (mailbox_text (program_view program.now)
+        (record { number = number; interface = interface; cert = end_view (option_copied cert.entry) }))) }
     ensures range { OnOk result (IsTrue (is_number number) × IsTrue (is_cert (end_view (option_copied cert.entry)))) }
 {
     put(out, b"mailbox ")?;
@@ -89,7 +91,9 @@ pub fn put_message(
     message: &Message,
     tag: &[u8],
 ) -> Result<(), AllocError>
-    ensures text { OnOk result (out.new.items ≡ out.old.items ++ line (codes "message " ++ (decimal message.now.number ++ 32 ∷ (decimal message.now.mailbox ++ 32 ∷ (tag.now ++ 40 ∷ (values_text (map value_view message.now.values) ++ 41 ∷ [])))))) }
+    ensures text { OnOk result (out.new.items ≡ out.old.items
+        ++ line (codes "message " ++ (decimal message.now.number ++ 32
+        ∷ (decimal message.now.mailbox ++ 32 ∷ (tag.now ++ 40 ∷ (values_text (map value_view message.now.values) ++ 41 ∷ [])))))) }
     ensures range { OnOk result (IsTrue (message_in_range (message_view message.now))) }
 {
     put(out, b"message ")?;
@@ -126,8 +130,15 @@ pub fn put_thread(
     control: &Control,
     cert: Option<&Cert>,
 ) -> Result<(), AllocError>
-    ensures text { OnOk result (out.new.items ≡ out.old.items ++ line (thread_text (record { number = number; control = control_view control.now; cert = end_view (option_copied cert.entry); frames = [] }))) }
-    ensures range { OnOk result (IsTrue (is_number number) × IsTrue (control_in_range (control_view control.now)) × IsTrue (is_cert (end_view (option_copied cert.entry)))) }
+    ensures text { OnOk result (out.new.items ≡ out.old.items
+        ++ line (thread_text (record {
+          number = number;
+          control = control_view control.now;
+          cert = end_view (option_copied cert.entry);
+          frames = [];
+        }))) }
+    ensures range { OnOk result (IsTrue (is_number number) × IsTrue (control_in_range (control_view control.now))
+        × IsTrue (is_cert (end_view (option_copied cert.entry)))) }
 {
     put(out, b"thread ")?;
     put_number(out, number)?;
@@ -154,7 +165,8 @@ pub fn put_frame(
     frame: &Frame,
     cert: Option<&Cert>,
 ) -> Result<(), AllocError>
-    ensures text { OnOk result (out.new.items ≡ out.old.items ++ line (frame_text (record { frame = frame_view frame.now; cert = end_view (option_copied cert.entry) }))) }
+    ensures text { OnOk result (out.new.items ≡ out.old.items
+        ++ line (frame_text (record { frame = frame_view frame.now; cert = end_view (option_copied cert.entry) }))) }
     ensures range { OnOk result (IsTrue (frame_in_range (frame_view frame.now)) × IsTrue (is_cert (end_view (option_copied cert.entry)))) }
 {
     put(out, b"frame ")?;

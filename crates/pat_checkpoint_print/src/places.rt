@@ -45,7 +45,8 @@ fn name_of_tag(program: &Program, interface: u32, tag: u8) -> &[u8]
 fn interface_of(live: &[u32], interfaces: &[u32], mailbox: u32) -> Option<u32>
     requires order { AscendsFrom 0 live.now }
     requires as_many { length interfaces.now ≡ length live.now }
-    ensures { (certs : List (Option Cert)) → length certs ≡ length live.now → result ≡ interface_in (mailbox_lines live.now interfaces.now certs) mailbox }
+    ensures { (certs : List (Option Cert)) → length certs ≡ length live.now
+        → result ≡ interface_in (mailbox_lines live.now interfaces.now certs) mailbox }
 {
     match live.binary_search(&mailbox) {
         Ok(place) => Some(interfaces[place]),
@@ -63,7 +64,8 @@ pub fn tag_in<'a>(
 ) -> &'a [u8]
     requires order { AscendsFrom 0 live.now }
     requires as_many { length interfaces.now ≡ length live.now }
-    ensures { (certs : List (Option Cert)) → length certs ≡ length live.now → result.now ≡ tag_name (program_view program.now) (interface_in (mailbox_lines live.now interfaces.now certs) mailbox) tag }
+    ensures { (certs : List (Option Cert)) → length certs ≡ length live.now
+        → result.now ≡ tag_name (program_view program.now) (interface_in (mailbox_lines live.now interfaces.now certs) mailbox) tag }
 {
     match interface_of(live, interfaces, mailbox) {
         Some(interface) => name_of_tag(program, interface, tag),

@@ -33,7 +33,8 @@ fn put_mailboxes(
 ) -> Result<(), AllocError>
     requires interfaces { length interfaces.now ≡ length live.now }
     requires certs { length certs.now ≡ length live.now }
-    ensures text { OnOk result (out.new.items ≡ out.old.items ++ mailboxes_text (program_view program.now) (mailbox_lines live.now interfaces.now (map end_view certs.now))) }
+    ensures text { OnOk result (out.new.items ≡ out.old.items
+        ++ mailboxes_text (program_view program.now) (mailbox_lines live.now interfaces.now (map end_view certs.now))) }
     ensures range { OnOk result (IsTrue (list_all is_number live.now) × IsTrue (list_all is_cert (map end_view certs.now))) }
 {
     for (place, number) in live.iter().enumerate() {
@@ -59,7 +60,9 @@ fn put_messages(
 ) -> Result<(), AllocError>
     requires order { AscendsFrom 0 live.now }
     requires interfaces { length interfaces.now ≡ length live.now }
-    ensures text { (certs : List (Option GhostCert)) → length certs ≡ length live.now → OnOk result (out.new.items ≡ out.old.items ++ messages_text (program_view program.now) (mailbox_lines live.now interfaces.now certs) (map message_view messages.now)) }
+    ensures text { (certs : List (Option GhostCert)) → length certs ≡ length live.now
+        → OnOk result (out.new.items ≡ out.old.items
+        ++ messages_text (program_view program.now) (mailbox_lines live.now interfaces.now certs) (map message_view messages.now)) }
     ensures range { OnOk result (IsTrue (list_all message_in_range (map message_view messages.now))) }
 {
     for message in messages {
@@ -77,8 +80,10 @@ fn put_frames(
     certs: &PartCerts,
 ) -> Result<(), AllocError>
     requires { length certs.now.frames ≡ length frames.now }
-    ensures text { OnOk result (out.new.items ≡ out.old.items ++ frames_upwards (map frame_view frames.now) (map end_view (reverse certs.now.frames))) }
-    ensures range { OnOk result (IsTrue (list_all frame_in_range (map frame_view frames.now)) × IsTrue (list_all is_cert (map end_view (reverse certs.now.frames)))) }
+    ensures text { OnOk result (out.new.items ≡ out.old.items
+        ++ frames_upwards (map frame_view frames.now) (map end_view (reverse certs.now.frames))) }
+    ensures range { OnOk result (IsTrue (list_all frame_in_range (map frame_view frames.now))
+        × IsTrue (list_all is_cert (map end_view (reverse certs.now.frames)))) }
 {
     for (place, frame) in frames.iter().enumerate() {
         put_frame(alloc, out, frame, certs.frame(place))?;
@@ -95,8 +100,10 @@ fn put_whole_thread(
     certs: &PartCerts,
 ) -> Result<(), AllocError>
     requires { length certs.now.frames ≡ length state.now.frames }
-    ensures text { OnOk result (out.new.items ≡ out.old.items ++ thread_lines_text (thread_line_of (number, thread_view state.now) (part_certs_view certs.now))) }
-    ensures range { OnOk result (IsTrue (thread_in_range (number, thread_view state.now)) × IsTrue (are_certs (part_certs_view certs.now))) }
+    ensures text { OnOk result (out.new.items ≡ out.old.items
+        ++ thread_lines_text (thread_line_of (number, thread_view state.now) (part_certs_view certs.now))) }
+    ensures range { OnOk result (IsTrue (thread_in_range (number, thread_view state.now))
+        × IsTrue (are_certs (part_certs_view certs.now))) }
 {
     put_thread(alloc, out, number, &state.control, certs.control())?;
     put_frames(alloc, out, state.frames.as_slice(), certs)
@@ -111,8 +118,10 @@ fn put_threads(
 ) -> Result<(), AllocError>
     requires count { length certs.now ≡ length threads.now }
     requires parts { PartsAlign (threads_view threads.now) (map part_certs_view certs.now) }
-    ensures text { OnOk result (out.new.items ≡ out.old.items ++ threads_text (thread_lines (threads_view threads.now) (map part_certs_view certs.now))) }
-    ensures range { OnOk result (IsTrue (list_all thread_in_range (threads_view threads.now)) × IsTrue (list_all are_certs (map part_certs_view certs.now))) }
+    ensures text { OnOk result (out.new.items ≡ out.old.items
+        ++ threads_text (thread_lines (threads_view threads.now) (map part_certs_view certs.now))) }
+    ensures range { OnOk result (IsTrue (list_all thread_in_range (threads_view threads.now))
+        × IsTrue (list_all are_certs (map part_certs_view certs.now))) }
 {
     for (place, (number, state)) in threads.iter().enumerate() {
         put_whole_thread(alloc, out, *number, state, &certs[place])?;

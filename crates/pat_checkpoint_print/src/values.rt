@@ -28,7 +28,8 @@ pub fn put_value(alloc: Global, out: &mut Vec<u8>, value: &Value) -> Result<(), 
 
 /// Values, each behind a comma and a space.
 fn put_more_values(alloc: Global, out: &mut Vec<u8>, values: &[Value]) -> Result<(), AllocError>
-    ensures text { OnOk result (out.new.items ≡ out.old.items ++ flat_map (λ y. 44 ∷ y) (map (λ v. 32 ∷ value_text v) (map value_view values.now))) }
+    ensures text { OnOk result (out.new.items ≡ out.old.items
+        ++ flat_map (λ y. 44 ∷ y) (map (λ v. 32 ∷ value_text v) (map value_view values.now))) }
     ensures range { OnOk result (IsTrue (values_in_range (map value_view values.now))) }
 {
     for value in values {

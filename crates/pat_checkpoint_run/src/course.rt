@@ -63,9 +63,11 @@ impl Course {
     fn next(&self, code: &Executable) -> Option<Turn>
         requires { IsOrdered (config_view self.now.config) }
         ensures some { IfSome result (λ n. 0 < self.now.left) }
-        ensures turn { IfSome result (λ n. next_thread (program_view code.now.program) (config_view self.now.config) self.now.last ≡ Some n.thread) }
+        ensures turn { IfSome result (λ n. next_thread (program_view code.now.program) (config_view self.now.config) self.now.last
+            ≡ Some n.thread) }
         ensures place { IfSome result (λ n. IsPlace self.now.config.threads n.thread n.place) }
-        ensures none { IfNone result (0 < self.now.left → next_thread (program_view code.now.program) (config_view self.now.config) self.now.last ≡ None) }
+        ensures none { IfNone result (0 < self.now.left
+            → next_thread (program_view code.now.program) (config_view self.now.config) self.now.last ≡ None) }
     {
         if self.left == 0 {
             return None;

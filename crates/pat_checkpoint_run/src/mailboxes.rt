@@ -38,7 +38,8 @@ impl FirstMailboxes {
         mailboxes: &[u32],
     ) -> Result<Sequence<u32>, AllocError>
         requires { AscendsFrom 0 self.now.live }
-        ensures { IfOk result (λ is. is ≡ map (interface_made (interface_at self.now.live self.now.interfaces) self.now.next made.now) mailboxes.now) }
+        ensures { IfOk result (λ is. is ≡ map (interface_made
+            (interface_at self.now.live self.now.interfaces) self.now.next made.now) mailboxes.now) }
     {
         let mut interfaces = Sequence::new(alloc);
         for mailbox in mailboxes {

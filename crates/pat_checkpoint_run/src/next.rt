@@ -48,9 +48,11 @@ fn place_above(threads: &[(u32, ThreadState)], last: Option<u32>) -> usize
 /// The first thread, from this place on, that can take a step.
 pub fn able_from(code: &Executable, config: &Config, start: usize) -> Option<Turn>
     requires { IsOrdered (config_view config.now) }
-    ensures some { IfSome result (λ n. first_from (can_step_thread (program_view code.now.program) (config_view config.now)) config.now.threads start ≡ Some n.thread) }
+    ensures some { IfSome result (λ n. first_from
+        (can_step_thread (program_view code.now.program) (config_view config.now)) config.now.threads start ≡ Some n.thread) }
     ensures place { IfSome result (λ n. IsPlace config.now.threads n.thread n.place) }
-    ensures none { IfNone result (first_from (can_step_thread (program_view code.now.program) (config_view config.now)) config.now.threads start ≡ None) }
+    ensures none { IfNone result (first_from
+        (can_step_thread (program_view code.now.program) (config_view config.now)) config.now.threads start ≡ None) }
 {
     let threads = config.threads.as_slice();
     for place in start..threads.len() {

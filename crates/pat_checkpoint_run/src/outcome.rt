@@ -11,7 +11,8 @@ use pat_reduce_values::Executable;
 
 /// How a run ended that led to this configuration: where it ended at all and there was no limit on messages.
 pub fn outcome_of(code: &Executable, config: &Config) -> Outcome
-    ensures { (steps budget : ℕ) (o : OutcomeOf) → outcome (program_view code.now.program) (config_view config.now) steps budget None ≡ Some o → outcome_view result ≡ o }
+    ensures { (steps budget : ℕ) (o : OutcomeOf)
+        → outcome (program_view code.now.program) (config_view config.now) steps budget None ≡ Some o → outcome_view result ≡ o }
 {
     if config.threads.is_empty() {
         return Outcome::Done;

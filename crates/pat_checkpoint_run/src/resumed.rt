@@ -75,7 +75,9 @@ pub fn run_from(
     requires threads { checkpoint.config.next_thread ≤ most_next_number }
     requires mailboxes { checkpoint.config.next_mailbox ≤ most_next_number }
     requires messages { checkpoint.config.next_message ≤ most_next_number }
-    ensures { IfOk result (λ r. (d : Derivation) → IsChecked (program_view code.now.program) d (checkpoint_view checkpoint) → IsResumed (program_view code.now.program) d (checkpoint_view checkpoint) steps (map entry_view r.entries) (config_view r.config) r.interfaces (outcome_view r.outcome)) }
+    ensures { IfOk result (λ r. (d : Derivation) → IsChecked (program_view code.now.program) d (checkpoint_view checkpoint)
+        → IsResumed (program_view code.now.program) d (checkpoint_view checkpoint) steps (map entry_view r.entries)
+        (config_view r.config) r.interfaces (outcome_view r.outcome)) }
 {
     // Laws: what is checked is typed, so it is in order; its turns are a run that goes on from it; and which interfaces mailboxes have.
     checked_laws();

@@ -27,7 +27,8 @@ pub fn share(
 ) -> Result<Option<Act>, AllocError>
     requires room { HasRoom (config_view config.old) 1 }
     requires place { IsPlace config.old.threads turn.thread turn.place }
-    ensures { IfOk result (λ a. Shares (program_view code.now.program) turn.thread (config_view config.old) made.old (option_map act_view a) (config_view config.new) made.new) }
+    ensures { IfOk result (λ a. Shares (program_view code.now.program) turn.thread (config_view config.old) made.old (option_map act_view a)
+        (config_view config.new) made.new) }
 {
     // A law: an act that is found enabled is the first one.
     turn_laws();
@@ -59,7 +60,8 @@ fn note_made(made: &mut Sequence<u32>, interface: Option<u32>) -> Result<(), All
 
 // The interface of the mailbox that the act makes, if it makes one.
 fn made_by(code: &Executable, act: Act, control: &Control) -> Option<u32>
-    ensures { (frames : List FrameOf) → result ≡ made_by (program_view code.now.program) (act_view act) (Some (thread_of (control_view control.now) frames)) }
+    ensures { (frames : List FrameOf) → result
+        ≡ made_by (program_view code.now.program) (act_view act) (Some (thread_of (control_view control.now) frames)) }
 {
     match act {
         Act::New => new_interface(code, control),

@@ -66,7 +66,8 @@ fn message_with(
 
 /// The tag before a bracket, of a mailbox that has a line.
 fn tag_in(program: &Program, x: &Checkpoint, mailbox: u32, name: &[u8]) -> Option<u8>
-    ensures { (lines : Lines) → Gathers lines x.now → result ≡ option_and_then (reading.tag_of (program_view program.now) name.now) (interface_in lines.mailboxes mailbox) }
+    ensures { (lines : Lines) → Gathers lines x.now
+        → result ≡ option_and_then (reading.tag_of (program_view program.now) name.now) (interface_in lines.mailboxes mailbox) }
 {
     match interface_of(x, mailbox) {
         Some(interface) => tag_of(program, name, interface),
@@ -98,7 +99,9 @@ fn message_in(
     number: u32,
     text: &[u8],
 ) -> Result<Message, Unread>
-    ensures { (lines : Lines) → Gathers lines x.now → Gives message_view (option_and_then (reading.message_in (program_view program.now) lines.mailboxes number) (cut_of 32 text.now)) result }
+    ensures { (lines : Lines) → Gathers lines x.now
+        → Gives message_view (option_and_then (reading.message_in (program_view program.now) lines.mailboxes number)
+        (cut_of 32 text.now)) result }
 {
     match cut(text, b' ') {
         Some((own, more)) => {
@@ -122,7 +125,8 @@ pub fn read_message(
     x: &Checkpoint,
     text: &[u8],
 ) -> Result<Message, Unread>
-    ensures { (lines : Lines) → Gathers lines x.now → Gives message_view (reading.read_message (program_view program.now) lines.mailboxes text.now) result }
+    ensures { (lines : Lines) → Gathers lines x.now
+        → Gives message_view (reading.read_message (program_view program.now) lines.mailboxes text.now) result }
 {
     match cut(text, b' ') {
         Some((own, more)) => {

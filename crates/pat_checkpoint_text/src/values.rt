@@ -68,7 +68,8 @@ fn read_other_values(
     others: Option<&[u8]>,
     values: Sequence<Value>,
 ) -> Result<Sequence<Value>, Unread>
-    ensures { Gives (map value_view) (then_read (map value_view values) (read_each (outside.read_spaced reading.read_value) (pieces_left 44 others.entry))) result }
+    ensures { Gives (map value_view) (then_read (map value_view values)
+        (read_each (outside.read_spaced reading.read_value) (pieces_left 44 others.entry))) result }
 {
     let mut values = values;
     let mut rest = others;
@@ -129,7 +130,8 @@ fn read_other_named(
     others: Option<&[u8]>,
     env: Sequence<(u32, Value)>,
 ) -> Result<Sequence<(u32, Value)>, Unread>
-    ensures { Gives env_view (then_read (env_view env) (read_each (outside.read_spaced reading.read_named) (pieces_left 44 others.entry))) result }
+    ensures { Gives env_view (then_read (env_view env)
+        (read_each (outside.read_spaced reading.read_named) (pieces_left 44 others.entry))) result }
 {
     let mut env = env;
     let mut rest = others;

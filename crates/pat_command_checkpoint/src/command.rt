@@ -76,7 +76,8 @@ fn run_program(alloc: Global, code: &Executable, steps: u32) -> Result<Resumed, 
     requires well_formed { WellFormed (program_view code.now.program) }
     requires typed { (d : AnyDerivation) × IsValid (program_view code.now.program) d }
     requires within { steps ≤ most_steps }
-    ensures { IfOk result (λ r. (d : AnyDerivation) → IsValid (program_view code.now.program) d → HasReached (program_view code.now.program) d steps r) }
+    ensures { IfOk result (λ r. (d : AnyDerivation) → IsValid (program_view code.now.program) d
+        → HasReached (program_view code.now.program) d steps r) }
 {
     resumed_laws();
     let start = start_checkpoint(alloc, code)?;
@@ -93,7 +94,8 @@ fn answer_at(
     requires resolved { (q : Places) × IsResolved (program_view program.now) q }
     requires valid { IsValid (program_view program.now) (derivation_view derivation.now) }
     requires reached { (steps : ℕ) × HasReached (program_view program.now) (derivation_view derivation.now) steps resumed }
-    ensures { (steps : ℕ) → HasReached (program_view program.now) (derivation_view derivation.now) steps resumed → IfOk result (λ a. AnswersProgram (program_view program.now) (derivation_view derivation.now) steps a.text.items a.status) }
+    ensures { (steps : ℕ) → HasReached (program_view program.now) (derivation_view derivation.now) steps resumed
+        → IfOk result (λ a. AnswersProgram (program_view program.now) (derivation_view derivation.now) steps a.text.items a.status) }
 {
     started_law();
     let (entries, config, interfaces, _) = resumed.into_parts();
@@ -113,7 +115,8 @@ fn joined(
     text: &[u8],
 ) -> Result<Answer, AllocError>
     ensures status { IfOk result (λ a. a.status ≡ Ok) }
-    ensures text { IfOk result (λ a. a.text.items ≡ derivation_text (program_view program.now) (derivation_view derivation.now) ++ text.now) }
+    ensures text { IfOk result (λ a. a.text.items ≡ derivation_text (program_view program.now) (derivation_view derivation.now)
+        ++ text.now) }
 {
     let mut both = pat_deriv::write(alloc, program, derivation)?;
     both.extend_from_slice(text)?;

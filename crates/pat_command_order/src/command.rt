@@ -34,7 +34,8 @@ pub fn answer_order(alloc: Global, bytes: &[u8]) -> Result<Answer, AllocError>
 
 fn in_order(alloc: Global, replayed: &Replayed) -> Result<Answer, AllocError>
     requires { IsHistory (map entry_view replayed.now.entries.items) }
-    ensures { (bytes : List ℕ) → Replays bytes (program_view replayed.now.code.program) (map entry_view replayed.now.entries.items) (config_view replayed.now.config) → IfOk result (λ a. AllowedOrder bytes a.text.items a.status) }
+    ensures { (bytes : List ℕ) → Replays bytes (program_view replayed.now.code.program) (map entry_view replayed.now.entries.items)
+        (config_view replayed.now.config) → IfOk result (λ a. AllowedOrder bytes a.text.items a.status) }
 {
     if replayed.entries.len() > MOST_ENTRIES {
         return verdict_answer(alloc, Verdict::TooManyEntries);
@@ -47,8 +48,10 @@ fn in_order(alloc: Global, replayed: &Replayed) -> Result<Answer, AllocError>
 fn shown(alloc: Global, replayed: &Replayed, reordered: &Reordered) -> Result<Answer, AllocError>
     requires few { length replayed.now.entries.items ≤ most_entries }
     requires history { IsHistory (map entry_view replayed.now.entries.items) }
-    requires reordered { IsReordered (map entry_view replayed.now.entries.items) (map entry_view reordered.now.entries.items) reordered.now.places.items }
-    ensures { (bytes : List ℕ) → Replays bytes (program_view replayed.now.code.program) (map entry_view replayed.now.entries.items) (config_view replayed.now.config) → IfOk result (λ a. AllowedOrder bytes a.text.items a.status) }
+    requires reordered { IsReordered (map entry_view replayed.now.entries.items)
+        (map entry_view reordered.now.entries.items) reordered.now.places.items }
+    ensures { (bytes : List ℕ) → Replays bytes (program_view replayed.now.code.program) (map entry_view replayed.now.entries.items)
+        (config_view replayed.now.config) → IfOk result (λ a. AllowedOrder bytes a.text.items a.status) }
 {
     let remains = Remains::of(alloc, &replayed.config)?;
     let printed = replayed.config.printed.as_slice();
