@@ -7,8 +7,8 @@ ghost use Rattle.pat_derivations.specs.Views.{derivation_view};
 ghost use Rattle.pat_reduce.specs.Views.{config_view};
 ghost use Rattle.pat_checkpoint_data.specs.Views.{checkpoint_view};
 ghost use Rattle.pat_input.specs.Inputs.{whole_limit};
-ghost use Rattle.pat_command_resume.specs.Allowed as allowed;
-ghost use Rattle.pat_command_resume.specs.Gives.{TextsGive, CheckpointGives, Judges, Examines};
+ghost use Rattle.pat_checkpoint_input.specs.CheckedTexts as checked;
+ghost use Rattle.pat_checkpoint_input.specs.Gives.{TextsGive, CheckpointGives, Judges, Examines};
 ghost use Rattle.pat_limits.specs.Limits.{number_count};
 
 use pat_checkpoint_checks::{CheckError, examine};
@@ -108,7 +108,7 @@ fn examined(
 
 // Whether a run can go on from these next numbers.
 fn has_room(config: &Config) -> bool
-    ensures { result ≡ allowed.has_room (config_view config.now) }
+    ensures { result ≡ checked.has_room (config_view config.now) }
 {
     config.next_thread <= MOST_NEXT_NUMBER
         && (config.next_mailbox <= MOST_NEXT_NUMBER && config.next_message <= MOST_NEXT_NUMBER)

@@ -1,6 +1,6 @@
 use Rattle.std.proofs.Common.{arith}
 use Rattle.pat_derivation_text_spec.specs.DerivationText.{marker}
-use Rattle.pat_command_resume.proofs.command.lacks_checkpoint.Goals as goal
+use Rattle.pat_checkpoint_input.proofs.inputs.lacks_checkpoint.Goals as goal
 
 pub returns-then-bytes-gt-WHOLE_LIMIT-clause-has : goal.returns-then-bytes-gt-WHOLE_LIMIT-clause-has
 returns-then-bytes-gt-WHOLE_LIMIT-clause-has c = λ _ small.

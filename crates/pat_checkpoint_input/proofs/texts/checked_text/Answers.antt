@@ -1,7 +1,7 @@
 use Rattle.pat_core.specs.Views.{program_view}
 use Rattle.pat_derivations.specs.Views.{derivation_view}
-use Rattle.pat_command_resume.proofs.Answering.{judged_well, judged_bad}
-use Rattle.pat_command_resume.proofs.texts.checked_text.Goals as goal
+use Rattle.pat_checkpoint_input.proofs.Giving.{judged_well, judged_bad}
+use Rattle.pat_checkpoint_input.proofs.texts.checked_text.Goals as goal
 
 pub returns-in-Ok-judged : goal.returns-in-Ok-judged
 returns-in-Ok-judged c =

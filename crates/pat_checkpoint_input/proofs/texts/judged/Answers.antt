@@ -3,8 +3,8 @@ use Rattle.pat_core.specs.Views.{program_view}
 use Rattle.pat_derivation_spec.specs.Validity.{IsValid}
 use Rattle.pat_derivations.specs.Views.{derivation_view}
 use Rattle.pat_checkpoint_data.specs.Views.{checkpoint_view}
-use Rattle.pat_command_resume.proofs.Answering.{judged_valid}
-use Rattle.pat_command_resume.proofs.texts.judged.Goals as goal
+use Rattle.pat_checkpoint_input.proofs.Giving.{judged_valid}
+use Rattle.pat_checkpoint_input.proofs.texts.judged.Goals as goal
 
 pub returns-in-Ok-None : goal.returns-in-Ok-None
 returns-in-Ok-None c =

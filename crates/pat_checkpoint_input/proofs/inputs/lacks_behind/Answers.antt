@@ -4,9 +4,9 @@ use Rattle.std.proofs.lemmas.List.{take_rest}
 use Rattle.pat_derivation_text_spec.specs.DerivationText.{marker}
 use Rattle.pat_checkpoint_spec.specs.text.CheckpointText.{marker as checkpoint_marker}
 use Rattle.pat_input_split.specs.Marked.{IsUnmarked}
-use Rattle.pat_command_resume.specs.Parts.{HasCheckpoint}
-use Rattle.pat_command_resume.proofs.Answering.{lacks_at, has_at, far_at}
-use Rattle.pat_command_resume.proofs.command.lacks_behind.Goals as goal
+use Rattle.pat_checkpoint_input.specs.Parts.{HasCheckpoint}
+use Rattle.pat_checkpoint_input.proofs.Giving.{lacks_at, has_at, far_at}
+use Rattle.pat_checkpoint_input.proofs.inputs.lacks_behind.Goals as goal
 
 pub returns-then-at-gt-LIMIT-clause-has : goal.returns-then-at-gt-LIMIT-clause-has
 returns-then-at-gt-LIMIT-clause-has c = λ none. far_at c.args.bytes.now c.args.at c.requires.within c.requires.marked (c.split_law.ensures marker c.args.bytes.now) c.if-at-gt-LIMIT.true

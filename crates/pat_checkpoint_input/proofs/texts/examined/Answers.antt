@@ -4,8 +4,8 @@ use Rattle.pat_derivations.specs.Views.{derivation_view}
 use Rattle.pat_checkpoint_data.specs.Views.{checkpoint_view}
 use Rattle.pat_checkpoint_spec.specs.Checked.{broken_check}
 use Rattle.pat_checkpoint_checks.specs.Answers.{check_rule_view}
-use Rattle.pat_command_resume.proofs.Answering.{no_room, with_room}
-use Rattle.pat_command_resume.proofs.texts.examined.Goals as goal
+use Rattle.pat_checkpoint_input.proofs.Giving.{no_room, with_room}
+use Rattle.pat_checkpoint_input.proofs.texts.examined.Goals as goal
 
 pub returns-then-not-has_room : goal.returns-then-not-has_room
 returns-then-not-has_room c =

@@ -1,8 +1,8 @@
 use Rattle.std.proofs.Common.{inl, rules}
 use Rattle.pat_core.specs.Views.{program_view}
 use Rattle.pat_derivations.specs.Views.{derivation_view}
-use Rattle.pat_command_resume.proofs.Answering.{texts_of}
-use Rattle.pat_command_resume.proofs.texts.checked_texts.Goals as goal
+use Rattle.pat_checkpoint_input.proofs.Giving.{texts_of}
+use Rattle.pat_checkpoint_input.proofs.texts.checked_texts.Goals as goal
 
 pub returns-in-Ok : goal.returns-in-Ok
 returns-in-Ok c =

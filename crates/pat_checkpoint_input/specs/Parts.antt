@@ -13,6 +13,13 @@ use Rattle.pat_front.specs.declared.verdict.Verdict.TheVariants as verdict
 abbrev pub HasCheckpoint : List ℕ → Type 0
 HasCheckpoint text = (derivation : List ℕ) × (checkpoint : List ℕ) × IsMarked checkpoint_marker text derivation checkpoint
 
+-- so behind something that a derivation stands behind
+pub record HasMarks (bytes : List ℕ) : Type 0 where
+  pub front : List ℕ
+  pub text : List ℕ
+  pub marked : IsMarked marker bytes front text
+  pub has : HasCheckpoint text
+
 -- the bytes are few enough; they are the front, which is the text of the program, from the first line `%%derivation` on the derivation's
 -- text, and from the first line `%%checkpoint` after it the checkpoint's
 pub record HasParts (bytes front derivation checkpoint : List ℕ) (p : Program) : Type 0 where
