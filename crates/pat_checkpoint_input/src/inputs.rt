@@ -27,7 +27,8 @@ pub struct CheckedInput {
     pub checkpoint: Checkpoint,
 }
 
-/// The bytes are the texts of a program, of a valid derivation of it, and of a checkpoint that is checked by it: this program and checkpoint.
+/// The bytes are the texts of a program, of a valid derivation of it, and of a checkpoint that is checked by it: this program and
+/// checkpoint.
 pub fn checked_bytes(alloc: Global, bytes: &[u8]) -> Result<CheckedInput, FrontError>
     ensures gives { BytesGive bytes.now result }
     ensures well_formed { IfOk result (λ r. WellFormed (program_view r.program)) }
@@ -57,7 +58,8 @@ pub fn has_marks(bytes: &[u8]) -> bool
 // at.
 fn lacks_checkpoint(bytes: &[u8]) -> bool
     ensures lacks { IsTrue result → LacksCheckpoint bytes.now (BadText (length bytes.now)) }
-    ensures has { IsFalse result → length bytes.now ≤ whole_limit → (front text : List ℕ) → IsMarked marker bytes.now front text → length front ≤ limit → HasCheckpoint text }
+    ensures has { IsFalse result → length bytes.now ≤ whole_limit → (front text : List ℕ) → IsMarked marker bytes.now front text
+        → length front ≤ limit → HasCheckpoint text }
 {
     split_law();
     if bytes.len() > WHOLE_LIMIT {
@@ -75,7 +77,8 @@ fn lacks_behind(bytes: &[u8], at: usize) -> bool
     requires within { at ≤ length bytes.now }
     requires marked { IsMarked marker bytes.now (take at bytes.now) (drop at bytes.now) }
     ensures lacks { IsTrue result → LacksCheckpoint bytes.now (BadText (length bytes.now)) }
-    ensures has { IsFalse result → (front text : List ℕ) → IsMarked marker bytes.now front text → length front ≤ limit → HasCheckpoint text }
+    ensures has { IsFalse result → (front text : List ℕ) → IsMarked marker bytes.now front text
+        → length front ≤ limit → HasCheckpoint text }
 {
     split_law();
     if at > LIMIT {

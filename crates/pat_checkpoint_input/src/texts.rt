@@ -23,8 +23,8 @@ use pat_reduce::Config;
 use pat_texts::TextError;
 use std::alloc::Global;
 
-/// The checkpoint that is checked by the derivation, where both texts are read. The first byte of the derivation's text has this offset, and
-/// the checkpoint's text begins at its end.
+/// The checkpoint that is checked by the derivation, where both texts are read. The first byte of the derivation's text has this offset,
+/// and the checkpoint's text begins at its end.
 pub fn checked_texts(
     alloc: Global,
     program: &Program,

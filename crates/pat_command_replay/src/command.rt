@@ -30,7 +30,10 @@ pub fn answer_replay(alloc: Global, bytes: &[u8]) -> Result<Answer, AllocError>
 // The output of a history, and how it stands.
 fn shown(alloc: Global, replayed: &Replayed) -> Result<Answer, AllocError>
     requires few { length replayed.now.entries.items < most_number }
-    ensures { (bytes : List ℕ) → ReplaysInput bytes (program_view replayed.now.code.program) (map entry_view replayed.now.entries.items) (config_view replayed.now.config) → IfOk result (λ a. AllowedReplay bytes a.text.items a.status) }
+    ensures { (bytes : List ℕ)
+        → ReplaysInput bytes (program_view replayed.now.code.program) (map entry_view replayed.now.entries.items)
+        (config_view replayed.now.config)
+        → IfOk result (λ a. AllowedReplay bytes a.text.items a.status) }
 {
     let remains = Remains::of(alloc, &replayed.config)?;
     let printed = replayed.config.printed.as_slice();

@@ -35,7 +35,8 @@ pub fn go_on(
     requires well_formed { WellFormed (program_view program) }
     requires checked { (d : Derivation) × IsChecked (program_view program) d (checkpoint_view checkpoint) }
     requires room { IsTrue (has_room (checkpoint_view checkpoint).config) }
-    ensures { (d : Derivation) → IsChecked (program_view program) d (checkpoint_view checkpoint) → IfOk result (λ a. ShowsFrom (program_view program) d (checkpoint_view checkpoint) steps a.text.items a.status) }
+    ensures { (d : Derivation) → IsChecked (program_view program) d (checkpoint_view checkpoint)
+        → IfOk result (λ a. ShowsFrom (program_view program) d (checkpoint_view checkpoint) steps a.text.items a.status) }
 {
     checked_laws();
     turn_laws();

@@ -100,7 +100,8 @@ fn take_shared(
 ) -> Result<(), StepError>
     requires taken { HasTaken (config_view config.old) 4294967294 }
     requires ordered { IsOrdered (config_view config.old) }
-    ensures { SharedGives (program_view code.now.program) (config_view config.old) thread (option_map act_view shared) (config_view config.new) result }
+    ensures { SharedGives (program_view code.now.program) (config_view config.old) thread (option_map act_view shared)
+        (config_view config.new) result }
 {
     match shared {
         Some(act) => take_step(alloc, code, config, &Step { thread, act }),
@@ -119,7 +120,8 @@ fn take_step(
     requires mailboxes { step.now.act ≡ New → config.old.next_mailbox < most_number }
     requires messages { step.now.act ≡ Send → config.old.next_message < most_number }
     requires threads { step.now.act ≡ Spawn → config.old.next_thread < most_number }
-    ensures { StepGives config_view (after_step (program_view code.now.program) (config_view config.old) (step_view step.now)) config.old config.new result }
+    ensures { StepGives config_view (after_step (program_view code.now.program) (config_view config.old) (step_view step.now))
+        config.old config.new result }
 {
     match place_among(config.threads.as_slice(), step.thread) {
         Some(place) => config.step_at_place(alloc, code, step, place),
