@@ -29,7 +29,7 @@ REFUSALS = {
     "verify": TEXT + [BAD_TEXT, rf"rejected at node \d+: (?:{RULES})"],
     "checkpoint": TEXT + TYPES + [r"unshown at line \d+"],
     "resume": TEXT + [BAD_TEXT, rf"rejected at node \d+: (?:{RULES})", rf"bad checkpoint: (?:{CHECKS})"],
-    "replay": TEXT + [BAD_TEXT, r"refused at entry \d+"],
+    "replay": TEXT + [BAD_TEXT, rf"rejected at node \d+: (?:{RULES})", rf"bad checkpoint: (?:{CHECKS})", r"refused at entry \d+"],
     "order": TEXT + [BAD_TEXT, r"refused at entry \d+", r"too many entries"],
 }
 # The statuses of a command that isn't refused, with good ports and enough memory.

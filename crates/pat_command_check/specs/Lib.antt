@@ -1,3 +1,4 @@
 pub use Rattle.pat_typecheck.specs.Inputs
+pub use Rattle.pat_typecheck.specs.Laws
 pub mod Allowed
 pub mod Typable

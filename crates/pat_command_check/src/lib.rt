@@ -4,3 +4,4 @@
 mod command;
 
 pub use command::answer_check;
+pub use pat_typecheck::complete_law;

@@ -1,3 +1,6 @@
+mod Percents
+mod Marks
+mod Giving
 mod Answering
 -- for the crates above
 pub mod Statuses

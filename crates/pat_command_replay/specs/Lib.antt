@@ -1,2 +1,6 @@
+pub use Rattle.pat_replay_input.specs.Histories
+pub use Rattle.pat_replay_input.specs.RunText
+pub mod Pieces
 pub mod Allowed
 pub mod Answers
+pub mod Gives

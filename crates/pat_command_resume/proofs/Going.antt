@@ -11,7 +11,7 @@ use Rattle.pat_semantics_laws.specs.Laws.{OutcomeIsExact}
 use Rattle.pat_derivation_spec.specs.Derivations.{Derivation}
 use Rattle.pat_reduce.specs.declared.history.Entry.{Entry as CodeEntry}
 use Rattle.pat_reduce.specs.Views.{config_view, entry_view}
-use Rattle.pat_machine.specs.Gives.{outcome_view}
+use Rattle.pat_history.specs.run_reports.Gives.{outcome_view}
 use Rattle.pat_checkpoint_spec.specs.Checkpoints.{Checkpoint}
 use Rattle.pat_checkpoint_spec.specs.Checked.{IsChecked}
 use Rattle.pat_checkpoint_spec.specs.Resumed.{IsResumed}

@@ -4,7 +4,6 @@
 mod command;
 mod laws;
 mod running;
-mod texts;
 
 pub use command::answer_resume;
 pub use laws::resume_law;

@@ -5,11 +5,12 @@ ghost use Rattle.pat_semantics_spec.specs.Runs.{IsHistory, EndFull};
 ghost use Rattle.pat_derivation_spec.specs.Derivations.{Derivation};
 ghost use Rattle.pat_core.specs.Views.{program_view};
 ghost use Rattle.pat_reduce.specs.Views.{config_view, entry_view};
-ghost use Rattle.pat_machine.specs.Gives.{outcome_view};
+ghost use Rattle.pat_history.specs.run_reports.Gives.{outcome_view};
 ghost use Rattle.pat_checkpoint_spec.specs.Checked.{IsChecked};
 ghost use Rattle.pat_checkpoint_data.specs.Views.{checkpoint_view};
 ghost use Rattle.pat_history.specs.run_reports.RunText.{run_text};
-ghost use Rattle.pat_command_resume.specs.Allowed.{has_room, EndsWith};
+ghost use Rattle.pat_checkpoint_input.specs.CheckedTexts.{has_room};
+ghost use Rattle.pat_command_resume.specs.Allowed.{EndsWith};
 ghost use Rattle.pat_command_resume.specs.Gives.{ShowsFrom, TellsOf};
 ghost use Rattle.pat_limits.specs.Limits.{most_steps, number_count};
 
@@ -34,7 +35,8 @@ pub fn go_on(
     requires well_formed { WellFormed (program_view program) }
     requires checked { (d : Derivation) × IsChecked (program_view program) d (checkpoint_view checkpoint) }
     requires room { IsTrue (has_room (checkpoint_view checkpoint).config) }
-    ensures { (d : Derivation) → IsChecked (program_view program) d (checkpoint_view checkpoint) → IfOk result (λ a. ShowsFrom (program_view program) d (checkpoint_view checkpoint) steps a.text.items a.status) }
+    ensures { (d : Derivation) → IsChecked (program_view program) d (checkpoint_view checkpoint)
+        → IfOk result (λ a. ShowsFrom (program_view program) d (checkpoint_view checkpoint) steps a.text.items a.status) }
 {
     checked_laws();
     turn_laws();

@@ -2,8 +2,8 @@
 use Rattle.std.proofs.Common.{◌≡◌, ℕ, zero, suc, ◌+◌, ◌-◌, List, [], ◌∷◌, ◌++◌, Option, Some, None, refl, sym, ap, ◌∙◌, subst, arith}
 use Rattle.std.specs.Prelude.{option_and_then, replicate}
 use Rattle.std.proofs.lemmas.List.{replicate-append-replicate}
-use Rattle.pat_semantics_spec.specs.Programs.{Program, Function, function_at}
-use Rattle.pat_semantics_spec.specs.Configs.{Config, start, start_of}
+use Rattle.pat_semantics_spec.specs.Programs.{Program}
+use Rattle.pat_semantics_spec.specs.Configs.{Config}
 use Rattle.pat_semantics_spec.specs.Orders.{IsOrdered}
 use Rattle.pat_semantics_spec.specs.Steps.{Act, Step, step}
 use Rattle.pat_semantics_spec.specs.Runs.{Entry, run_from, shared_step, entry_steps, entry_from}
@@ -17,7 +17,8 @@ use Rattle.std.specs.Prelude.{Result}
 use Rattle.std.specs.declared.result.Result.TheVariants.{Ok, Err}
 use Rattle.pat_reduce_values.specs.declared.error.StepError.{StepError}
 use Rattle.pat_reduce_values.specs.declared.error.StepError.TheVariants.{Disabled, NoMemory}
-use Rattle.pat_replay.specs.Replays.{HasTaken, StopsBefore, EntryGives, LocalsGive, SharedGives}
+use Rattle.pat_limits.specs.Limits.{most_number}
+use Rattle.pat_replay.specs.Replays.{HasTaken, HasRoom, StopsBefore, EntryGives, LocalsGive, SharedGives}
 
 -- one more local step
 pub one_more : (p : Program) (c d e : Config) (k : ℕ) (s : Step) → run_from p c (replicate k s) ≡ Some d → step p d s ≡ Some e → run_from p c (replicate (k + 1) s) ≡ Some e
@@ -107,10 +108,24 @@ numbers_on p c d e n h taken =
 pub order_on : (p : Program) (c d : Config) (e : Entry) → IsOrdered c → entry_from p c (entry_steps e) ≡ Some d → IsOrdered d
 order_on p c d e o h = run_keeps_order p (entry_steps e) c d o (of_entry p c d (entry_steps e) h)
 
--- at the start one number is taken at most
-starts_of : (f : Option Function) → HasTaken (start_of f) 1
-starts_of None = record { threads = omega arith; mailboxes = omega arith; messages = omega arith }
-starts_of (Some f) = record { threads = omega arith; mailboxes = omega arith; messages = omega arith }
+-- and takes one number of each kind at most of those that are left
+pub room_on : (p : Program) (c d : Config) (e : Entry) (n : ℕ) → entry_from p c (entry_steps e) ≡ Some d → HasRoom c (suc n) → HasRoom d n
+room_on p c d e n h room =
+    let threads = room.threads in
+    let mailboxes = room.mailboxes in
+    let messages = room.messages in
+    let m : ℕ = most_number - suc n in
+    let taken = numbers_on p c d e m h (record { threads = omega (arith, threads); mailboxes = omega (arith, mailboxes); messages = omega (arith, messages) }) in
+    record {
+      threads = let less = taken.threads in omega (arith, threads, less);
+      mailboxes = let less = taken.mailboxes in omega (arith, mailboxes, less);
+      messages = let less = taken.messages in omega (arith, messages, less);
+    }
 
-pub starts_below : (p : Program) → HasTaken (start p) 1
-starts_below p = starts_of (function_at p p.main)
+-- one that is left is there to be taken
+pub room_taken : (c : Config) (n : ℕ) → HasRoom c (suc n) → HasTaken c 4294967294
+room_taken c n room = record {
+  threads = let left = room.threads in omega (arith, left);
+  mailboxes = let left = room.mailboxes in omega (arith, left);
+  messages = let left = room.messages in omega (arith, left);
+}

@@ -1,5 +1,5 @@
 -- A history, entry after entry, as the loop goes over it.
-use Rattle.std.proofs.Common.{◌≡◌, ℕ, suc, ◌+◌, ◌<◌, List, ◌∷◌, length, drop, get_or, map, Option, Some, None, sym, ap, ◌∙◌, subst, arith}
+use Rattle.std.proofs.Common.{◌≡◌, ℕ, suc, ◌+◌, ◌-◌, ◌<◌, List, ◌∷◌, length, drop, get_or, map, Option, Some, None, sym, ap, ◌∙◌, subst, arith}
 use Rattle.std.specs.Prelude.{option_and_then}
 use Rattle.std.proofs.lemmas.List.{drop_more}
 use Rattle.pat_semantics_spec.specs.Programs.{Program}
@@ -10,14 +10,22 @@ use Rattle.pat_machine_spec.specs.Refusals.{IsRefusedAt}
 use Rattle.std.specs.declared.result.Result.TheVariants.{Err}
 use Rattle.pat_reduce_values.specs.declared.error.StepError.{StepError}
 use Rattle.pat_reduce_values.specs.declared.error.StepError.TheVariants.{Disabled, NoMemory}
-use Rattle.pat_replay.specs.Replays.{HasTaken, EntryGives}
-use Rattle.pat_replay.proofs.Entries.{numbers_on, order_on}
+use Rattle.pat_replay.specs.Replays.{HasTaken, HasRoom, EntryGives}
+use Rattle.pat_replay.proofs.Entries.{room_on, room_taken, order_on}
 use Rattle.pat_reduce.specs.declared.history.Entry.{Entry as CodeEntry}
 use Rattle.pat_reduce.specs.Views.{entry_view}
 
 -- whether what is left is refused where the whole is
 abbrev pub RefusesOn : Program → Config → Config → List Entry → List Entry → ℕ → Type 0
 RefusesOn p b c whole rest i = (k : ℕ) → IsRefusedAt p c rest k → IsRefusedAt p b whole (i + k)
+
+-- numbers are left for the entries that are left
+abbrev pub RoomLeft : Config → (all i : ℕ) → Type 0
+RoomLeft c all i = (n : ℕ) → i + n ≡ all → HasRoom c n
+
+-- so one is left where an entry is
+pub room_here : (c : Config) (all i : ℕ) → i < all → RoomLeft c all i → HasTaken c 4294967294
+room_here c all i within left = room_taken c (all - suc i) (left (suc (all - suc i)) (omega (arith, within)))
 
 module _ (p : Program) (b c : Config) (entries : List CodeEntry) (i : ℕ) (nothing : CodeEntry) (within : i < length entries) where
   abbrev e : CodeEntry
@@ -49,8 +57,8 @@ module _ (p : Program) (b c : Config) (entries : List CodeEntry) (i : ℕ) (noth
         let place : i + suc k ≡ i + 1 + k = omega arith in
         subst (IsRefusedAt p b (map entry_view entries)) place (h (suc k) (subst (λ l. IsRefusedAt p c l (suc k)) (sym front) (d, leads, r)))
 
-    pub numbers_next : HasTaken c (i + 1) → HasTaken d (i + 1 + 1)
-    numbers_next taken = numbers_on p c d (entry_view e) (i + 1) leads taken
+    pub room_next : RoomLeft c (length entries) i → RoomLeft d (length entries) (i + 1)
+    room_next left n is = room_on p c d (entry_view e) n leads (left (suc n) (omega (arith, is)))
 
     pub order_next : IsOrdered c → IsOrdered d
     order_next ordered = order_on p c d (entry_view e) ordered leads

@@ -1,24 +1,25 @@
 -- What a replay answers.
-use Rattle.std.specs.Prelude.{◌≡◌, ℕ, ◌<◌, ◌≤◌, List, Option, Some, None, Result, replicate}
+use Rattle.std.specs.Prelude.{◌≡◌, ℕ, ◌<◌, ◌≤◌, ◌+◌, List, Option, Some, None, Result, replicate}
 use Rattle.std.specs.declared.result.Result.TheVariants.{Ok, Err}
 use Rattle.pat_semantics_spec.specs.Programs.{Program}
-use Rattle.pat_semantics_spec.specs.Configs.{Config, start}
+use Rattle.pat_semantics_spec.specs.Configs.{Config}
 use Rattle.pat_semantics_spec.specs.Steps.{Act, step}
-use Rattle.pat_semantics_spec.specs.Runs.{Entry, entry_steps, entry_from, run_from, replay, shared_step}
+use Rattle.pat_semantics_spec.specs.Runs.{Entry, entry_steps, entry_from, run_from, replay_from, shared_step}
 use Rattle.pat_machine_spec.specs.Commits.{local_of}
 use Rattle.pat_machine_spec.specs.Refusals.{IsRefusedAt}
 use Rattle.pat_reduce_values.specs.declared.error.StepError.{StepError}
 use Rattle.pat_reduce_values.specs.declared.error.StepError.TheVariants as step_error
 use Rattle.pat_reduce.specs.declared.config.Config.{Config as CodeConfig}
 use Rattle.pat_reduce.specs.Views.{config_view}
+use Rattle.pat_limits.specs.Limits.{most_number}
 use Rattle.pat_replay.specs.declared.error.ReplayError.{ReplayError}
 use Rattle.pat_replay.specs.declared.error.ReplayError.TheVariants as replay_error
 
--- the configuration that the history replays to; or the entry that is refused; or memory ran out
-abbrev pub ReplayGives : Program → List Entry → Result CodeConfig ReplayError → Type 0
-ReplayGives p es (Ok c) = replay p es ≡ Some (config_view c)
-ReplayGives p es (Err (replay_error.RefusedAt i)) = IsRefusedAt p (start p) es i
-ReplayGives p es (Err replay_error.NoMemory) = Unit {0}
+-- the configuration to which the history leads from this one; or the entry that is refused; or memory ran out
+abbrev pub ReplayGives : Program → Config → List Entry → Result CodeConfig ReplayError → Type 0
+ReplayGives p b es (Ok c) = replay_from p b es ≡ Some (config_view c)
+ReplayGives p b es (Err (replay_error.RefusedAt i)) = IsRefusedAt p b es i
+ReplayGives p b es (Err replay_error.NoMemory) = Unit {0}
 
 -- what the entry makes of c is d; or it makes nothing, for one of its steps can't be taken, or it has none
 abbrev pub EntryGives : Program → Config → Entry → Config → Result (Unit {0}) StepError → Type 0
@@ -51,3 +52,9 @@ pub record HasTaken (c : Config) (n : ℕ) : Type 0 where
   pub threads : c.next_thread ≤ n
   pub mailboxes : c.next_mailbox ≤ n
   pub messages : c.next_message ≤ n
+
+-- so many numbers of each kind are left
+pub record HasRoom (c : Config) (n : ℕ) : Type 0 where
+  pub threads : c.next_thread + n ≤ most_number
+  pub mailboxes : c.next_mailbox + n ≤ most_number
+  pub messages : c.next_message + n ≤ most_number

@@ -6,4 +6,4 @@ mod places;
 mod replaying;
 
 pub use error::ReplayError;
-pub use replaying::replay;
+pub use replaying::replay_from;

@@ -7,7 +7,7 @@ ghost use Rattle.pat_core.specs.Views.{program_view};
 ghost use Rattle.pat_reduce_values.specs.Results.{StepGives};
 ghost use Rattle.pat_reduce.specs.declared.history.Act.TheVariants.{New, Send, Spawn};
 ghost use Rattle.pat_reduce.specs.Views.{act_view, config_view, entry_view, step_view};
-ghost use Rattle.pat_replay.specs.Replays.{HasTaken, ReplayGives, EntryGives, LocalsGive, SharedGives};
+ghost use Rattle.pat_replay.specs.Replays.{HasTaken, HasRoom, ReplayGives, EntryGives, LocalsGive, SharedGives};
 ghost use Rattle.pat_limits.specs.Limits.{most_number};
 
 use crate::error::ReplayError;
@@ -16,12 +16,18 @@ use pat_reduce::{Act, Config, Entry, Step, StepError};
 use pat_reduce_values::Executable;
 use std::alloc::Global;
 
-/// The configuration that a history leads to, from the start of the program.
-pub fn replay(alloc: Global, code: &Executable, entries: &[Entry]) -> Result<Config, ReplayError>
-    requires { length entries.now < most_number }
-    ensures { ReplayGives (program_view code.now.program) (map entry_view entries.now) result }
+/// The configuration that a history leads to, from one in order. So many entries leave numbers for what they make.
+pub fn replay_from(
+    alloc: Global,
+    code: &Executable,
+    config: Config,
+    entries: &[Entry],
+) -> Result<Config, ReplayError>
+    requires ordered { IsOrdered (config_view config) }
+    requires room { HasRoom (config_view config) (length entries.now) }
+    ensures { ReplayGives (program_view code.now.program) (config_view config) (map entry_view entries.now) result }
 {
-    let mut config = Config::start(alloc, code)?;
+    let mut config = config;
     for i in 0..entries.len() {
         let entry = entries[i];
         match take_entry(alloc, code, &mut config, entry) {
@@ -94,7 +100,8 @@ fn take_shared(
 ) -> Result<(), StepError>
     requires taken { HasTaken (config_view config.old) 4294967294 }
     requires ordered { IsOrdered (config_view config.old) }
-    ensures { SharedGives (program_view code.now.program) (config_view config.old) thread (option_map act_view shared) (config_view config.new) result }
+    ensures { SharedGives (program_view code.now.program) (config_view config.old) thread (option_map act_view shared)
+        (config_view config.new) result }
 {
     match shared {
         Some(act) => take_step(alloc, code, config, &Step { thread, act }),
@@ -113,7 +120,8 @@ fn take_step(
     requires mailboxes { step.now.act ≡ New → config.old.next_mailbox < most_number }
     requires messages { step.now.act ≡ Send → config.old.next_message < most_number }
     requires threads { step.now.act ≡ Spawn → config.old.next_thread < most_number }
-    ensures { StepGives config_view (after_step (program_view code.now.program) (config_view config.old) (step_view step.now)) config.old config.new result }
+    ensures { StepGives config_view (after_step (program_view code.now.program) (config_view config.old) (step_view step.now))
+        config.old config.new result }
 {
     match place_among(config.threads.as_slice(), step.thread) {
         Some(place) => config.step_at_place(alloc, code, step, place),

@@ -1,9 +1,9 @@
 -- What is answered of parts, and of the whole.
-use Rattle.std.proofs.Common.{◌≡◌, ◌⊎◌, ◌≤◌, ◌<◌, ◌+◌, ℕ, List, [], ◌∷◌, length, map, take, drop, Option, Some, None, Result, Ok, Err, refl, sym, ap, ◌∙◌, subst, inl, inr, arith}
+use Rattle.std.proofs.Common.{◌≡◌, ◌≤◌, ◌<◌, ◌+◌, ℕ, List, [], ◌∷◌, length, map, take, Option, Some, None, Result, Ok, Err, sym, subst, inl, inr, arith}
 use Rattle.std.proofs.lemmas.List.{length-map, length-take-le}
-use Rattle.pat_semantics_spec.specs.Programs.{Program}
-use Rattle.pat_semantics_spec.specs.Configs.{start}
-use Rattle.pat_semantics_spec.specs.Runs.{Entry, replay}
+use Rattle.pat_semantics_spec.specs.Programs.{Program, Function, function_at}
+use Rattle.pat_semantics_spec.specs.Configs.{Config, start, start_of}
+use Rattle.pat_semantics_spec.specs.Runs.{Entry}
 use Rattle.pat_core.specs.Views.{program_view}
 use Rattle.pat_reduce.specs.declared.history.Entry.{Entry as CodeEntry}
 use Rattle.pat_reduce.specs.Views.{config_view, entry_view}
@@ -19,6 +19,7 @@ use Rattle.pat_front.specs.declared.verdict.Verdict.{Verdict}
 use Rattle.pat_front.specs.declared.verdict.Verdict.TheVariants as verdict
 use Rattle.pat_replay_input.specs.declared.histories.Replayed.{Replayed}
 use Rattle.pat_replay_input.specs.Histories.{IsHistoryPart, HasReplay, HasBadLine, HasBadEntry, Unreplayed, Replays, RefusesText, IsReplayRefusal}
+use Rattle.pat_replay.specs.Replays.{HasRoom}
 use Rattle.pat_replay_input.specs.Gives.{BytesGive, TextGives, RefusesPart, PartGives}
 use Rattle.pat_limits.specs.Limits.{most_number}
 use Rattle.pat_input.specs.Inputs.{whole_limit}
@@ -33,17 +34,38 @@ lines_few bytes [] rest h = omega arith
 lines_few bytes (e ∷ es) rest (r, there, read, more) = omega (arith, shorter bytes r there, lines_few r.1 es rest more)
 
 -- a history has no more entries than its text has bytes
-pub entries_few : (part : List ℕ) (from : ℕ) (es : List CodeEntry) → ReadsAs part (map entry_view es) → from + length part ≤ whole_limit → length es < most_number
-entries_few part from es read small =
+entries_within : (part : List ℕ) (from : ℕ) (es : List CodeEntry) → ReadsAs part (map entry_view es) → from + length part ≤ whole_limit → length es ≤ whole_limit
+entries_within part from es read small =
     let first = shorter part (marker, read.body) read.first in
     let few = lines_few read.body (map entry_view es) [] read.lines in
     let same : length (map entry_view es) ≡ length es = length-map es entry_view in
     omega (arith, first, few, same, small)
 
+pub entries_few : (part : List ℕ) (from : ℕ) (es : List CodeEntry) → ReadsAs part (map entry_view es) → from + length part ≤ whole_limit → length es < most_number
+entries_few part from es read small = let within = entries_within part from es read small in omega (arith, within)
+
+-- so numbers are left for them
+pub room_for : (part : List ℕ) (from : ℕ) (es : List CodeEntry) (c : Config) → ReadsAs part (map entry_view es) → from + length part ≤ whole_limit → HasRoom c whole_limit → HasRoom c (length es)
+room_for part from es c read small room =
+    let within = entries_within part from es read small in
+    record {
+      threads = let left = room.threads in omega (arith, left, within);
+      mailboxes = let left = room.mailboxes in omega (arith, left, within);
+      messages = let left = room.messages in omega (arith, left, within);
+    }
+
+-- at the start one number is taken at most
+starts_of : (f : Option Function) → HasRoom (start_of f) whole_limit
+starts_of None = record { threads = omega arith; mailboxes = omega arith; messages = omega arith }
+starts_of (Some f) = record { threads = omega arith; mailboxes = omega arith; messages = omega arith }
+
+pub room_at_start : (p : Program) → HasRoom (start p) whole_limit
+room_at_start p = starts_of (function_at p p.main)
+
 -- ---- texts
 
-module _ (p : Program) (from : ℕ) (text part : List ℕ) (own : IsHistoryPart text part) where
-  of_refusal : (v : Verdict) → RefusesPart p from part v → Unreplayed p from text v
+module _ (p : Program) (b : Config) (from : ℕ) (text part : List ℕ) (own : IsHistoryPart text part) where
+  of_refusal : (v : Verdict) → RefusesPart p b from part v → Unreplayed p b from text v
   of_refusal (verdict.BadText o) why = record { part = part; own = own; offset = why.0; is = why.1; unread = why.2 }
   of_refusal (verdict.RefusedAt i) why = record { part = part; own = own; entries = why.0; read = why.1; refused = why.2 }
   of_refusal verdict.TooLong why = absurd why
@@ -57,26 +79,26 @@ module _ (p : Program) (from : ℕ) (text part : List ℕ) (own : IsHistoryPart 
   of_refusal (verdict.BadCheckpoint rule) why = absurd why
   of_refusal (verdict.Unaccepted reason) why = absurd why
 
-  pub text_gives : (q : Program) (r : Result Replayed FrontError) → q ≡ p → PartGives q from part r → TextGives p from text r
-  text_gives q r same h = go r (subst (λ k. PartGives k from part r) same h)
+  pub text_gives : (q : Program) (a : Config) (r : Result Replayed FrontError) → q ≡ p → a ≡ b → PartGives q a from part r → TextGives p b from text r
+  text_gives q a r same here h = go r (subst (λ k. PartGives k b from part r) same (subst (λ k. PartGives q k from part r) here h))
     where
-      go : (r : Result Replayed FrontError) → PartGives p from part r → TextGives p from text r
+      go : (r : Result Replayed FrontError) → PartGives p b from part r → TextGives p b from text r
       go (Ok x) (is, read, replayed) = (is, record { part = part; own = own; read = read; replayed = replayed })
       go (Err (error.Refused v)) why = of_refusal v why
       go (Err error.NoMemory) why = tt
 
 -- ---- whole inputs
 
-pub bytes_give : (bytes : List ℕ) (at : ℕ) (text : List ℕ) (p : Program) (r : Result Replayed FrontError) → HasProgram marker bytes (take at bytes) text p → at ≤ length bytes → TextGives p at text r → BytesGive bytes r
+pub bytes_give : (bytes : List ℕ) (at : ℕ) (text : List ℕ) (p : Program) (r : Result Replayed FrontError) → HasProgram marker bytes (take at bytes) text p → at ≤ length bytes → TextGives p (start p) at text r → BytesGive bytes r
 bytes_give bytes at text p (Ok x) has within (is, leads) =
     record {
       front = take at bytes;
       text = text;
       has = subst (λ q. HasProgram marker bytes (take at bytes) text q) (sym is) has;
-      leads = subst (λ q. HasReplay q text (map entry_view x.entries.items) (config_view x.config)) (sym is) leads;
+      leads = subst (λ q. HasReplay q (start q) text (map entry_view x.entries.items) (config_view x.config)) (sym is) leads;
     }
 bytes_give bytes at text p (Err (error.Refused v)) has within why =
-    inr (record { front = take at bytes; text = text; program = p; has = has; unreplayed = subst (λ n. Unreplayed p n text v) (sym (length-take-le at bytes within)) why })
+    inr (record { front = take at bytes; text = text; program = p; has = has; unreplayed = subst (λ n. Unreplayed p (start p) n text v) (sym (length-take-le at bytes within)) why })
 bytes_give bytes at text p (Err error.NoMemory) has within why = tt
 
 pub bytes_refused : (bytes : List ℕ) (e : FrontError) → Explains marker bytes e → BytesGive bytes (Err e)

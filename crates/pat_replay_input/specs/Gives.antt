@@ -2,8 +2,8 @@
 use Rattle.std.specs.Prelude.{◌≡◌, ◌+◌, ℕ, List, map, Result, Some}
 use Rattle.std.specs.declared.result.Result.TheVariants.{Ok, Err}
 use Rattle.pat_semantics_spec.specs.Programs.{Program}
-use Rattle.pat_semantics_spec.specs.Configs.{start}
-use Rattle.pat_semantics_spec.specs.Runs.{Entry, replay}
+use Rattle.pat_semantics_spec.specs.Configs.{Config}
+use Rattle.pat_semantics_spec.specs.Runs.{Entry, replay_from}
 use Rattle.pat_core.specs.Views.{program_view}
 use Rattle.pat_reduce.specs.declared.config.Config.{Config as CodeConfig}
 use Rattle.pat_reduce.specs.Views.{config_view, entry_view}
@@ -22,27 +22,27 @@ BytesGive bytes (Ok r) = Replays bytes (program_view r.code.program) (map entry_
 BytesGive bytes (Err (error.Refused v)) = IsReplayRefusal bytes v
 BytesGive bytes (Err error.NoMemory) = Unit {0}
 
--- the same of the text behind a program
-abbrev pub TextGives : Program → (from : ℕ) → (text : List ℕ) → Result Replayed FrontError → Type 0
-TextGives p from text (Ok r) = (program_view r.code.program ≡ p) × HasReplay p text (map entry_view r.entries.items) (config_view r.config)
-TextGives p from text (Err (error.Refused v)) = Unreplayed p from text v
-TextGives p from text (Err error.NoMemory) = Unit {0}
+-- the same of the text behind a program, from a configuration on
+abbrev pub TextGives : Program → Config → (from : ℕ) → (text : List ℕ) → Result Replayed FrontError → Type 0
+TextGives p b from text (Ok r) = (program_view r.code.program ≡ p) × HasReplay p b text (map entry_view r.entries.items) (config_view r.config)
+TextGives p b from text (Err (error.Refused v)) = Unreplayed p b from text v
+TextGives p b from text (Err error.NoMemory) = Unit {0}
 
 -- why what is looked at of a text isn't replayed: a line of it isn't read, or an entry is refused
-abbrev pub RefusesPart : Program → (from : ℕ) → (part : List ℕ) → Verdict → Type 0
-RefusesPart p from part (verdict.BadText o) = (offset : ℕ) × (o ≡ from + offset) × Unread part offset
-RefusesPart p from part (verdict.RefusedAt i) = (es : List Entry) × ReadsAs part es × IsRefusedAt p (start p) es i
-RefusesPart p from part _ = ⊥
+abbrev pub RefusesPart : Program → Config → (from : ℕ) → (part : List ℕ) → Verdict → Type 0
+RefusesPart p b from part (verdict.BadText o) = (offset : ℕ) × (o ≡ from + offset) × Unread part offset
+RefusesPart p b from part (verdict.RefusedAt i) = (es : List Entry) × ReadsAs part es × IsRefusedAt p b es i
+RefusesPart p b from part _ = ⊥
 
-abbrev pub PartGives : Program → (from : ℕ) → (part : List ℕ) → Result Replayed FrontError → Type 0
-PartGives p from part (Ok r) =
-    (program_view r.code.program ≡ p) × ReadsAs part (map entry_view r.entries.items) × (replay p (map entry_view r.entries.items) ≡ Some (config_view r.config))
-PartGives p from part (Err (error.Refused v)) = RefusesPart p from part v
-PartGives p from part (Err error.NoMemory) = Unit {0}
+abbrev pub PartGives : Program → Config → (from : ℕ) → (part : List ℕ) → Result Replayed FrontError → Type 0
+PartGives p b from part (Ok r) =
+    (program_view r.code.program ≡ p) × ReadsAs part (map entry_view r.entries.items) × (replay_from p b (map entry_view r.entries.items) ≡ Some (config_view r.config))
+PartGives p b from part (Err (error.Refused v)) = RefusesPart p b from part v
+PartGives p b from part (Err error.NoMemory) = Unit {0}
 
 -- the configuration that entries lead to, or which of them is refused
-abbrev pub EntriesGive : Program → List Entry → Result CodeConfig FrontError → Type 0
-EntriesGive p es (Ok c) = replay p es ≡ Some (config_view c)
-EntriesGive p es (Err (error.Refused (verdict.RefusedAt i))) = IsRefusedAt p (start p) es i
-EntriesGive p es (Err (error.Refused _)) = ⊥
-EntriesGive p es (Err error.NoMemory) = Unit {0}
+abbrev pub EntriesGive : Program → Config → List Entry → Result CodeConfig FrontError → Type 0
+EntriesGive p b es (Ok c) = replay_from p b es ≡ Some (config_view c)
+EntriesGive p b es (Err (error.Refused (verdict.RefusedAt i))) = IsRefusedAt p b es i
+EntriesGive p b es (Err (error.Refused _)) = ⊥
+EntriesGive p b es (Err error.NoMemory) = Unit {0}

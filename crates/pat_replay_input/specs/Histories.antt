@@ -2,7 +2,7 @@
 use Rattle.std.specs.Prelude.{◌≡◌, ◌⊎◌, ◌+◌, ℕ, not, List, length, codes, Option, Some, None, if◌then◌else◌}
 use Rattle.pat_semantics_spec.specs.Programs.{Program}
 use Rattle.pat_semantics_spec.specs.Configs.{Config, start}
-use Rattle.pat_semantics_spec.specs.Runs.{Entry, Outcome, EndDone, EndWaiting, replay, has_threads, can_step}
+use Rattle.pat_semantics_spec.specs.Runs.{Entry, Outcome, EndDone, EndWaiting, replay_from, has_threads, can_step}
 use Rattle.pat_machine_spec.specs.Refusals.{IsRefusedAt}
 use Rattle.pat_history_spec.specs.HistoryText.{marker}
 use Rattle.pat_history_spec.specs.Reading.{ReadsAs, Unread}
@@ -21,12 +21,12 @@ standing p c = if not (has_threads c.threads) then Some EndDone else if not (can
 
 -- ---- behind a program
 
--- the text spells the history, which leads from the start of the program to the configuration
-pub record HasReplay (p : Program) (text : List ℕ) (es : List Entry) (c : Config) : Type 0 where
+-- the text spells the history, which leads from the first configuration to the other
+pub record HasReplay (p : Program) (b : Config) (text : List ℕ) (es : List Entry) (c : Config) : Type 0 where
   pub part : List ℕ
   pub own : IsHistoryPart text part
   pub read : ReadsAs part es
-  pub replayed : replay p es ≡ Some c
+  pub replayed : replay_from p b es ≡ Some c
 
 -- a line of the text, of which the first byte has this offset, isn't read; it is the first
 pub record HasBadLine (from : ℕ) (text : List ℕ) (at : ℕ) : Type 0 where
@@ -36,28 +36,29 @@ pub record HasBadLine (from : ℕ) (text : List ℕ) (at : ℕ) : Type 0 where
   pub is : at ≡ from + offset
   pub unread : Unread part offset
 
--- the text spells a history whose entries before this one replay, and this one doesn't: it has no step, or a step that isn't enabled then
-pub record HasBadEntry (p : Program) (text : List ℕ) (i : ℕ) : Type 0 where
+-- the text spells a history whose entries before this one replay from the configuration, and this one doesn't: it has no step, or a step that
+-- isn't enabled then
+pub record HasBadEntry (p : Program) (b : Config) (text : List ℕ) (i : ℕ) : Type 0 where
   pub part : List ℕ
   pub own : IsHistoryPart text part
   pub entries : List Entry
   pub read : ReadsAs part entries
-  pub refused : IsRefusedAt p (start p) entries i
+  pub refused : IsRefusedAt p b entries i
 
 -- why the text isn't replayed
-abbrev pub Unreplayed : Program → (from : ℕ) → (text : List ℕ) → Verdict → Type 0
-Unreplayed p from text (verdict.BadText o) = HasBadLine from text o
-Unreplayed p from text (verdict.RefusedAt i) = HasBadEntry p text i
-Unreplayed p from text _ = ⊥
+abbrev pub Unreplayed : Program → Config → (from : ℕ) → (text : List ℕ) → Verdict → Type 0
+Unreplayed p b from text (verdict.BadText o) = HasBadLine from text o
+Unreplayed p b from text (verdict.RefusedAt i) = HasBadEntry p b text i
+Unreplayed p b from text _ = ⊥
 
 -- ---- whole inputs
 
--- the bytes are the text of the program, and behind it that of the history, which leads to the configuration
+-- the bytes are the text of the program, and behind it that of the history, which leads from its start to the configuration
 pub record Replays (bytes : List ℕ) (p : Program) (es : List Entry) (c : Config) : Type 0 where
   pub front : List ℕ
   pub text : List ℕ
   pub has : HasProgram marker bytes front text p
-  pub leads : HasReplay p text es c
+  pub leads : HasReplay p (start p) text es c
 
 -- the text behind the program isn't replayed
 pub record RefusesText (bytes : List ℕ) (v : Verdict) : Type 0 where
@@ -65,7 +66,7 @@ pub record RefusesText (bytes : List ℕ) (v : Verdict) : Type 0 where
   pub text : List ℕ
   pub program : Program
   pub has : HasProgram marker bytes front text program
-  pub unreplayed : Unreplayed program (length front) text v
+  pub unreplayed : Unreplayed program (start program) (length front) text v
 
 -- why the bytes are refused
 abbrev pub IsReplayRefusal : List ℕ → Verdict → Type 0

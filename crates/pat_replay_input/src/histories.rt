@@ -1,8 +1,11 @@
 // The replay of a history behind the text of its program.
 ghost use Rattle.std.specs.Prelude.{◌<◌, ◌≤◌, ◌+◌, IfOk, length, map};
+ghost use Rattle.pat_semantics_spec.specs.Configs.{start};
+ghost use Rattle.pat_semantics_spec.specs.Orders.{IsOrdered};
 ghost use Rattle.pat_semantics_spec.specs.WellFormed.{WellFormed};
 ghost use Rattle.pat_core.specs.Views.{program_view};
-ghost use Rattle.pat_reduce.specs.Views.{entry_view};
+ghost use Rattle.pat_reduce.specs.Views.{config_view, entry_view};
+ghost use Rattle.pat_replay.specs.Replays.{HasRoom};
 ghost use Rattle.pat_replay_input.specs.Histories.{IsHistoryPart};
 ghost use Rattle.pat_replay_input.specs.Gives.{BytesGive, TextGives, PartGives, EntriesGive};
 ghost use Rattle.pat_limits.specs.Limits.{most_number};
@@ -14,7 +17,7 @@ use pat_history::read;
 use pat_input_split::{place_of_mark, program_before};
 use pat_reduce::{Config, Entry};
 use pat_reduce_values::Executable;
-use pat_replay::{ReplayError, replay};
+use pat_replay::{ReplayError, replay_from};
 use pat_texts::TextError;
 use std::alloc::Global;
 
@@ -46,11 +49,35 @@ fn replay_text(
 ) -> Result<Replayed, FrontError>
     requires well_formed { WellFormed (program_view program) }
     requires room { from + length text.now ≤ whole_limit }
-    ensures gives { TextGives (program_view program) from text.now result }
+    ensures gives { TextGives (program_view program) (start (program_view program)) from text.now result }
     ensures few { IfOk result (λ r. length r.entries.items < most_number) }
 {
     match Executable::new(alloc, program) {
-        Ok(code) => replay_part(alloc, code, before_output(text), from),
+        Ok(code) => match Config::start(alloc, &code) {
+            Ok(config) => replay_part(alloc, code, config, before_output(text), from),
+            Err(_) => Err(FrontError::NoMemory),
+        },
+        Err(_) => Err(FrontError::NoMemory),
+    }
+}
+
+/// So of a history that goes on from this configuration of the program.
+pub fn replay_behind(
+    alloc: Global,
+    program: Program,
+    config: Config,
+    text: &[u8],
+    from: u32,
+) -> Result<Replayed, FrontError>
+    requires well_formed { WellFormed (program_view program) }
+    requires ordered { IsOrdered (config_view config) }
+    requires numbers { HasRoom (config_view config) whole_limit }
+    requires room { from + length text.now ≤ whole_limit }
+    ensures gives { TextGives (program_view program) (config_view config) from text.now result }
+    ensures few { IfOk result (λ r. length r.entries.items < most_number) }
+{
+    match Executable::new(alloc, program) {
+        Ok(code) => replay_part(alloc, code, config, before_output(text), from),
         Err(_) => Err(FrontError::NoMemory),
     }
 }
@@ -69,15 +96,18 @@ fn before_output(text: &[u8]) -> &[u8]
 fn replay_part(
     alloc: Global,
     code: Executable,
+    config: Config,
     part: &[u8],
     from: u32,
 ) -> Result<Replayed, FrontError>
-    requires { from + length part.now ≤ whole_limit }
-    ensures gives { PartGives (program_view code.program) from part.now result }
+    requires ordered { IsOrdered (config_view config) }
+    requires numbers { HasRoom (config_view config) whole_limit }
+    requires room { from + length part.now ≤ whole_limit }
+    ensures gives { PartGives (program_view code.program) (config_view config) from part.now result }
     ensures few { IfOk result (λ r. length r.entries.items < most_number) }
 {
     match read(alloc, part, from) {
-        Ok(entries) => match replay_entries(alloc, &code, &entries) {
+        Ok(entries) => match replay_entries(alloc, &code, config, &entries) {
             Ok(config) => Ok(Replayed {
                 code,
                 entries,
@@ -91,11 +121,17 @@ fn replay_part(
 }
 
 // What the entries lead to.
-fn replay_entries(alloc: Global, code: &Executable, entries: &[Entry]) -> Result<Config, FrontError>
-    requires { length entries.now < most_number }
-    ensures { EntriesGive (program_view code.now.program) (map entry_view entries.now) result }
+fn replay_entries(
+    alloc: Global,
+    code: &Executable,
+    config: Config,
+    entries: &[Entry],
+) -> Result<Config, FrontError>
+    requires ordered { IsOrdered (config_view config) }
+    requires numbers { HasRoom (config_view config) (length entries.now) }
+    ensures { EntriesGive (program_view code.now.program) (config_view config) (map entry_view entries.now) result }
 {
-    match replay(alloc, code, entries) {
+    match replay_from(alloc, code, config, entries) {
         Ok(config) => Ok(config),
         Err(ReplayError::RefusedAt(entry)) => Err(FrontError::Refused(Verdict::RefusedAt(entry))),
         Err(ReplayError::NoMemory) => Err(FrontError::NoMemory),

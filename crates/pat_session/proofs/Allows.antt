@@ -331,7 +331,7 @@ module _ (words : List (List ℕ)) (had left old new : Option (List ℕ)) where
         bytes = c.bytes;
         text = c.text;
         input = input;
-        whole = input.all own.replays.has.small;
+        whole = input.all (replay_status c.bytes c.text Ok own);
         replayed = own;
         written = c.written;
       }
@@ -426,7 +426,7 @@ module _ (words : List (List ℕ)) (had left old new : Option (List ℕ)) where
     bytes = bytes;
     text = text;
     input = input;
-    whole = input.all own.has.has.small;
+    whole = input.all own.parts.has.has.small;
     resumed = own;
     written = written;
   }

@@ -9,13 +9,12 @@ use Rattle.pat_front.specs.declared.verdict.Verdict.{Verdict}
 use Rattle.pat_front.specs.declared.exit_answers.status.Status.{Status}
 use Rattle.pat_front.specs.declared.exit_answers.status.Status.TheVariants.{Ok, Refused, Usage, ReadFault, WriteFault, NoMemory, Budget, Waiting, Full}
 use Rattle.pat_run.specs.declared.options.options.RunOptions.{RunOptions}
-use Rattle.pat_replay_input.specs.RunText.{replay_text}
-use Rattle.pat_replay_input.specs.Histories.{standing}
-use Rattle.pat_typecheck.specs.Laws.{NeverRefused}
-use Rattle.pat_typecheck.specs.Inputs.{IsCheckRefusal}
+use Rattle.pat_command_check.specs.Laws.{NeverRefused}
+use Rattle.pat_command_check.specs.Inputs.{IsCheckRefusal}
 use Rattle.pat_command_check.specs.Typable.{HasTypable}
 use Rattle.pat_command_verify.specs.Answers as verify
 use Rattle.pat_command_replay.specs.Answers as replay
+use Rattle.pat_command_replay.specs.Pieces.{HasPiece}
 use Rattle.pat_command_order.specs.Answers as order
 use Rattle.pat_command_resume.specs.Answers as resume
 use Rattle.pat_command_checkpoint.specs.Allowed.{IsUnshown}
@@ -25,7 +24,7 @@ use Rattle.pat_session.specs.declared.words.Command.{Command}
 use Rattle.pat_session.specs.declared.words.Command.TheVariants.{Check, Derive, Print, Run, Replay, Order, Verify, Checkpoint, Resume, Load, Help}
 use Rattle.pat_session.specs.Allowed.{IsCommand, HasInput, Takes, AllowedTo, limit_of}
 use Rattle.pat_session.specs.Answers.{Answers}
-use Rattle.pat_session.specs.Complete.{Suits, IsOwn, IsComplete}
+use Rattle.pat_session.specs.Complete.{HasHistory, Suits, IsOwn, IsComplete}
 use Rattle.pat_session.proofs.OneCommand.{one_command}
 
 -- ---- the bytes that are read
@@ -45,11 +44,11 @@ suits_small Check bytes has s = s.spelled.tree.small
 suits_small Derive bytes has s = s.spelled.tree.small
 suits_small Print bytes has s = s.spelled.tree.small
 suits_small (Run o) bytes has s = s.spelled.tree.small
-suits_small Replay bytes has s = s.replays.has.small
+suits_small Replay bytes has s = ⊎_elim (λ (h : HasHistory bytes). h.replays.has.small) (λ (h : HasPiece bytes). h.replays.piece.small) s
 suits_small Order bytes has s = s.0.replays.has.small
 suits_small Verify bytes has s = s.has.small
 suits_small (Checkpoint n) bytes has s = s.0.spelled.tree.small
-suits_small (Resume n) bytes has s = s.has.has.small
+suits_small (Resume n) bytes has s = s.parts.has.has.small
 suits_small (Load n o) bytes has s = absurd has
 suits_small Help bytes has s = absurd has
 
@@ -157,7 +156,10 @@ module _ (never : NeverRefused) (texts : (bytes : List ℕ) → front.OneAnswer 
   stands Print bytes text v s a = (texts bytes).not_both v s.tree s.program a.0 s.spelled
   stands (Run o) bytes text v s a = typable_stands bytes text v s a
   stands Replay bytes text v s a =
-      (replays bytes).not_both (replay_text s.entries s.config (standing s.program s.config)) v (record { program = s.program; entries = s.entries; config = s.config; replays = s.replays; shown = refl }) a.0
+      ⊎_elim
+      (λ (h : HasHistory bytes). (replays bytes).not_refused h.program h.entries h.config v h.replays a.0)
+      (λ (h : HasPiece bytes). (replays bytes).piece_stands h.program h.shown h.from h.entries h.config v h.replays a.0)
+      s
   stands Order bytes text v s a = (orders bytes).not_refused s.0.program s.0.entries s.0.config v s.0.replays s.1 a.0
   stands Verify bytes text v s a = (verifies bytes).not_refused v s a.0
   stands (Checkpoint n) bytes text v s a =

@@ -9,12 +9,13 @@ use Rattle.pat_ports.specs.Causes.{Raised}
 use Rattle.pat_front.specs.Texts.{IsProgramText}
 use Rattle.pat_front.specs.declared.exit_answers.status.Status.{Status}
 use Rattle.pat_front.specs.declared.exit_answers.status.Status.TheVariants.{Ok, NoMemory}
-use Rattle.pat_replay_input.specs.Histories.{Replays}
+use Rattle.pat_command_replay.specs.Histories.{Replays}
+use Rattle.pat_command_replay.specs.Pieces.{HasPiece}
 use Rattle.pat_command_check.specs.Typable.{HasTypable}
 use Rattle.pat_command_order.specs.Answers.{AreFew}
 use Rattle.pat_command_verify.specs.Answers.{HasValidDerivation}
 use Rattle.pat_command_checkpoint.specs.Allowed.{IsUnshown}
-use Rattle.pat_command_resume.specs.Answers.{HasCheckedParts}
+use Rattle.pat_command_resume.specs.CheckedTexts.{IsCheckedInput}
 use Rattle.pat_session.specs.declared.words.Command.{Command}
 use Rattle.pat_session.specs.declared.words.Command.TheVariants.{Check, Derive, Print, Run, Replay, Order, Verify, Checkpoint, Resume, Load, Help}
 use Rattle.pat_session.specs.Ports.{SourceState, SinkState}
@@ -41,12 +42,12 @@ Suits Check bytes = HasTypable bytes
 Suits Derive bytes = HasTypable bytes
 Suits Print bytes = HasText bytes
 Suits (Run o) bytes = HasTypable bytes
-Suits Replay bytes = HasHistory bytes
+Suits Replay bytes = HasHistory bytes ⊎ HasPiece bytes
 Suits Order bytes = (h : HasHistory bytes) × AreFew h.entries
 Suits Verify bytes = HasValidDerivation bytes
 -- no line of its checkpoint needs an inclusion that can't be shown
 Suits (Checkpoint steps) bytes = HasTypable bytes × ((line : ℕ) → IsUnshown steps bytes line → ⊥)
-Suits (Resume steps) bytes = HasCheckedParts bytes
+Suits (Resume steps) bytes = IsCheckedInput bytes
 -- it has no input, and its program is generated
 Suits (Load n o) bytes = HasTypable (load_text n)
 Suits Help bytes = Unit {0}

@@ -11,7 +11,7 @@ use pat_front::verdict_law;
 pub fn complete_law()
     ensures { IsComplete }
 {
-    pat_typecheck::complete_law();
+    pat_command_check::complete_law();
     verdict_law();
     verify_law();
     replay_law();

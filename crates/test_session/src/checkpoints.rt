@@ -87,7 +87,7 @@ pub fn runs_that_go_on<R: Abort + Threads + Wait + Sync>(
         b"def main(): Unit { () }\n",
         b"%%derivation\nnode 0 Unit {}\n%%checkpoint\nnext 1 0 0\n",
     ];
-    let rows: [(&[&str], &[&[u8]], Status, &[u8]); 4] = [
+    let rows: [(&[&str], &[&[u8]], Status, &[u8]); 6] = [
         (
             &["resume"],
             all,
@@ -111,6 +111,18 @@ pub fn runs_that_go_on<R: Abort + Threads + Wait + Sync>(
             ended,
             Status::Ok,
             b"%%history\n%%output\ndone 0\n",
+        ),
+        (
+            &["replay"],
+            &[all[0], all[1], all[2], b"%%history\n0 0 1 receive 0\n"],
+            Status::Ok,
+            b"open 2\n",
+        ),
+        (
+            &["replay"],
+            &[all[0], all[1], all[2], b"%%history\n0 0 1 new\n"],
+            Status::Refused(Verdict::RefusedAt(0)),
+            b"refused at entry 0\n",
         ),
     ];
     for (words, texts, status, text) in rows {

@@ -2,7 +2,7 @@ use Rattle.std.proofs.Common.{sym, ap, ◌∙◌}
 use Rattle.std.specs.Prelude.{List, map}
 use Rattle.pat_reduce.specs.declared.history.Entry.{Entry}
 use Rattle.pat_reduce.specs.Views.{config_view, entry_view}
-use Rattle.pat_machine.specs.Gives.{outcome_view}
+use Rattle.pat_history.specs.run_reports.Gives.{outcome_view}
 use Rattle.pat_history.specs.run_reports.RunText.{run_text}
 use Rattle.pat_command_resume.proofs.running.told.Goals as goal
 

@@ -1,5 +1,6 @@
 use Rattle.std.proofs.Common.{drop, subst}
 use Rattle.std.proofs.lemmas.List.{take_rest}
+use Rattle.pat_semantics_spec.specs.Configs.{start}
 use Rattle.pat_core.specs.Views.{program_view}
 use Rattle.pat_replay_input.specs.Gives.{TextGives}
 use Rattle.pat_replay_input.proofs.Giving.{bytes_give, bytes_refused}
@@ -8,7 +9,7 @@ use Rattle.pat_replay_input.proofs.histories.replay_bytes.Goals as goal
 pub returns-in-Ok-clause-gives : goal.returns-in-Ok-clause-gives
 returns-in-Ok-clause-gives c =
     let p = program_view c.in-Ok.program in
-    let own = subst (λ l. TextGives p c.in-Ok.at l c.replay_text.result) (take_rest c.args.bytes.now c.in-Ok.at) c.replay_text.ensures.gives in
+    let own = subst (λ l. TextGives p (start p) c.in-Ok.at l c.replay_text.result) (take_rest c.args.bytes.now c.in-Ok.at) c.replay_text.ensures.gives in
     bytes_give c.args.bytes.now c.in-Ok.at (drop c.in-Ok.at c.args.bytes.now) p c.replay_text.result c.in-Ok.ensures.program c.in-Ok.ensures.within own
 
 pub returns-in-Err-clause-gives : goal.returns-in-Err-clause-gives

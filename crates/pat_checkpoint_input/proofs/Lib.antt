@@ -1,0 +1,4 @@
+mod Giving
+mod Once
+-- for the crates above
+pub mod Small

@@ -1,0 +1,4 @@
+pub mod Parts
+pub mod CheckedTexts
+pub mod OneCheckpoint
+pub mod Gives

@@ -1,0 +1,41 @@
+use Rattle.std.proofs.Common.{◌≡◌, ◌+◌, length, map, refl, subst, arith}
+use Rattle.pat_semantics_spec.specs.Runs.{replay_from}
+use Rattle.pat_core.specs.Views.{program_view}
+use Rattle.pat_reduce.specs.Views.{config_view, entry_view}
+use Rattle.pat_machine_spec.specs.Refusals.{IsRefusedAt}
+use Rattle.pat_replay.specs.Replays.{HasRoom}
+use Rattle.pat_replay.proofs.Refusing.{refused_so, replay_on, refuses_on, room_next, room_here, order_next}
+use Rattle.pat_replay.proofs.replaying.replay_from.Goals as goal
+
+pub take_entry-requires-clause-taken : goal.take_entry-requires-clause-taken
+take_entry-requires-clause-taken c = room_here (config_view c.loop-i.config) _ c.loop-i.i c.loop-i-test.true c.loop-i.invariant.room
+
+pub returns-in-Err-Disabled : goal.returns-in-Err-Disabled
+returns-in-Err-Disabled c =
+    let p = program_view c.args.code.now.program in
+    refused_so p (config_view c.args.config) (config_view c.loop-i.config) c.args.entries.now c.loop-i.i _ c.loop-i-test.true (config_view c.take_entry.new.config) c.in-Err-Disabled.field-0 c.in-Err-Disabled.ensures c.in-Err-Disabled.field-0-is c.loop-i.invariant.refused
+
+pub loop-i-preserved : goal.loop-i-preserved
+loop-i-preserved c =
+    let p = program_view c.args.code.now.program in
+    let a = config_view c.args.config in
+    let b = config_view c.loop-i.config in
+    let d = config_view c.take_entry.new.config in
+    record {
+      whole = replay_on p a b c.args.entries.now c.loop-i.i _ c.loop-i-test.true d c.in-Ok.ensures (replay_from p a (map entry_view c.args.entries.now)) c.loop-i.invariant.whole;
+      refused = refuses_on p a b c.args.entries.now c.loop-i.i _ c.loop-i-test.true d c.in-Ok.ensures c.loop-i.invariant.refused;
+      room = room_next p a b c.args.entries.now c.loop-i.i _ c.loop-i-test.true d c.in-Ok.ensures c.loop-i.invariant.room;
+      order = order_next p a b c.args.entries.now c.loop-i.i _ c.loop-i-test.true d c.in-Ok.ensures c.loop-i.invariant.order;
+    }
+
+pub loop-i-init : goal.loop-i-init
+loop-i-init c = record {
+  whole = refl;
+  refused = λ k h.
+      let same : k ≡ 0 + k = omega arith in
+      subst (IsRefusedAt (program_view c.args.code.now.program) (config_view c.args.config) (map entry_view c.args.entries.now)) same h;
+  room = λ n is.
+      let same : length c.args.entries.now ≡ n = omega (arith, is) in
+      subst (HasRoom (config_view c.args.config)) same c.requires.room;
+  order = c.requires.ordered;
+}
