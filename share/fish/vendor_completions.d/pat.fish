@@ -3,7 +3,7 @@ complete -c pat -f
 complete -c pat -n __fish_use_subcommand -a check -d 'says accepted, or what keeps the program from that'
 complete -c pat -n __fish_use_subcommand -a run -d 'runs a program: its history, what it printed, how it ended'
 complete -c pat -n __fish_use_subcommand -a replay -d 'reads a program and a history behind it, or one that goes on from a checkpoint between them: what that run printed, or which entry isn'\''t a step'
-complete -c pat -n __fish_use_subcommand -a order -d 'reads a program and a history behind it, and writes that history with independent commits in the order of their threads'
+complete -c pat -n __fish_use_subcommand -a order -d 'writes the history behind a program with independent commits in the order of their threads'
 complete -c pat -n __fish_use_subcommand -a derive -d 'writes what it found of the program'\''s types, as a derivation'
 complete -c pat -n __fish_use_subcommand -a verify -d 'judges a program and a derivation behind it, whoever wrote that'
 complete -c pat -n __fish_use_subcommand -a checkpoint -d 'runs a program, and writes where that led, with evidence, as a checkpoint'
