@@ -87,7 +87,7 @@ pub fn runs_that_go_on<R: Abort + Threads + Wait + Sync>(
         b"def main(): Unit { () }\n",
         b"%%derivation\nnode 0 Unit {}\n%%checkpoint\nnext 1 0 0\n",
     ];
-    let rows: [(&[&str], &[&[u8]], Status, &[u8]); 6] = [
+    let rows: [(&[&str], &[&[u8]], Status, &[u8]); 4] = [
         (
             &["resume"],
             all,
@@ -112,24 +112,26 @@ pub fn runs_that_go_on<R: Abort + Threads + Wait + Sync>(
             Status::Ok,
             b"%%history\n%%output\ndone 0\n",
         ),
-        (
-            &["replay"],
-            &[all[0], all[1], all[2], b"%%history\n0 0 1 receive 0\n"],
-            Status::Ok,
-            b"open 2\n",
-        ),
-        (
-            &["replay"],
-            &[all[0], all[1], all[2], b"%%history\n0 0 1 new\n"],
-            Status::Refused(Verdict::RefusedAt(0)),
-            b"refused at entry 0\n",
-        ),
     ];
     for (words, texts, status, text) in rows {
         let (came, taken) = answer_texts(rt, alloc, words, texts)?;
         check(rt, came == status);
         check(rt, taken.as_slice() == text);
     }
+    Ok(())
+}
+
+// Behind that text a history goes on from there: its first entry is taken, and the second one isn't a step.
+pub fn histories_that_go_on<R: Abort + Threads + Wait + Sync>(
+    rt: &R,
+    alloc: Global,
+) -> Result<(), Fail> {
+    let sent = sent_but(alloc, 0, SENT[0])?;
+    let history: &[u8] = b"%%history\n0 0 1 receive 0\n0 0 1 new\n";
+    let texts = [SENDS, DERIVED, sent.as_slice(), history];
+    let (came, taken) = answer_texts(rt, alloc, &["replay"], &texts)?;
+    check(rt, came == Status::Refused(Verdict::RefusedAt(1)));
+    check(rt, taken.as_slice() == b"refused at entry 1\n".as_slice());
     Ok(())
 }
 
