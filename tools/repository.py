@@ -81,15 +81,20 @@ def files(name, ending, part=""):
     return tuple(found)
 
 
+def is_for_tests(path, tested):
+    """Whether the file is of one of these modules, or of a module in one of them."""
+    return not tested.isdisjoint(os.path.splitext(path)[0].split(os.sep)[3:])
+
+
 @functools.lru_cache(maxsize=None)
 def size(name):
     paths = files(name, ".rt", "src")
     texts = [read(path) for path in paths]
     lines = [len(text.splitlines()) for text in texts]
-    for_tests = {f"{it}.rt" for text in texts for it in TEST_MODULE.findall(text)}
+    tested = {it for text in texts for it in TEST_MODULE.findall(text)}
     return Size(
         lines=sum(lines),
-        test_lines=sum(count for path, count in zip(paths, lines) if os.path.basename(path) in for_tests),
+        test_lines=sum(count for path, count in zip(paths, lines) if is_for_tests(path, tested)),
         functions=sum(len(FUNCTION.findall(text)) for text in texts),
         edits=len(files(name, ".edit", "must-fail")),
         tests=sum(len(TEST.findall(text)) for text in texts),
