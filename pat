@@ -28,8 +28,11 @@ help) echo 'pat: it reads standard input, as in ./pat check < FILE; docs/LANGUAG
 *)
     if [ -f "${2-}" ]; then
         echo "pat: it takes no file's name: write ./pat $1 < $2" >&2
-    elif [ "$1" != load ] && [ -t 0 ]; then
-        echo "pat: standard input is the terminal, and ends by Ctrl-D; a file is read by ./pat $1 < FILE" >&2
+    elif [ "$1" != load ]; then
+        case ${2-} in
+        '' | -*) [ ! -t 0 ] || echo "pat: standard input is the terminal, and ends by Ctrl-D; a file is read by ./pat $1 < FILE" >&2 ;;
+        *) echo "pat: it takes no file's name, and no file is called $2: one is read by ./pat $1 < FILE" >&2 ;;
+        esac
     fi
     ;;
 esac

@@ -51,8 +51,14 @@ function trimProduct(factors) {
   return productOf(factors.filter((one, index) => one.k !== '1' && !isAgain(one, index)));
 }
 function trimSum(arms) {
-  const kept = distinct(arms.filter(arm => arm.k !== '0')), stars = kept.filter(arm => arm.k === '*');
+  const some = arms.filter(arm => arm.k !== '0'), kept = distinct(some.some(arm => arm.k === '1') ? some.map(folded) : some);
+  const stars = kept.filter(arm => arm.k === '*');
   return sumOf(kept.filter(arm => stars.includes(arm) || !stars.some(star => repeats(star.of, arm))));
+}
+/** Beside nothing, `a.*a` is `*a`. */
+function folded(arm) {
+  const factors = factorsOf(arm), isOfTheRest = star => keyOf(star.of) === keyOf(productOf(factors.filter(one => one !== star)));
+  return factors.find(one => one.k === '*' && isOfTheRest(one)) ?? arm;
 }
 /** Whether an arm is plainly made of arms of what a star repeats: nothing, one of them, or a product of such. */
 function repeats(of, arm) {

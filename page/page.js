@@ -18,8 +18,9 @@ const FIRST_EXAMPLE = 'Accepted/future';
 const UNABLE = 'It needs WebAssembly with 64-bit memories, which Chromium has from version 133 on and Firefox from 134 on.'
   + ' The editor and Format work all the same.';
 const ALONE = ' · This browser gives the page no worker: typing waits for the answers, and nothing can be stopped.';
-const SAFE = 'In no order of events does a message come that nobody expects, or is a mailbox forgotten with messages in it.';
-const WAITING = 'This run ends with threads that wait for one another. Types don\'t speak of that: see below who waits where.';
+const SAFE = 'In no order of events does a message come that nobody expects, or is a mailbox forgotten with messages in it,'
+  + ' but for mailboxes that were given away in messages to one another.';
+const WAITING = 'This run ends with threads that wait for ever. Types don\'t speak of that: see below who waits where.';
 const NO_MEMORY = 'The page gives pat 1 GiB, and this text needs more. The native program has as much as the machine.';
 const TYPES = 'In colour are the patterns that were found, in few words. A signature may be written so.';
 const DERIVATION = 'Why this program can be typed: what `pat derive` writes. Change something, and see what `pat verify` says.';

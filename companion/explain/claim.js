@@ -45,7 +45,7 @@ export class Claim {
   wayMarks() {
     const found = new Map();
     for (const { tag, leaf, ways } of this.leaves) {
-      if (leaf?.a === undefined || tag === null && leaf.how !== 'taken') continue;
+      if (leaf?.a === undefined || tag === null && leaf.how !== 'taken' && leaf.how !== 'branch') continue;
       const shown = ways.length > MOST_WAYS ? [...ways.slice(0, MOST_WAYS - 1), ways.at(-1)] : ways;
       for (const use of shown) found.set(use.a, mark(use, sayWay(use)));
     }
@@ -53,7 +53,7 @@ export class Claim {
   }
   sayLeaf(tag, leaf) {
     switch (leaf.how) {
-      case 'branch': return this.little ? 'on this branch nothing is sent' : null;
+      case 'branch': return this.little ? 'on this branch nothing is sent' + this.toAnother(leaf.binder) : null;
       case 'taken': return this.little ? `once ${leaf.tag} is taken here, ${this.nothing ? 'nothing' : 'that'} is left` : null;
       case 'send': return `${tag} is sent here`;
       case 'payload': return `a right to send ${tag} goes away here, in ${leaf.tag}`;
@@ -63,6 +63,8 @@ export class Claim {
       default: return `a right to send ${tag} goes away here`;
     }
   }
+  /** Under which other name the mailbox stands there, where it came by calls. */
+  toAnother(binder) { return binder && binder !== this.who ? ` to ${code(binder.name)}, which is the same mailbox` : ''; }
   uses(most) { return this.who ? this.names.usesOf(this.who).slice(0, most).map(use => mark(use, did(use))) : []; }
 
   // ------------------------------------------------------------------------------------------------------------- in words

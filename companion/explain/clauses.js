@@ -2,7 +2,7 @@
 
 import { isMailbox, within } from '../names.js';
 import { smallWords, tagsOf } from '../words.js';
-import { beginsOtherwise } from './handed.js';
+import { beginsOtherwise, countedByTest } from './handed.js';
 import { and, chapter, code, did, mark, originOf, say, sayWord, CHECK, IDIOMS } from './say.js';
 
 /** A clause whose message brings a mailbox uses another one that isn't its own. */
@@ -52,7 +52,8 @@ export function covers({ term, names }) {
       otherwise?.mark],
     notes: [clauses.length ? `its clauses take ${and(clauses)}${free ? ', or nothing' : ''}` : null,
       word?.length ? 'a guard waits for a message of its clauses: if only others come, it waits for ever' : null],
-    hints: otherwise ? [otherwise.hint] : word?.length ? hintsOfMessage(word[0], term, clauses) : hintsOfEmpty(term, strange),
+    hints: otherwise ? [otherwise.hint] : word?.length ? hintsOfMessage(word[0], term, clauses)
+      : [...hintsOfEmpty(term, strange), countedByTest(term, term.target, names)],
   };
 }
 function sayUncovered(word) {
@@ -66,9 +67,9 @@ const hintsOfEmpty = ({ pattern }, strange) => strange
 function hintsOfMessage(tag, { pattern, mailbox }, clauses) {
   const names = `add a clause \`receive ${tag}(..) from ${mailbox.text} -> ..\``;
   const first = starsOf(pattern).find(one => clauses.includes(one));
-  return [names, first && starsOf(pattern).includes(tag)
-    ? `or, if each ${tag} belongs to one ${first} and both are sent in one function, write *(${first}.${tag}) for the two`
-    : `or write a pattern in which ${tag} doesn't come alone`];
+  if (!first || !starsOf(pattern).includes(tag)) return [names, `or write a pattern in which ${tag} doesn't come alone`];
+  return [names, `or, if each ${tag} belongs to one ${first} and both are sent in one function, write *(${first}.${tag}) for the two`,
+    `or, where others send ${tag} than ${first}, let one side wait at a mailbox of its own: ${chapter(IDIOMS, 'Bounded buffers')}`];
 }
 const bracketed = pattern => pattern.k === '+' ? `(${say(pattern)})` : say(pattern);
 /** The messages that a product has any number of. */

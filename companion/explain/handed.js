@@ -2,6 +2,7 @@
 // that.
 
 import { residual } from '../constraints.js';
+import { within } from '../names.js';
 import { simplify } from '../simplify.js';
 import { mark, say } from './say.js';
 
@@ -24,4 +25,16 @@ export function beginsOtherwise(guard, names) {
     mark: mark(other.use, `here ${other.pattern} is left, and handed to this guard`),
     hint: `a guard begins with what the one before left: ${guard.mailbox.text} : ${other.pattern}`,
   };
+}
+
+const STATES = 'types don\'t look at the test of an `if`: what is counted there has to stand in the patterns, with a function for each'
+  + ' state (docs/IDIOMS.md, "An actor is a function for each of its states")';
+/** A hint where an `if` frees a mailbox on one branch, as when a count is spent, and receives from it on the other. */
+export function countedByTest(term, binder, names) {
+  const uses = names.usesOf(binder), has = (part, hows) => uses.some(use => hows.includes(use.how) && within(use, part));
+  for (let one = term; one; one = one.up) {
+    const parts = one.k === 'if' ? [one.then, one.other] : [];
+    if (parts.some(part => has(part, ['free'])) && parts.some(part => has(part, ['guard']))) return STATES;
+  }
+  return null;
 }

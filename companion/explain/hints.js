@@ -2,6 +2,7 @@
 
 import { patternParts } from '../tree.js';
 import { tagsOf } from '../words.js';
+import { countedByTest } from './handed.js';
 import { say } from './say.js';
 
 const LONGEST_ALL = 60;                   // columns of a pattern in a hint
@@ -12,7 +13,8 @@ export function hintsOf(claim) {
   if (claim.nothing && taken) return [hintOfLater(taken.tag, claim)];
   const pair = pairOf(claim.allowed);
   if (claim.little && pair && !claim.nothing) return hintsOfPair(claim, pair);
-  return [claim.little ? hintOfLittle(claim) : hintOfMuch(claim)];
+  const counted = claim.pattern === '1' && claim.who && claim.term ? countedByTest(claim.term, claim.who, claim.names) : null;
+  return claim.little ? [hintOfLittle(claim)] : [hintOfMuch(claim), counted].filter(Boolean);
 }
 /** A star over a product: what belongs together has to be sent together. */
 const pairOf = pattern => pattern.k === '*' && pattern.of.k === '.' ? pattern : patternParts(pattern).map(pairOf).find(Boolean);
@@ -24,7 +26,9 @@ function hintsOfPair(claim, pair) {
 function hintOfLittle(claim) {
   const branch = claim.leaves.some(({ leaf }) => leaf?.how === 'branch');
   const what = claim.missing?.length ? claim.sayMissing() : 'a message';
-  return `send ${what} on ${branch ? 'that branch too' : 'each path'}, or let the pattern allow for none`;
+  const less = !claim.nothing && claim.all && claim.all.length <= LONGEST_ALL && claim.all !== claim.pattern;
+  return `send ${what} on ${branch ? 'that branch too' : 'each path'}, or `
+    + (less ? `expect what comes: ${claim.all}` : 'let the pattern allow for none');
 }
 function hintOfMuch(claim) {
   const known = new Set(tagsOf(claim.allowed)), unknown = [...new Set(claim.word.filter(tag => !known.has(tag)))];

@@ -28,13 +28,27 @@ export function wrongKind({ place, program, names }) {
     doc: NAMES,
   };
 }
-function hint({ want, found, sequence, place, note }) {
+function hint({ want, found, sequence, place, note, term }) {
   if (found?.base === 'String' && note?.startsWith('`+`')) return 'texts aren\'t joined: print each by itself';
   if (sequence) return 'what is done before a `;` gives no value; to use its value, bind it: let x = .. in';
   const unit = want?.base === 'Unit';
   if (unit && isMailbox(found)) return 'end with what is done with the mailbox: a guard, a call that takes it, or free(..)';
+  if (unit && term && term.k !== 'expression') return 'bind what it gives, let x = .. in, and end with print(x), or with ()';
   if (unit) return place ? 'end with ()' : 'print(..) it, or end with ()';
-  return want?.base === 'mailbox' ? 'messages go to mailboxes alone: take a parameter such as to: I!, or make one with new[I]' : null;
+  return hintOfMailbox(want, found) ?? hintOfValue(want, found);
+}
+function hintOfMailbox(want, found) {
+  if (want?.base === 'mailbox') return 'messages go to mailboxes alone: take a parameter such as to: I!, or make one with new[I]';
+  if (isMailbox(want)) return isMailbox(found) ? `give a mailbox of ${want.interface}, as new[${want.interface}] makes one` : null;
+  return isMailbox(found) ? 'a mailbox is sent to and received from, and is no value to compute with: to learn what an actor knows, send it'
+    + ' a mailbox for the answer' : null;
+}
+function hintOfValue(want, found) {
+  if (found?.base === 'Unit')
+    return 'a print, a send, `spawn` and `free` give no value: what is to be given stands behind them, print(x); x';
+  if (want?.base === 'Bool' && found?.base === 'Int') return 'compare it: x == 0, or 0 < x';
+  const texts = new Set([want?.base, found?.base]);
+  return texts.has('Int') && texts.has('String') ? 'a number isn\'t made a text, nor a text a number' : null;
 }
 function wrongMain(place, program) {
   const main = program.functions.get('main');
@@ -95,7 +109,7 @@ function askedOfTerm(names, place) {
   }
   for (let one = term; one; one = one.up) {
     const asked = one.up ? askedFromAround(one, found) : askedByFunction(one.def, found);
-    if (asked !== undefined) return asked;
+    if (asked !== undefined) return asked && { ...asked, term };
   }
   return null;
 }

@@ -3,19 +3,38 @@
 import { within } from '../names.js';
 import { code, mark, nearest, plural, NAMES } from './say.js';
 
-export function unknownName({ source, place, program, names }) {
-  if (place.a >= source.bytes.length) return {
-    headline: 'the program has no `main`', notes: ['a program begins at the function `main`, without parameters and of kind Unit'],
-    hints: ['def main(): Unit { .. }'], doc: NAMES,
-  };
-  const name = source.slice(place), scope = names.inScope(place.a);
-  const guess = nearest(name, [...scope.map(one => one.name), ...program.functions.keys(), ...program.interfaces.keys()]);
-  const binder = scope.findLast(one => one.name === guess), ended = names.binders.findLast(one => one.name === name);
+export function unknownName(context) {
+  const { source, place, program, names } = context;
+  if (place.a >= source.bytes.length) return withoutMain(program);
+  const name = source.slice(place), kind = kindOfName(place, program, names), scope = names.inScope(place.a);
+  const known = { function: program.functions.keys(), interface: program.interfaces.keys(), variable: scope.map(one => one.name) }[kind];
+  const guess = nearest(name, [...known]), binder = scope.findLast(one => kind === 'variable' && one.name === guess);
+  const ended = names.binders.findLast(one => one.name === name);
   const elsewhere = ended && mark(ended, `a ${code(name)} is bound here, and is known in its own body alone`);
   return {
     headline: `${code(name)} isn't known here`,
     marks: [mark(place, 'no such name is in scope', true), binder ? mark(binder, `${code(guess)} is bound here`) : elsewhere],
-    hints: [guess && `did you mean ${code(guess)}?`], doc: NAMES,
+    hints: [guess ? `did you mean ${code(guess)}?` : hintOfUnknown(name, kind)], doc: NAMES,
+  };
+}
+/** Of what the name at a place has to be one: 'function', 'interface' or 'variable'. */
+function kindOfName(place, program, names) {
+  const term = names.terms.find(one => one.k === 'call' && one.name.a === place.a || one.k === 'new' && one.of.a === place.a);
+  if (term) return term.k === 'call' ? 'function' : 'interface';
+  return typeAround(place, program) ? 'interface' : 'variable';
+}
+function hintOfUnknown(name, kind) {
+  if (kind === 'function') return `a function is declared by def ${name}(..): Unit { .. }`;
+  if (kind === 'interface') return `an interface is declared by interface ${name} { .. }`;
+  return /^(self|this|me)$/.test(name) ? `an actor's mailbox is a parameter like any other: def f(${name}: I?): Unit { .. }`
+    : `a name is bound by \`let\`, by a clause, or as a parameter of its function: def f(${name}: ..)`;
+}
+function withoutMain(program) {
+  const guess = nearest('main', [...program.functions.keys()]), meant = guess && program.functions.get(guess).name;
+  return {
+    headline: 'the program has no `main`', marks: [meant && mark(meant, 'is this meant?', true)],
+    notes: ['a program begins at the function `main`, without parameters and of kind Unit'],
+    hints: [guess ? `give ${code(guess)} the name \`main\`` : 'def main(): Unit { .. }'], doc: NAMES,
   };
 }
 
@@ -88,16 +107,17 @@ export function twice(context) {
     ?? names.terms.filter(term => term.k === 'guard').map(term => twiceInGuard(context, term)).find(Boolean);
   return found ?? second(context, code(context.source.slice(context.place)), null);
 }
-function second({ place }, what, first) {
+function second({ place }, what, first, hints = []) {
   const marks = [mark(place, '', true), first && mark(first, 'the first one is here')];
-  return { headline: `${what} stands a second time`, marks, doc: NAMES };
+  return { headline: `${what} stands a second time`, marks, hints, doc: NAMES };
 }
 function twiceDeclared(context, one) {
   const { place, program } = context, name = context.source.slice(place), here = node => node.a === place.a;
   const before = all => all.find(node => node.text === name && node.a < place.a);
   if (here(one.name)) {
     const all = program.declarations.filter(other => other.k === one.k).map(other => other.name);
-    return second(context, `the ${one.k === 'def' ? 'function' : 'interface'} ${code(name)}`, before(all));
+    const hints = one.k === 'def' ? ['functions of one name aren\'t told apart by what they take: take another name'] : [];
+    return second(context, `the ${one.k === 'def' ? 'function' : 'interface'} ${code(name)}`, before(all), hints);
   }
   const inside = (one.k === 'def' ? one.parameters : one.messages).map(part => part.name);
   if (!inside.some(here)) return null;
@@ -109,11 +129,14 @@ function twiceInGuard(context, guard) {
   for (const clause of guard.clauses) {
     if (clause.a === place.a) {
       const first = guard.clauses.find(other => other.k === clause.k && other.tag?.text === clause.tag?.text);
-      return second(context, clause.tag ? `a clause for ${code(clause.tag.text)}` : `the clause ${code(clause.k)}`, first);
+      const hints = clause.tag ? ['one clause takes each such message: choose behind -> by an `if`'] : [];
+      return second(context, clause.tag ? `a clause for ${code(clause.tag.text)}` : `the clause ${code(clause.k)}`, first, hints);
     }
     const all = clause.k === 'receive' ? [...clause.names, clause.from] : [];
-    if (all.some(node => node.a === place.a))
-      return second(context, `in one clause, the name ${code(name)}`, all.find(node => node.text === name && node.a < place.a));
+    if (!all.some(node => node.a === place.a)) continue;
+    const first = all.find(node => node.text === name && node.a < place.a);
+    const hints = name === '_' ? ['`_` is a name like any other: give each value one of its own, _a and _b'] : [];
+    return second(context, `in one clause, the name ${code(name)}`, first, hints);
   }
   return null;
 }

@@ -1,4 +1,4 @@
-// How a run stands that isn't done: `waiting`, `full`, `budget`, and the `open` of a replay.
+// How a run stands that isn't done: `waiting`, `full`, `budget`, and the `open` of a replay; and one that is, with mailboxes left.
 
 import { parsePattern } from '../parse.js';
 import { waitingCircle } from '../step.js';
@@ -7,14 +7,22 @@ import { and, chapter, mark, plural, LANGUAGE } from './say.js';
 
 const RUNNING = 'docs/RUNNING.md';
 
-/** The outcome of a run as an explanation; `run` is from step.js. Null for one that is done. */
+/** The outcome of a run as an explanation; `run` is from step.js. Null for one that is done and leaves no mailbox. */
 export function explainOutcome(run) {
-  const [kind, steps] = (run.outcome ?? '').split(' '), make = OUTCOMES[kind];
+  const [kind, steps] = (run.outcome ?? '').split(' '), make = kind === 'done' && !run.boxes.length ? null : OUTCOMES[kind];
   return make ? { kind, rule: null, verdict: run.outcome, marks: [], notes: [], hints: [], ...make(Number(steps), run) } : null;
 }
 
 const HINT_OF_FREE = 'a guard with `free` goes on when nobody else knows the mailbox: let those who only wait not keep a right to it';
 const OUTCOMES = {
+  done: (steps, { boxes }) => ({
+    headline: `after ${plural(steps, 'step')} all threads ended, and ${plural(boxes.length, 'mailbox', 'mailboxes')} `
+      + `${boxes.length === 1 ? 'is' : 'are'} left`,
+    notes: [`no thread is there any more that could receive: ${andOthers(boxes.map(holds), 'mailbox')}`,
+      'types don\'t rule this out where a message brings the right to receive, I?m: it may lie in a mailbox that nobody has'],
+    hints: ['spawn a thread with the mailbox instead of sending the right to receive from it'],
+    doc: chapter(LANGUAGE, 'What types don\'t say'),
+  }),
   waiting: (steps, run) => ({
     headline: run.threads.length === 1 ? `after ${plural(steps, 'step')} the thread that is left waits for ever`
       : `after ${plural(steps, 'step')} the ${run.threads.length} threads that are left wait, and nobody can go on`,
@@ -62,6 +70,7 @@ function andOthers(told, one) {
 }
 /** Whether a thread waits where nothing need come. */
 const mayBeEmpty = one => one.pattern !== undefined && smallWords(parsePattern(one.pattern), 0).length > 0;
+const holds = ({ name, pending }) => pending.length ? `${name} holds ${and(pending)}` : `${name} is empty`;
 const inIt = ({ pending }) => pending.length ? `in it: ${pending.join(', ')}` : 'nothing is in it';
 const called = one => `thread ${one.thread}, ${one.name},`;
 const standsAt = one => one.mailbox ? `${called(one)} waits at ${one.mailbox} : ${one.pattern}; ${inIt(one)}`

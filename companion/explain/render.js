@@ -7,8 +7,8 @@ export const COLOURS = painters(style => text => `\x1b[${style}m${text}\x1b[0m`)
 
 const WIDTH = 130;                        // columns of the program's lines
 // How a run stands is no error, and neither is what `pat` can't tell.
-const TITLES = { waiting: 'waiting', budget: 'budget', full: 'full', open: 'open', undecided: 'can\'t tell', unusable: 'can\'t tell',
-  'too large': 'can\'t tell' };
+const TITLES = { done: 'done', waiting: 'waiting', budget: 'budget', full: 'full', open: 'open', undecided: 'can\'t tell',
+  unusable: 'can\'t tell', 'too large': 'can\'t tell' };
 
 export function render(source, explanation, { colours = false, width = WIDTH } = {}) {
   const { marks, kind, rule, headline, notes, hints, doc } = explanation, c = colours ? COLOURS : PLAIN;
@@ -64,15 +64,17 @@ class Excerpt {
     for (const one of end) out.push(this.closing(one));
     return out;
   }
-  /** Columns that are left out of a long line, so that its marks are seen. */
+  /** Columns that are left out of a long line, so that its marks are seen; where not all can be, the one that counts. */
   leftOf(marks) {
-    const BEFORE = 24, BEHIND = 20;
-    if (!marks.length || Math.max(...marks.map(one => one.from)) <= this.width - BEHIND) return 0;
-    return Math.max(0, Math.min(...marks.map(one => one.from)) - BEFORE);
+    const BEFORE = 24, BEHIND = 20, columns = marks.map(one => one.from), fits = left => Math.max(...columns) - left <= this.width - BEHIND;
+    if (!marks.length || fits(0)) return 0;
+    const left = Math.min(...columns) - BEFORE, main = marks.find(one => one.primary)?.from ?? Math.max(...columns);
+    return Math.max(0, fits(left) ? left : main - Math.floor(this.width / 2));
   }
   under(one, text, left) {
     const shift = left ? CUT.length : 0, column = one.from - left + shift, sign = one.primary ? '^' : '-', tint = this.tint(one);
-    if (this.long.includes(one)) return this.row('', this.opening(one), tint('_'.repeat(column) + sign));
+    if (this.long.includes(one)) return this.row('', this.opening(one), tint('_'.repeat(Math.max(0, column)) + sign));
+    if (column < shift || column > this.width) return this.row('', this.bars(one.line), tint(`column ${one.from + 1}: ${one.label}`));
     const end = Math.min(one.to, [...text].length, left + this.width), label = one.label ? ' ' + one.label : '';
     return this.row('', this.bars(one.line), ' '.repeat(column) + tint(sign.repeat(Math.max(1, end - one.from)) + label));
   }

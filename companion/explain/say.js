@@ -13,7 +13,7 @@ export const code = text => '`' + text + '`';
 
 const NUMBERS = ['no', 'one', 'two', 'three', 'four', 'five', 'six', 'seven', 'eight'];
 export const number = count => NUMBERS[count] ?? count.toLocaleString('en');
-export const plural = (count, one) => `${count.toLocaleString('en')} ${one}${count === 1 ? '' : 's'}`;
+export const plural = (count, one, more = one + 's') => `${count.toLocaleString('en')} ${count === 1 ? one : more}`;
 const listed = (parts, last) => parts.length < 2 ? parts.join('') : parts.slice(0, -1).join(', ') + last + parts.at(-1);
 export const and = parts => listed(parts, ' and ');
 export const or = parts => listed(parts, ' or ');

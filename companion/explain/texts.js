@@ -16,7 +16,7 @@ export function syntax({ source, programSource, place, problem }) {
   const before = tokens.findLast(one => one.z <= place.a && one.type !== 'end');
   const rest = source.slice({ a: place.a, z: Math.min(place.a + 8, source.bytes.length) }), first = [...rest][0] ?? '';
   const wanted = bad === null && problem?.offset === place.a ? expectation(problem.expected) : null;
-  const open = end ? unclosed(tokens) : null;
+  const open = end ? unclosed(tokens) : token && lacking(tokens, token, problem?.expected ?? []);
   const behind = Math.min(place.a + sizeInBytes(first), source.bytes.length);
   const at = end ? before ?? { a: 0, z: 0 } : token ?? { a: place.a, z: behind };
   return {
@@ -27,7 +27,7 @@ export function syntax({ source, programSource, place, problem }) {
     doc: bad === null ? GRAMMAR : chapter(LANGUAGE, 'Tokens'),
   };
 }
-const CLOSING = { '(': ')', '[': ']', '{': '}' };
+const CLOSING = { '(': ')', '[': ']', '{': '}' }, BEGINS = new Set(['def', 'interface']);
 /** The innermost opening bracket without its closing one. */
 function unclosed(tokens) {
   const open = [];
@@ -37,6 +37,12 @@ function unclosed(tokens) {
   }
   return open.at(-1) ?? null;
 }
+/** The bracket that should have been closed before a token: a brace where a declaration begins, another where a step or its block ends. */
+function lacking(tokens, token, expected) {
+  const open = unclosed(tokens.filter(one => one.z <= token.a));
+  if (open?.text === '{') return BEGINS.has(token.text) && expected.includes('`}`') ? open : null;
+  return ['}', ';'].includes(token.text) ? open : null;
+}
 function headline({ end, bad, first, token }) {
   if (end) return 'the text ends too early';
   if (bad === null) return `unexpected ${code(token?.text ?? first)}`;
@@ -45,10 +51,10 @@ function headline({ end, bad, first, token }) {
 }
 function hint({ rest, before, token, problem }) {
   const expected = problem?.expected ?? [], isName = expected.some(one => NAMED.has(one));
-  if (token?.type === 'word' && isName) return `${code(token.text)} is a reserved word, and can't be a name`;
   if (!token && rest.startsWith('"')) return 'a string ends on its own line; in it `\\` stands before `"` and `\\` alone';
   const habit = habitHint({ rest, here: token?.text, before: before?.text, expected });
   if (habit) return habit;
+  if (token?.type === 'word' && isName) return `${code(token.text)} is a reserved word, and can't be a name`;
   if (expected.includes('`;`') && token?.type !== 'mark') return 'if another step begins here, a `;` is missing before it';
   return null;
 }

@@ -158,9 +158,17 @@ function polarityOfName({ binder, names }) {
   return {
     headline: `${code(name)} is a right to ${is}, and is used as one to ${used}`,
     marks: [mark(from ? binder : kind, label, !other), other && mark(other, did(other), true),
-      what === 'payload' ? mark(binder, `it came in ${tag}`) : null],
-    hints: from ? ['it may be sent to as well, but in the end it has to be received from or freed'] : hintsOfPolarity(binder, other),
+      what === 'payload' ? mark(binder, `it came in ${tag}`) : null, from && receiverWithout(other, names)?.mark],
+    hints: from ? [receiverWithout(other, names)?.hint
+      ?? 'it may be sent to as well, but in the end it has to be received from or freed'] : hintsOfPolarity(binder, other),
   };
+}
+/** Where a right goes to a parameter that is declared to send, and is received from: that is what to mend; else null. */
+function receiverWithout(use, names) {
+  const type = use?.parameter?.type, binder = type?.mark === '!' && names.binders.find(one => one.parameter === use.parameter);
+  if (!binder || !names.usesOf(binder).some(one => one.mark === '?')) return null;
+  return { mark: mark(type, 'declared as a right to send, though it is received from'),
+    hint: `write ${binder.name}: ${type.interface}? in ${use.callee}, which receives from it` };
 }
 function hintsOfPolarity({ kind, name }, other) {
   if (kind.mark === '?') return [`write ${kind.interface}! there, or receive from ${code(name)} in the end, by a guard, a call or a spawn`];

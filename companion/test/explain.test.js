@@ -11,7 +11,7 @@ import { main } from '../cli.js';
 import { filesIn, isReadable, madeAtRandom, pat, programs } from './programs.js';
 
 // How the runs among the answers are made; the others are explained.
-const RUNS = { waiting: ['run', '--quiet'], budget: ['run', '--quiet'], full: ['run', '--quiet', '--messages', '3'] };
+const QUIET = ['run', '--quiet'], RUNS = { waiting: QUIET, budget: QUIET, left: QUIET, full: [...QUIET, '--messages', '3'] };
 const ANSWERS = 'companion/test/answers';
 async function written(words) {
   let text = '';

@@ -40,6 +40,13 @@ test('what is left behind a message, and small words', () => {
   assert.deepEqual(smallWords(parsePattern('*(a.b) + c'), 2), [[], ['c'], ['a', 'b']]);
 });
 
+test('a pattern in few words', () => {
+  const simple = text => spellPattern(simplify(parsePattern(text)));
+  assert.equal(simple('(m + n).*(m + n) + 1'), '*m.*n');
+  assert.equal(simple('1 + m.n.*(m.n)'), '*(m.n)');
+  assert.equal(simple('m.*m'), 'm.*m');
+});
+
 test('simplified patterns have the same words, and every function has its line', () => {
   for (const { name, bytes } of accepted) {
     const program = parse(new Source(bytes)), { text } = pat(['derive'], bytes);

@@ -1,38 +1,29 @@
-// Runs a program of pat on several Erlang nodes. `pat check` says before that the program is safe, and `pat replay` says
-// afterwards whether what is left of the run is a run of the program, what it printed and how it stands. What is decided here is
-// how the nodes are started, that the lines which were shown are those that `pat replay` says, and the exit status.
+// Runs a program of pat on several Erlang nodes. `pat check` says before that the program is safe, and `pat replay` says, piece by
+// piece, whether what is left of the run is a run of the program, what it printed and how it stands. What is decided here is how the
+// nodes are started, that the lines which were shown are those that `pat replay` says (record.js), and the exit status.
 import { spawnSync } from 'node:child_process';
 import { chmodSync, existsSync, mkdirSync, mkdtempSync, readFileSync, readdirSync, renameSync, rmSync, statSync, writeFileSync }
   from 'node:fs';
 import { randomBytes } from 'node:crypto';
 import { tmpdir } from 'node:os';
-import { dirname, join, resolve } from 'node:path';
-import { fileURLToPath } from 'node:url';
+import { join, resolve } from 'node:path';
 import { parse, Source } from '../../companion/parse.js';
 import { Front } from './front.js';
 import { USAGE, options } from './options.js';
+import { OTP, pat } from './pat.js';
+import { Record, Text } from './record.js';
 import { Translation } from './translate.js';
 import { Nodes, areLoopback, hostNodes, localNodes } from './nodes.js';
 import { certificates } from './tls.js';
 
-const HERE = dirname(fileURLToPath(import.meta.url)), OTP = dirname(HERE), ROOT = dirname(OTP);
 /** Standard output is for lines of the program alone. */
 const LOGGER = '{kernel, [{logger, [{handler, default, logger_std_h, #{config => #{type => standard_error}}}]}]}';
 /** The module that the nodes run, below their folder. */
 const PROGRAM = 'program.erl';
-/** What \`pat replay\` takes: program and history together. */
-const MOST_BYTES = 67_108_864;
 const STATUS = { done: 0, refused: 1, usage: 2, unread: 3, unwritten: 4, machine: 5, budget: 6, waiting: 7, full: 8, lost: 10 };
 
 class Problem extends Error { constructor(status, message) { super(message); this.status = status; } }
 const say = text => process.stderr.write(`pat-otp: ${text}\n`);
-
-const patProgram = () => process.env.PAT ?? join(ROOT, 'pat');
-function pat(words, input) {
-  const done = spawnSync(patProgram(), words, { input, maxBuffer: 2 * MOST_BYTES, stdio: ['pipe', 'pipe', 'inherit'] });
-  if (done.error) throw new Problem(STATUS.machine, `${patProgram()}: ${done.error.message}`);
-  return { status: done.status, text: done.stdout };
-}
 
 /** The folder of the compiled runtime, which is made where a source is newer. (Tests name another one.) */
 function runtime() {
@@ -54,14 +45,13 @@ function runtime() {
 }
 
 /** The program and the nodes' words, in a folder that this user alone may read. */
-function prepare(folder, source, program, { nodes, steps, messages, spread }) {
+function prepare(folder, program, { nodes, steps, messages, piece, spread }) {
   writeFileSync(join(folder, '.erlang.cookie'), randomBytes(24).toString('hex'));
   chmodSync(join(folder, '.erlang.cookie'), 0o400);
   writeFileSync(join(folder, PROGRAM), new Translation(program).module('program'));
   const names = nodes.slice(1).map(({ name }) => `'${name}'`).join(', ');
-  const bytes = MOST_BYTES - source.bytes.length - '\n%%history\n'.length;
   const words = `{role, head}, {nodes, [${names}]}, {folder, "."}, {program, "program"}, {steps, ${steps}}, {messages, ${messages}}, `
-    + `{bytes, ${bytes}}, {spread, ${spread}}`;
+    + `{piece, ${piece}}, {spread, ${spread}}`;
   writeFileSync(join(folder, 'head.config'), `[{pat_otp, [${words}]}, ${LOGGER}].\n`);
   writeFileSync(join(folder, 'node.config'), `[{pat_otp, [{role, node}]}, ${LOGGER}].\n`);
 }
@@ -70,7 +60,7 @@ function prepare(folder, source, program, { nodes, steps, messages, spread }) {
 function goOnFrom(front, folder, loss) {
   say(`${loss}: the run goes on without what isn't in its history by now`);
   try {
-    front.goOn(join(folder, 'history'));
+    front.goOn(folder);
     const { text, bytes } = front.written('program');
     writeFileSync(join(folder, PROGRAM), text);
     writeFileSync(join(folder, 'configuration'), bytes);
@@ -81,45 +71,47 @@ function goOnFrom(front, folder, loss) {
   }
 }
 
-/** What the nodes made of it: how they say that it ended, the history and the lines that were shown. */
-async function runOn(nodes, folder, program) {
-  const shown = [], front = new Front(program);
+/** Judges what is there of the history while the run goes on, and ends the run where that isn't right. */
+async function judgeMeanwhile(record, nodes) {
+  const judged = await record.judgeWhole();
+  if (record.isWrong()) nodes.kill();
+  return `judged ${judged}`;
+}
+
+/** What the nodes made of it: how they say that it ended, how long it took, and the outcome that its history has. */
+async function runOn(nodes, folder, record) {
+  let failed = null;
   nodes.start();
-  nodes.whenAsked(loss => goOnFrom(front, folder, loss));
-  nodes.head.stdout.on('data', piece => { shown.push(piece); process.stdout.write(piece); });
+  nodes.whenAsked(line => line === 'piece' ? judgeMeanwhile(record, nodes).catch(problem => { failed = problem; nodes.kill(); })
+    : goOnFrom(record.front, folder, line));
+  nodes.head.stdout.on('data', piece => { process.stdout.write(piece); record.show(piece); });
   await nodes.ended();
   await nodes.stop();
+  if (failed) throw new Problem(STATUS.machine, failed.message);
   if (!nodes.hasBegun() && !existsSync(join(folder, 'ended'))) throw notStarted(`${nodes.fallen} ended before the run began`);
   const [ending, took, times] = existsSync(join(folder, 'ended')) ? readFileSync(join(folder, 'ended'), 'utf8').split('\n')
     : ['lost the head'];
-  const entries = nodes.hasBegun() ? readFileSync(join(folder, 'history')) : Buffer.alloc(0);
-  // (a head that is lost may leave the front of a line)
-  return { ending, took, times, entries: entries.subarray(0, entries.lastIndexOf(10) + 1), shown: Buffer.concat(shown) };
+  const [how, ...what] = ending.split(' ');
+  if (how === 'absent') throw notStarted(`the head waited in vain for ${what.join(', ')}`);
+  if (how === 'failed') throw new Problem(STATUS.machine, `the runtime failed in a thread: ${what.join(' ')}`);
+  return { ending, took, times, outcome: await record.last() };
 }
 
 const notStarted = why => new Problem(STATUS.machine, `not all nodes could be started: ${why}`);
 
-/** What `pat replay` says of it, taken apart: the lines and the outcome. */
-function judge(source, entries) {
-  const { status, text } = pat(['replay'], Buffer.concat([source.bytes, Buffer.from('\n%%history\n'), entries]));
-  const cut = text.lastIndexOf(10, text.length - 2) + 1;
-  return { status, lines: text.subarray(0, cut), outcome: text.subarray(cut).toString().trim() };
-}
-
 /** The last line and the exit status; `wrong` says what doesn't fit. */
-function conclude({ ending, shown }, judged) {
-  const refuse = wrong => ({ line: judged.outcome, status: STATUS.refused, wrong });
-  if (judged.status !== 0) return refuse('the history is no run of the program: what was shown is void');
-  const [word, steps] = judged.outcome.split(' ');
-  const isFront = judged.lines.subarray(0, shown.length).equals(shown);
-  if (!isFront || (judged.lines.length !== shown.length && !ending.startsWith('lost')))
-    return refuse('the lines that were shown aren\'t those of the history: what was shown is void');
-  if (word !== 'open') return { line: judged.outcome, status: STATUS[word] };
+function conclude({ ending, outcome }, record) {
+  const isVoid = `what was shown${record.common ? ` behind the first ${record.common} lines` : ''} is void`;
+  const refuse = wrong => ({ line: outcome, status: STATUS.refused, wrong });
+  if (record.refusal !== null) return refuse(`the history is no run of the program: ${isVoid}`);
+  if (record.differs || record.shown.length || (record.printed.length && !ending.startsWith('lost')))
+    return refuse(`the lines that were shown aren't those of the history: ${isVoid}`);
+  const [word, steps] = outcome.split(' ');
+  if (word !== 'open') return { line: outcome, status: STATUS[word] };
   if (ending === 'budget' || ending === 'full') return { line: `${ending} ${steps}`, status: STATUS[ending] };
-  if (ending === 'long')
-    return { line: judged.outcome, status: STATUS.budget, note: 'the history is as long as `pat replay` takes it: the run ends here' };
+  if (ending === 'long') return { line: outcome, status: STATUS.budget, note: 'the numbers of a history are spent: the run ends here' };
   if (ending.startsWith('lost'))
-    return { line: judged.outcome, status: STATUS.lost, note: `no node is left to go on (${ending}): this is how far the history leads` };
+    return { line: outcome, status: STATUS.lost, note: `no node is left to go on (${ending}): this is how far the history leads` };
   return refuse(`the nodes say that the run ended (${ending}), and its history is open`);
 }
 
@@ -127,7 +119,7 @@ async function main(words) {
   const given = options(words);
   if (!given) throw new Problem(STATUS.usage, USAGE);
   const source = new Source(read(given.file));
-  const checked = pat(['check'], source.bytes);
+  const checked = await pat(['check'], [source.bytes]);
   if (checked.status !== 0) { process.stdout.write(checked.text); return checked.status; }
   const nodes = given.hosts ? await hostNodes(given.hosts) : await localNodes(given.nodes);
   const tls = given.tls ?? !areLoopback(nodes);
@@ -136,20 +128,20 @@ async function main(words) {
   process.on('exit', () => { all.kill(); rmSync(folder, { recursive: true, force: true }); });
   for (const signal of ['SIGINT', 'SIGTERM', 'SIGHUP']) process.on(signal, () => process.exit(130));
   const program = parse(source);
-  prepare(folder, source, program, { ...given, nodes });
+  prepare(folder, program, { ...given, nodes });
   if (tls) certificates(folder, nodes);
-  return finish(await runOn(all, folder, program), source, given);
+  const text = given.out ? writing(() => new Text(given.out, folder)) : null;
+  // (the head and one node alone: no run goes on without that node)
+  const front = nodes.length > 2 ? new Front(program) : null;
+  const record = new Record({ folder, program: source.bytes, front, text });
+  return finish(await runOn(all, folder, record), record, given);
 }
-function finish(run, source, given) {
-  const [ending, ...what] = run.ending.split(' ');
-  if (ending === 'absent') throw notStarted(`the head waited in vain for ${what.join(', ')}`);
-  if (ending === 'failed') throw new Problem(STATUS.machine, `the runtime failed in a thread: ${what.join(' ')}`);
-  const judged = judge(source, run.entries), end = conclude(run, judged);
-  if (given.out) write(given.out, Buffer.concat([Buffer.from('%%history\n'), run.entries, Buffer.from('%%output\n'), judged.lines,
-    Buffer.from(`${end.line}\n`)]));
+async function finish(run, record, given) {
+  const end = conclude(run, record);
   // A lost head may not have shown all that its history has.
-  process.stdout.write(judged.lines.subarray(end.wrong ? judged.lines.length : run.shown.length));
+  if (!end.wrong) process.stdout.write(record.printed);
   process.stdout.write(`${end.line}\n`);
+  if (record.text) await record.text.end(end.line);
   for (const text of [end.note, end.wrong]) if (text) say(text);
   if (given.times) say(`${run.took} microseconds; milliseconds of a processor, of the head and each node: ${run.times}`);
   return end.status;
@@ -157,8 +149,8 @@ function finish(run, source, given) {
 function read(file) {
   try { return new Uint8Array(readFileSync(file)); } catch (problem) { throw new Problem(STATUS.unread, problem.message); }
 }
-function write(file, bytes) {
-  try { writeFileSync(file, bytes); } catch (problem) { throw new Problem(STATUS.unwritten, problem.message); }
+function writing(write) {
+  try { return write(); } catch (problem) { throw new Problem(STATUS.unwritten, problem.message); }
 }
 
 try { process.exitCode = await main(process.argv.slice(2)); } catch (problem) {

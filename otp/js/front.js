@@ -2,13 +2,17 @@
 // says (companion/machine.js), and threads, frames, mailboxes and messages are written for the nodes, together with a program that
 // has functions for all places in its middle that occur. It decides nothing: `pat replay` judges the whole history at the end,
 // with what came before and what comes of this.
-import { closeSync, openSync, readSync } from 'node:fs';
+import { closeSync, existsSync, openSync, readSync } from 'node:fs';
+import { join } from 'node:path';
 import { Configuration, Mailbox, look } from '../../companion/machine.js';
 import { isMailbox } from '../../companion/names.js';
 import { Atom, Tuple, bytesOf } from './terms.js';
 import { Translation } from './translate.js';
 
 const PIECE = 2 ** 20, NEWLINE = 10, NONE = new Atom('none'), UNIT = new Atom('unit');
+
+/** A piece of the history that is whole; the one that is being written has no number. */
+export const pieceFile = (folder, number) => join(folder, `history.${number}`);
 
 /** Takes the history for one: nobody looks whether a mailbox may be freed; and it keeps no lines. */
 class Trusting extends Configuration {
@@ -20,12 +24,24 @@ export class Front {
   constructor(program) {
     this.program = program;
     this.configuration = new Trusting(program);
+    this.piece = 0;
     this.read = 0;
     this.entries = 0;
   }
 
-  /** Takes the entries that were written since. */
-  goOn(file) {
+  /** Takes all entries that were written since. */
+  goOn(folder) {
+    this.takePieces(folder);
+    this.takeFrom(join(folder, 'history'));
+  }
+  /** Takes those of pieces that are whole. */
+  takePieces(folder) {
+    for (let file; existsSync(file = pieceFile(folder, this.piece)); this.piece++) {
+      this.takeFrom(file);
+      this.read = 0;
+    }
+  }
+  takeFrom(file) {
     const handle = openSync(file, 'r'), piece = Buffer.alloc(PIECE);
     try {
       for (;;) {

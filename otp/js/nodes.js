@@ -110,11 +110,13 @@ export class Nodes {
     return spawn('sh', ['-c', script, there, this.folder, this.runtime], { stdio: ['ignore', 'ignore', 'inherit'], detached: true });
   }
 
-  /** Answers each line of the head's by a line. */
+  /** Answers each line of the head's by a line, which may take a while. */
   whenAsked(answer) {
     const [,,, connection] = this.head.stdio;
-    connection.on('error', () => { /* the head is gone, which is seen otherwise */ });
-    createInterface({ input: connection }).on('line', line => connection.write(`${answer(line)}\n`));
+    const lines = createInterface({ input: connection });
+    // (where the head is gone, that is seen otherwise)
+    for (const one of [connection, lines]) one.on('error', () => {});
+    lines.on('line', async line => connection.write(`${await answer(line)}\n`));
   }
 
   /** The head's end, after which the others end by themselves; those that don't are killed. */

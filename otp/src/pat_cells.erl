@@ -1,7 +1,7 @@
 %% The numbers that all processes of a node share, in one array of atomics, and what a node knows of the run. Both are made anew
 %% for each epoch: a run begins with the first, and whenever a node is lost another one begins, on those that are left.
 -module(pat_cells).
--export([make/0, all/0, counts/0, set_run/1, run/0, epoch/0]).
+-export([make/0, all/0, keep/0, kept/0, counts/0, set_run/1, run/0, epoch/0]).
 -export_type([counts/0, run/0, epoch/0]).
 -include("pat_otp.hrl").
 
@@ -16,6 +16,15 @@ make() -> persistent_term:put(?MODULE, atomics:new(?CELLS, [{signed, true}])).
 
 -spec all() -> atomics:atomics_ref().
 all() -> persistent_term:get(?MODULE).
+
+%% A thread, which needs them at each act and doesn't outlive its epoch, keeps them in its process dictionary.
+-spec keep() -> ok.
+keep() ->
+    put(cells, all()),
+    ok.
+
+-spec kept() -> atomics:atomics_ref().
+kept() -> get(cells).
 
 %% The order of reading matters: whoever is seen idle here has added what it took before (pat_rest).
 -spec counts() -> counts().

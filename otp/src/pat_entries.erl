@@ -1,80 +1,103 @@
 %% What a thread notes of its acts. An entry has a Lamport stamp; entries stay with the thread until the log's turn changes or
-%% the thread waits for long, and then go to the node's log together (pat_log).
+%% the thread waits for long, and then go to the node's log together (pat_log), packed as one list of numbers, which is quick to copy.
 %%
 %% Of a turn the thread opens its part before the first entry and closes it when its entries are on their way; so the log knows
-%% when all entries of a turn have come. Kept in the process dictionary: `clock`, `steps` (local ones since the last entry),
-%% `thread`, `turn` (or none) and `entries` (newest first; with a turn there is one at least).
+%% when all entries of a turn have come. Kept in the process dictionary: `thread`, and as one term `noted`, since it changes with
+%% each act.
 -module(pat_entries).
--export([begin_thread/2, spend/1, note/3, note_steps/0, close/0, clock/0]).
--export_type([stamp/0, thread/0, act/0, entry/0]).
+-export([begin_thread/2, spend/1, note/3, note_steps/0, close/0, clock/0, newest/1, unpacked/1]).
+-export_type([stamp/0, thread/0, act/0, entry/0, packed/0]).
 -include("pat_otp.hrl").
 
 -type stamp() :: non_neg_integer().
 -type thread() :: non_neg_integer().
 -type act() :: none | new | send | free | 'end' | {spawn, thread()} | {print, binary()} | {'receive', thread(), non_neg_integer()}.
 -type entry() :: {stamp(), thread(), non_neg_integer(), act()}.
+%% A thread, and its entries, the newest first: each is a number of its stamp, steps and act, and behind it what the act has besides.
+-type packed() :: [thread() | non_neg_integer() | binary(), ...].
+
+%% Where a packed entry has its steps and its stamp; what it has below is the act.
+-define(STEPS, 3).
+-define(STAMP, 12).
+-define(NONE, 0).
+-define(NEW, 1).
+-define(SEND, 2).
+-define(FREE, 3).
+-define(END, 4).
+-define(SPAWN, 5).
+-define(PRINT, 6).
+-define(RECEIVE, 7).
+
+%% `turn` is the one in which the thread has its part open (there is one entry at least then); `steps` are local ones since the last
+%% entry, which has the stamp `clock`.
+-record(noted, {turn = none :: none | non_neg_integer(), clock :: stamp(), steps = 0 :: non_neg_integer(),
+                entries = [] :: [non_neg_integer() | binary()]}).
 
 -spec begin_thread(thread(), stamp()) -> ok.
 begin_thread(Thread, Stamp) ->
-    put(thread, Thread), put(clock, Stamp), put(steps, 0), put(turn, none), put(entries, []),
+    put(thread, Thread), put(noted, #noted{clock = Stamp}),
     ok.
 
 -spec clock() -> stamp().
-clock() -> get(clock).
+clock() -> #noted{clock = Clock} = get(noted), Clock.
 
 %% Local steps are taken. Says whether an entry had to be made for them.
 -spec spend(non_neg_integer()) -> noted | counted.
+spend(0) -> counted;
 spend(Steps) ->
-    case get(steps) + Steps of
-        All when All < ?PORTION -> put(steps, All), counted;
-        All -> put(steps, portions(All)), noted
+    #noted{steps = Before} = Noted = get(noted),
+    case Before + Steps of
+        All when All < ?PORTION -> put(noted, Noted#noted{steps = All}), counted;
+        All ->
+            {Left, Next} = portions(All, Noted),
+            put(noted, Next#noted{steps = Left}),
+            noted
     end.
 
-%% As many entries as there are portions; the steps that are left.
-portions(Steps) when Steps >= ?PORTION ->
-    _ = entry(0, ?PORTION, none),
-    portions(Steps - ?PORTION);
-portions(Steps) -> Steps.
+%% As many entries as there are portions in these steps; the steps that are left.
+portions(Steps, Noted) when Steps >= ?PORTION -> portions(Steps - ?PORTION, entry(0, ?PORTION, none, Noted));
+portions(Steps, Noted) -> {Steps, Noted}.
 
 %% An entry for these local steps, with those that were counted before, and the act: behind the thread's last entry and behind
 %% the given stamp. Its own stamp.
 -spec note(stamp(), non_neg_integer(), act()) -> stamp().
 note(After, Steps, Act) ->
-    case put(steps, 0) + Steps of
-        All when All < ?PORTION -> entry(After, All, Act);
-        All -> entry(After, portions(All), Act)
-    end.
+    #noted{steps = Before} = Noted = get(noted),
+    {All, Rest} = portions(Before + Steps, Noted),
+    #noted{clock = Stamp} = Next = entry(After, All, Act, Rest),
+    put(noted, Next),
+    Stamp.
 
 %% Those that were counted, where there are any.
 -spec note_steps() -> ok.
 note_steps() ->
-    case get(steps) of
-        0 -> ok;
+    case get(noted) of
+        #noted{steps = 0} -> ok;
         _ -> _ = note(0, 0, none), ok
     end.
 
-entry(After, Steps, Act) ->
-    case atomics:get(pat_cells:all(), ?TURN) =:= get(turn) of
-        true -> ok;
-        false -> close(), open()
-    end,
-    Stamp = max(get(clock), After) + 1,
-    put(clock, Stamp),
-    put(entries, [{Stamp, get(thread), Steps, Act} | get(entries)]),
-    Stamp.
+%% With this entry more, and no steps.
+entry(After, Steps, Act, Noted) ->
+    #noted{clock = Clock, entries = Entries} = Open = opened(Noted),
+    Stamp = max(Clock, After) + 1,
+    Open#noted{clock = Stamp, steps = 0, entries = packed(Stamp, Steps, Act, Entries)}.
 
-open() ->
-    Cells = pat_cells:all(),
-    Turn = atomics:get(Cells, ?TURN),
+%% With its part open in the turn that it is.
+opened(#noted{turn = Turn} = Noted) ->
+    Cells = pat_cells:kept(),
+    case atomics:get(Cells, ?TURN) of
+        Turn -> Noted;
+        Now -> open(Now, Cells, closed(Noted))
+    end.
+
+open(Turn, Cells, #noted{clock = Clock} = Noted) ->
     atomics:add(Cells, ?OPEN(Turn), 1),
     case atomics:get(Cells, ?TURN) of
-        Turn when Turn band 1 =:= 0 ->
-            put(turn, Turn),
-            put(clock, max(get(clock), atomics:get(Cells, ?FLOOR)));
+        Turn when Turn band 1 =:= 0 -> Noted#noted{turn = Turn, clock = max(Clock, atomics:get(Cells, ?FLOOR))};
         Other ->
             atomics:sub(Cells, ?OPEN(Turn), 1),
             pause(Other band 1),
-            open()
+            open(atomics:get(Cells, ?TURN), Cells, Noted)
     end.
 
 %% The entries of this node are too far ahead of the history.
@@ -83,10 +106,51 @@ pause(1) -> receive after 1 -> ok end.
 
 -spec close() -> ok.
 close() ->
-    case get(turn) of
-        none -> ok;
-        Turn ->
-            put(turn, none),
-            pat_log ! {entries, put(entries, [])},
-            atomics:sub(pat_cells:all(), ?OPEN(Turn), 1)
+    case get(noted) of
+        #noted{turn = none} -> ok;
+        Noted -> put(noted, closed(Noted)), ok
     end.
+
+closed(#noted{turn = none} = Noted) -> Noted;
+closed(#noted{turn = Turn, entries = Entries} = Noted) ->
+    pat_log ! {entries, [get(thread) | Entries]},
+    atomics:sub(pat_cells:kept(), ?OPEN(Turn), 1),
+    Noted#noted{turn = none, entries = []}.
+
+%% ---- packed entries
+
+packed(Stamp, Steps, Act, Rest) ->
+    Front = Stamp bsl ?STAMP bor (Steps bsl ?STEPS),
+    case Act of
+        send -> [Front bor ?SEND | Rest];
+        {'receive', From, Number} -> [Front bor ?RECEIVE, From, Number | Rest];
+        none -> [Front bor ?NONE | Rest];
+        new -> [Front bor ?NEW | Rest];
+        free -> [Front bor ?FREE | Rest];
+        {spawn, Thread} -> [Front bor ?SPAWN, Thread | Rest];
+        {print, Text} -> [Front bor ?PRINT, Text | Rest];
+        'end' -> [Front bor ?END | Rest]
+    end.
+
+%% The greatest stamp.
+-spec newest(packed()) -> stamp().
+newest([_, Word | _]) -> Word bsr ?STAMP.
+
+%% The entries by their stamps.
+-spec unpacked(packed()) -> [entry()].
+unpacked([Thread | Words]) -> unpacked(Words, Thread, []).
+
+unpacked([], _, Entries) -> Entries;
+unpacked([Word | Words], Thread, Entries) ->
+    {Act, Rest} = act(Word band (1 bsl ?STEPS - 1), Words),
+    Steps = (Word bsr ?STEPS) band (1 bsl (?STAMP - ?STEPS) - 1),
+    unpacked(Rest, Thread, [{Word bsr ?STAMP, Thread, Steps, Act} | Entries]).
+
+act(?SEND, Rest) -> {send, Rest};
+act(?RECEIVE, [From, Number | Rest]) -> {{'receive', From, Number}, Rest};
+act(?NONE, Rest) -> {none, Rest};
+act(?NEW, Rest) -> {new, Rest};
+act(?FREE, Rest) -> {free, Rest};
+act(?SPAWN, [Thread | Rest]) -> {{spawn, Thread}, Rest};
+act(?PRINT, [Text | Rest]) -> {{print, Text}, Rest};
+act(?END, Rest) -> {'end', Rest}.

@@ -1,25 +1,32 @@
 %% The history: numbers threads and messages in the order of the final entries, writes an entry a line, and then shows the lines
 %% that these entries print. So nothing is shown that the history doesn't have, whatever is lost afterwards: it stays where an epoch
-%% ends, and the next one goes on behind it. It ends where the budget of steps is spent, or the next line would make it longer than
-%% it may be.
+%% ends, and the next one goes on behind it. It ends where the budget of steps or the numbers are spent.
+%%
+%% It is written piece by piece, each to a file of its own, so that each can be judged while the run goes on, and be let go. Where
+%% judging is behind by some pieces, nodes aren't told any more what is written, and soon hold their threads back (pat_log).
 -module(pat_history).
 -behaviour(gen_server).
--export([start_link/0, begin_run/1, begin_epoch/3, write/2, finish/0, has_ended/0, places/0]).
+-export([start_link/0, begin_run/1, begin_epoch/3, write/2, judged/1, finish/0, has_ended/0, places/0]).
 -export([init/1, handle_call/3, handle_cast/2]).
 -export_type([limits/0]).
 -include("pat_otp.hrl").
 
-%% No line of a history is longer.
--define(LONGEST, 64).
+%% So many threads, mailboxes or messages may be made: a checkpoint has no greater number.
+-define(NUMBERS, 4000000000).
+%% So many pieces may be there and not be judged.
+-define(UNJUDGED, 4).
 
--type limits() :: #{file := file:filename(), steps := non_neg_integer(), bytes := non_neg_integer()}.
+%% The file of the piece that is being written, and how many entries a piece has; a whole one has its number behind that name.
+-type limits() :: #{file := file:filename(), steps := non_neg_integer(), piece := pos_integer()}.
 
--record(state, {file :: undefined | file:io_device(), nodes = [] :: [node()], steps = 0 :: integer(), bytes = 0 :: integer(),
-                ended = false :: boolean(),
+-record(state, {name = "" :: file:filename(), file :: undefined | file:io_device(), nodes = [] :: [node()],
+                steps = 0 :: integer(), size = 1 :: pos_integer(), entries = 0 :: non_neg_integer(),
+                whole = 0 :: non_neg_integer(), judged = 0 :: non_neg_integer(), ended = false :: boolean(),
                 threads = #{} :: #{pat_entries:thread() => {Number :: non_neg_integer(), Front :: binary()}},
-                named = 1 :: pos_integer(), messages = #{} :: #{{pat_entries:thread(), non_neg_integer()} => non_neg_integer()},
+                named = 1 :: pos_integer(), made = 0 :: non_neg_integer(), messages = #{} :: #{{pat_entries:thread(), non_neg_integer()} => non_neg_integer()},
                 sends = #{} :: #{pat_entries:thread() => non_neg_integer()}, sent = 0 :: non_neg_integer(),
-                received = 0 :: non_neg_integer(), lines = [] :: iolist(), shown = [] :: iolist()}).
+                received = 0 :: non_neg_integer(), lines = [] :: iolist(), shown = [] :: iolist(),
+                written = 0 :: pat_entries:stamp()}).
 
 -spec start_link() -> {ok, pid()} | ignore | {error, term()}.
 start_link() -> gen_server:start_link({local, ?MODULE}, ?MODULE, [], [{spawn_opt, [{message_queue_data, off_heap}]}]).
@@ -34,6 +41,10 @@ begin_epoch(Nodes, Threads, Messages) -> gen_server:call(?MODULE, {begin_epoch, 
 %% These are the entries up to the stamp that weren't written before.
 -spec write(pat_entries:stamp(), [pat_entries:entry()]) -> ok.
 write(Stamp, Entries) -> gen_server:cast(?MODULE, {write, Stamp, Entries}).
+
+%% So many pieces of it were judged by now.
+-spec judged(non_neg_integer()) -> ok.
+judged(Count) -> gen_server:cast(?MODULE, {judged, Count}).
 
 %% All that came before is written and shown.
 -spec finish() -> ok.
@@ -51,11 +62,10 @@ init([]) -> {ok, #state{}}.
 
 -spec handle_call({begin_run, limits()} | {begin_epoch, [node()], list(), list()} | finish | has_ended | places,
                   gen_server:from(), #state{}) -> {reply, term(), #state{}}.
-handle_call({begin_run, #{file := Name, steps := Steps, bytes := Bytes}}, _, _) ->
-    {ok, File} = file:open(Name, [write, raw, binary]),
+handle_call({begin_run, #{file := Name, steps := Steps, piece := Size}}, _, _) ->
     % Lines are bytes, and go out as they are.
     ok = io:setopts(user, [{encoding, latin1}]),
-    {reply, ok, #state{file = File, steps = Steps, bytes = Bytes}};
+    {reply, ok, begin_piece(#state{name = Name, steps = Steps, size = Size})};
 handle_call({begin_epoch, Nodes, Threads, Messages}, _, State) ->
     Pending = maps:from_list([{{?SENT_BEFORE, Message}, Message} || Message <- Messages]),
     Empty = State#state{nodes = Nodes, threads = #{}, messages = Pending, sends = #{}},
@@ -65,18 +75,39 @@ handle_call(has_ended, _, #state{ended = Ended} = State) -> {reply, Ended, State
 handle_call(places, _, #state{threads = Threads} = State) ->
     {reply, maps:from_list([{Number, pat_place:of_thread(Thread)} || {Thread, {Number, _}} <- maps:to_list(Threads)]), State}.
 
--spec handle_cast({write, pat_entries:stamp(), [pat_entries:entry()]}, #state{}) -> {noreply, #state{}}.
+-spec handle_cast({write, pat_entries:stamp(), [pat_entries:entry()]} | {judged, non_neg_integer()}, #state{}) ->
+          {noreply, #state{}}.
 handle_cast(_, #state{ended = true} = State) -> {noreply, State};
+handle_cast({judged, Count}, State) -> {noreply, tell(State#state{judged = Count})};
 handle_cast({write, Stamp, Entries}, State) ->
-    #state{file = File, lines = Lines, shown = Shown, nodes = Nodes} = Written = entries(Entries, State),
-    ok = file:write(File, lists:reverse(Lines)),
+    #state{shown = Shown} = Written = write_lines(entries(Entries, State)),
     ok = file:write(user, lists:reverse(Shown)),
-    lists:foreach(fun(Node) -> gen_server:cast({pat_log, Node}, {written, Stamp}) end, Nodes),
-    {noreply, tell(Written#state{lines = [], shown = [], received = 0})}.
+    {noreply, settle(tell(Written#state{shown = [], received = 0, written = Stamp}))}.
 
-%% Whoever has to know what the history says by now.
-tell(#state{threads = Threads} = State) when map_size(Threads) =:= 0 -> ended(done, State);
+%% The nodes get to know what is written, unless judging is behind.
+tell(#state{whole = Whole, judged = Judged, nodes = Nodes, written = Stamp} = State) when Whole - Judged =< ?UNJUDGED ->
+    lists:foreach(fun(Node) -> gen_server:cast({pat_log, Node}, {written, Stamp}) end, Nodes),
+    State;
 tell(State) -> State.
+
+settle(#state{threads = Threads} = State) when map_size(Threads) =:= 0 -> ended(done, State);
+settle(State) -> State.
+
+begin_piece(#state{name = Name} = State) ->
+    {ok, File} = file:open(Name, [write, raw, binary]),
+    State#state{file = File, entries = 0}.
+
+%% The piece is whole.
+end_piece(State) ->
+    #state{name = Name, file = File, whole = Whole} = Written = write_lines(State),
+    ok = file:close(File),
+    ok = file:rename(Name, Name ++ "." ++ integer_to_list(Whole)),
+    pat_run:piece(),
+    begin_piece(Written#state{whole = Whole + 1}).
+
+write_lines(#state{file = File, lines = Lines} = State) ->
+    ok = file:write(File, lists:reverse(Lines)),
+    State#state{lines = []}.
 
 ended(How, State) ->
     pat_run:ended(How),
@@ -90,7 +121,8 @@ entries(Entries, State) ->
 %% ---- one entry
 
 entry(_, #state{ended = true} = State) -> State;
-entry(_, #state{bytes = Bytes} = State) when Bytes < ?LONGEST -> ended(long, State);
+entry(_, #state{named = Named, made = Made, sent = Sent} = State)
+  when Named >= ?NUMBERS; Made >= ?NUMBERS; Sent >= ?NUMBERS -> ended(long, State);
 entry({_, Thread, Steps, Act}, #state{steps = Left, threads = Threads} = State) ->
     case Threads of
         #{Thread := {_, Front}} ->
@@ -114,12 +146,15 @@ whole(Front, Steps, Act, Thread, State) ->
         {Word, Next} -> line([Front, integer_to_binary(Steps), Word], Next)
     end.
 
-line(Line, #state{bytes = Bytes, lines = Lines} = State) ->
-    State#state{bytes = Bytes - iolist_size(Line), lines = [Line | Lines]}.
+line(Line, #state{entries = Entries, size = Size, lines = Lines} = State) ->
+    case State#state{entries = Entries + 1, lines = [Line | Lines]} of
+        #state{entries = Size} = Whole -> end_piece(Whole);
+        Next -> Next
+    end.
 
 %% What it writes, and how things stand then; or that its cause isn't there, which no run does to it.
 act(none, _, State) -> {<<" -\n">>, State};
-act(new, _, State) -> {<<" new\n">>, State};
+act(new, _, #state{made = Made} = State) -> {<<" new\n">>, State#state{made = Made + 1}};
 act(free, _, State) -> {<<" free\n">>, State};
 act(send, Thread, #state{sends = Sends, messages = Messages, sent = Sent} = State) ->
     Number = case Sends of #{Thread := Count} -> Count; _ -> 0 end,

@@ -9,15 +9,18 @@
 -export([init/1, handle_call/3, handle_cast/2, handle_info/2]).
 -include("pat_otp.hrl").
 
-%% Milliseconds from a turn's end to the next one's beginning, and from a look at those that have entries at hand to the next.
+%% Milliseconds from a turn's end to the next one's beginning, longer where the last one had so many words of entries (an entry has
+%% one to three), and from a look at those that have entries at hand to the next.
 -define(PAUSE, 2).
+-define(LONG_PAUSE, 8).
+-define(MANY, 2000).
 -define(LOOK, 1).
-%% So many entries may be reported and not yet be written; then the threads are held back.
--define(AHEAD, 500000).
+%% So many words may be reported and not yet be written; then the threads are held back.
+-define(AHEAD, 1000000).
 
 -record(state, {epoch :: pat_cells:epoch(), turn = 0 :: non_neg_integer(), floor :: pat_entries:stamp(),
                 closing = no :: no | {Turn :: non_neg_integer(), pat_entries:stamp()}, waits = false :: boolean(),
-                runs = [] :: [[pat_entries:entry()]], count = 0 :: non_neg_integer(),
+                runs = [] :: [pat_entries:packed()], count = 0 :: non_neg_integer(), pause = ?PAUSE :: pos_integer(),
                 newest :: pat_entries:stamp(), wanted = 0 :: pat_entries:stamp(), reports = 0 :: non_neg_integer(),
                 unwritten = queue:new() :: queue:queue({pat_entries:stamp(), non_neg_integer()}),
                 ahead = 0 :: non_neg_integer()}).
@@ -45,9 +48,9 @@ handle_call(sync, _, #state{floor = Floor} = State) ->
 handle_cast({reach, Stamp}, #state{wanted = Wanted} = State) -> {noreply, rouse(State#state{wanted = max(Stamp, Wanted)})};
 handle_cast({written, Stamp}, State) -> {noreply, hold(written(Stamp, State))}.
 
--spec handle_info({entries, [pat_entries:entry()]} | turn | look | {closed, pat_entries:stamp()}, #state{}) -> {noreply, #state{}}.
-handle_info({entries, [{Stamp, _, _, _} | _] = Run}, #state{runs = Runs, count = Count, newest = Newest} = State) ->
-    {noreply, rouse(State#state{runs = [Run | Runs], count = Count + length(Run), newest = max(Stamp, Newest)})};
+-spec handle_info({entries, pat_entries:packed()} | turn | look | {closed, pat_entries:stamp()}, #state{}) -> {noreply, #state{}}.
+handle_info({entries, Run}, #state{runs = Runs, count = Count, newest = Newest} = State) ->
+    {noreply, rouse(State#state{runs = [Run | Runs], count = Count + length(Run), newest = max(pat_entries:newest(Run), Newest)})};
 handle_info(turn, State) -> {noreply, look(begin_turn(State#state{waits = false}))};
 handle_info(look, State) -> {noreply, look(State)};
 handle_info({closed, Floor}, State) -> {noreply, rouse(report(Floor, State#state{closing = no}))}.
@@ -55,9 +58,9 @@ handle_info({closed, Floor}, State) -> {noreply, rouse(report(Floor, State#state
 %% ---- turns
 
 %% A turn is to begin where there is something beyond the floor, or somebody wants it higher.
-rouse(#state{closing = no, waits = false, newest = Newest, wanted = Wanted, floor = Floor} = State)
+rouse(#state{closing = no, waits = false, newest = Newest, wanted = Wanted, floor = Floor, pause = Pause} = State)
   when Newest > Floor; Wanted > Floor ->
-    erlang:send_after(?PAUSE, self(), turn),
+    erlang:send_after(Pause, self(), turn),
     State#state{waits = true};
 rouse(State) -> State.
 
@@ -79,7 +82,8 @@ look(#state{closing = {Turn, Floor}} = State) ->
 report(Floor, #state{epoch = Epoch, runs = Runs, count = Count, reports = Reports, unwritten = Unwritten, ahead = Ahead} = State) ->
     #{head := Head, place := Place} = pat_cells:run(),
     gen_server:cast({pat_merge, Head}, {report, Epoch, Place, Floor, Runs}),
-    hold(State#state{floor = Floor, runs = [], count = 0, reports = Reports + 1,
+    Pause = if Count > ?MANY -> ?LONG_PAUSE; true -> ?PAUSE end,
+    hold(State#state{floor = Floor, runs = [], count = 0, pause = Pause, reports = Reports + 1,
                      unwritten = queue:in({Floor, Count}, Unwritten), ahead = Ahead + Count}).
 
 %% ---- the writer that can't keep up

@@ -38,12 +38,12 @@ handle_call(stop, _, #state{cut = Cut} = State) ->
     {reply, Cut, State#state{epoch = over}};
 handle_call({finish, Reports}, From, State) -> {noreply, finished(State#state{finish = {From, Reports}})}.
 
--spec handle_cast({report, pat_cells:epoch(), pat_place:place(), pat_entries:stamp(), [[pat_entries:entry()]]}, #state{}) ->
+-spec handle_cast({report, pat_cells:epoch(), pat_place:place(), pat_entries:stamp(), [pat_entries:packed()]}, #state{}) ->
           {noreply, #state{}}.
 handle_cast({report, Epoch, Place, Floor, Reported}, #state{epoch = Epoch, nodes = Nodes, runs = Runs, newest = Newest} = State) ->
     #{Place := #node{reports = Reports} = Node} = Nodes,
-    {Latest, More} = lists:foldl(fun([{Stamp, _, _, _} | _] = Run, {Most, All}) -> {max(Stamp, Most), [lists:reverse(Run) | All]} end,
-                                 {Newest, Runs}, Reported),
+    {Latest, More} = lists:foldl(
+        fun(Run, {Most, All}) -> {max(pat_entries:newest(Run), Most), [pat_entries:unpacked(Run) | All]} end, {Newest, Runs}, Reported),
     {noreply, finished(chase(advance(State#state{nodes = Nodes#{Place := Node#node{floor = Floor, reports = Reports + 1}},
                                                  runs = More, newest = Latest})))};
 handle_cast({report, _, _, _, _}, State) -> {noreply, State}.

@@ -12,6 +12,7 @@
 %% (the message that began it is taken)
 -spec begin_thread() -> ok.
 begin_thread() ->
+    pat_cells:keep(),
     active(),
     put(sends, 0), put(counted, 0), put(posted, 0), put(taken, 1),
     ok.
@@ -49,10 +50,10 @@ next() ->
 idle() ->
     pat_entries:note_steps(),
     pat_entries:close(),
-    Cells = pat_cells:all(),
+    Cells = pat_cells:kept(),
     Sends = get(sends),
     atomics:add(Cells, ?POSTED, put(posted, 0) + Sends - put(counted, Sends)),
     atomics:add(Cells, ?TAKEN, put(taken, 0)),
     atomics:sub(Cells, ?ACTIVE, 1).
 
-active() -> atomics:add(pat_cells:all(), ?ACTIVE, 1).
+active() -> atomics:add(pat_cells:kept(), ?ACTIVE, 1).

@@ -4,7 +4,7 @@
 %% for `pat replay` to say.
 -module(pat_run).
 -behaviour(gen_server).
--export([start_link/0, ended/1, at_rest/2, lost/4, failed/2]).
+-export([start_link/0, ended/1, piece/0, at_rest/2, lost/4, failed/2]).
 -export([init/1, handle_continue/2, handle_call/3, handle_cast/2, handle_info/2]).
 
 %% Milliseconds until a node counts as not there, between calls upon it, and for its answer.
@@ -27,9 +27,13 @@
 -spec start_link() -> {ok, pid()} | ignore | {error, term()}.
 start_link() -> gen_server:start_link({local, ?MODULE}, ?MODULE, [], []).
 
-%% The history ends: all threads have ended, the budget of steps is spent, it is as long as it may be, or a cause is missing.
+%% The history ends: all threads have ended, the budget of steps or the numbers are spent, or a cause is missing.
 -spec ended(ending()) -> ok.
 ended(How) -> gen_server:cast(?MODULE, {ended, How}).
+
+%% A piece of the history is whole.
+-spec piece() -> ok.
+piece() -> gen_server:cast(?MODULE, piece).
 
 -spec at_rest(pat_cells:epoch(), pat_cells:counts()) -> ok.
 at_rest(Epoch, Counts) -> gen_server:cast(?MODULE, {at_rest, Epoch, Counts}).
@@ -59,16 +63,21 @@ handle_continue(begin_run, #state{nodes = Nodes} = State) ->
 handle_call(_, _, State) -> {reply, ok, State}.
 
 %% (what was said of another epoch is over)
--spec handle_cast({ended, ending()} | {at_rest, pat_cells:epoch(), pat_cells:counts()}
+-spec handle_cast({ended, ending()} | piece | {at_rest, pat_cells:epoch(), pat_cells:counts()}
                   | {lost, pat_cells:epoch(), node(), node()} | {failed, term()}, #state{}) -> {noreply, #state{}}.
 handle_cast({ended, How}, State) -> stop(How, State);
 handle_cast({failed, Fault}, State) -> stop({failed, Fault}, State);
+handle_cast(piece, #state{starter = Starter} = State) ->
+    pat_starter:piece(Starter),
+    {noreply, State};
 handle_cast({at_rest, Epoch, Counts}, #state{epoch = Epoch} = State) -> settle(Counts, State);
 handle_cast({lost, Epoch, By, Node}, #state{epoch = Epoch} = State) -> survive({lost, By, Node}, parted(Node, State));
 handle_cast(_, State) -> {noreply, State}.
 
--spec handle_info({nodeup | nodedown, node()} | {port(), eof}, #state{}) -> {noreply, #state{}}.
-handle_info({_, eof}, _) -> halt(1);
+-spec handle_info({nodeup | nodedown, node()} | pat_starter:said(), #state{}) -> {noreply, #state{}}.
+handle_info({Port, Said}, State) when is_port(Port) ->
+    pat_history:judged(pat_starter:judged(Said)),
+    {noreply, State};
 handle_info({nodedown, Node}, #state{left = Left} = State) ->
     case lists:member(Node, Left) of
         true -> survive({lost, node(), Node}, State);
@@ -83,7 +92,7 @@ begin_or_stop(#state{nodes = Nodes, folder = Folder} = State) ->
     ok = net_kernel:monitor_nodes(true),
     try prepare(0, State) of
         Epoch ->
-            ok = pat_history:begin_run(#{file => filename:join(Folder, "history"), steps => word(steps), bytes => word(bytes)}),
+            ok = pat_history:begin_run(#{file => filename:join(Folder, "history"), steps => word(steps), piece => word(piece)}),
             Begun = State#state{began = erlang:monotonic_time(microsecond), used = used(Nodes)},
             enter(Epoch, 0, pat_configuration:start(), Begun)
     catch

@@ -132,7 +132,7 @@ give_back({Keeper, Number}, Weight) -> pat_post:post(Keeper, {weight, Number, We
 %% A send needs leave, since only so many messages may be pending. The steps that are to be noted with it: a thread that may have
 %% to wait counts them before.
 pay(Steps) ->
-    Cells = pat_cells:all(),
+    Cells = pat_cells:kept(),
     case atomics:sub_get(Cells, ?CREDIT, 1) of
         Left when Left >= 0 -> Steps;
         _ ->

@@ -27,7 +27,7 @@ REFUSALS = {
     "run": TEXT + TYPES,
     "load": [],
     "verify": TEXT + [BAD_TEXT, rf"rejected at node \d+: (?:{RULES})"],
-    "checkpoint": TEXT + TYPES + [r"unshown at line \d+"],
+    "checkpoint": TEXT + TYPES + [BAD_TEXT, rf"rejected at node \d+: (?:{RULES})", rf"bad checkpoint: (?:{CHECKS})", r"refused at entry \d+", r"unshown at line \d+"],
     "resume": TEXT + [BAD_TEXT, rf"rejected at node \d+: (?:{RULES})", rf"bad checkpoint: (?:{CHECKS})"],
     "replay": TEXT + [BAD_TEXT, rf"rejected at node \d+: (?:{RULES})", rf"bad checkpoint: (?:{CHECKS})", r"refused at entry \d+"],
     "order": TEXT + [BAD_TEXT, r"refused at entry \d+", r"too many entries"],

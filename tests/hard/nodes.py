@@ -24,7 +24,7 @@ DELAYS = [
     ("pat_post.erl", "    To ! Message,\n", f"    {HELD.format('To')},\n"),
     ("pat_host.erl", "    Thread ! Message,\n", f"    {HELD.format('Thread')},\n"),
     ("pat_weight.erl", "(1 bsl 56)", "3"),
-    ("pat_log.erl", "-define(AHEAD, 500000).", "-define(AHEAD, 50)."),
+    ("pat_log.erl", "-define(AHEAD, 1000000).", "-define(AHEAD, 100)."),
 ]
 
 # Runtimes with one thing wrong in each. `pat replay`, or what is compared with it, has to find that out.
@@ -47,16 +47,16 @@ WRONG = {
         ("pat_thread.erl", "{Tag, Values, Weights, get(thread), Sends, Stamp}",
          "{Tag, Values, [{Name, 0} || {Name, _} <- Weights], get(thread), Sends, Stamp}")],
     "a local step too many": [
-        ("pat_guard.erl", "{'receive', From, Sent}),\n", "{'receive', From, Sent}),\n    put(steps, 1),\n")],
+        ("pat_guard.erl", "{'receive', From, Sent}),\n", "{'receive', From, Sent}),\n    pat_entries:spend(1),\n")],
     "a local step too few": [
-        ("pat_entries.erl", "get(thread), Steps, Act}", "get(thread), max(0, Steps - 1), Act}")],
+        ("pat_entries.erl", "(Steps bsl ?STEPS)", "(max(0, Steps - 1) bsl ?STEPS)")],
     "lines in another order": [
         ("pat_history.erl", "file:write(user, lists:reverse(Shown))", "file:write(user, Shown)")],
     "a promise before all entries are there": [
         ("pat_log.erl", "        0 -> self() ! {closed, Floor};\n        _ -> erlang:send_after(?LOOK, self(), look)",
          "        _ -> self() ! {closed, Floor}")],
     "entries that aren't above the floor": [
-        ("pat_entries.erl", "max(get(clock), atomics:get(Cells, ?FLOOR))", "get(clock)")],
+        ("pat_entries.erl", "max(Clock, atomics:get(Cells, ?FLOOR))", "Clock")],
     "a thread not behind its spawn": [
         ("pat_thread.erl", "pat_entries:begin_thread(Thread, Stamp)", "pat_entries:begin_thread(Thread, min(Stamp, 0))")],
     "rest by one look": [
@@ -93,11 +93,11 @@ PARTED = [("pat_node.erl", "    [Other || Other <- Others, net_kernel:connect_no
     [Other || Other <- Others, net_kernel:connect_node(Other) =/= true].\n""")]
 
 # A node falls when it makes an entry with a stamp as high: PAT_FALLS has words PLACE:STAMP.
-FALLS = [("pat_entries.erl", "    put(clock, Stamp),\n    put(entries", """    #{place := Place} = pat_cells:run(),
+FALLS = [("pat_entries.erl", "    Open#noted{clock = Stamp", """    #{place := Place} = pat_cells:run(),
     _ = [halt(9, [{flush, false}])
          || Word <- string:lexemes(os:getenv("PAT_FALLS", ""), " "), [Where, When] <- [string:lexemes(Word, ":")],
             list_to_integer(Where) =:= Place, list_to_integer(When) =< Stamp],
-    put(clock, Stamp),\n    put(entries""")]
+    Open#noted{clock = Stamp""")]
 
 # Runtimes with one thing wrong in each where the run goes on after a loss.
 WRONG_AFTER_LOSS = {

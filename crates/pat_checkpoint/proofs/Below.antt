@@ -57,7 +57,7 @@ one_below : (p : Program) (o : Option ℕ) → ((i : ℕ) → o ≡ Some i → i
 one_below p None h = tt
 one_below p (Some i) h = (h i refl, tt)
 
-along_below : (p : Program) → WellFormed p → (ks : List Step) (c : Config) → AllByRecursion (λ i. i < length p.interfaces) (made_along p c ks)
+pub along_below : (p : Program) → WellFormed p → (ks : List Step) (c : Config) → AllByRecursion (λ i. i < length p.interfaces) (made_along p c ks)
 along_below p w [] c = tt
 along_below p w (k ∷ ks) c =
     all_joined (λ i. i < length p.interfaces) (option_list (made_by p k.act (thread_at c k.thread))) _
@@ -75,7 +75,7 @@ there_at P [] k h l = absurd (omega arith)
 there_at P (x ∷ xs) zero h l = (x, refl, h.0)
 there_at P (x ∷ xs) (suc k) h l = there_at P xs k h.1 (omega arith)
 
-made_there : (m : ℕ) (interfaces : ℕ → ℕ) (n : ℕ) (made : List ℕ) (a : ℕ) → n ≤ a → a - n < length made → AllByRecursion (λ i. i < m) made → interface_made interfaces n made a < m
+pub made_there : (m : ℕ) (interfaces : ℕ → ℕ) (n : ℕ) (made : List ℕ) (a : ℕ) → n ≤ a → a - n < length made → AllByRecursion (λ i. i < m) made → interface_made interfaces n made a < m
 made_there m interfaces n made a from less h =
     let at = there_at (λ i. i < m) made (a - n) h less in
     subst (λ k. k < m)

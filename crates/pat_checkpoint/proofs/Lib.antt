@@ -1,3 +1,6 @@
 mod Plain
 mod Written
 mod Below
+mod Behind
+-- for the crates above
+pub mod Strings

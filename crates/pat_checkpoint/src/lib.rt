@@ -6,6 +6,6 @@ mod laws;
 mod writing;
 
 pub use error::WriteError;
-pub use laws::started_law;
+pub use laws::{replayed_law, started_law};
 pub use pat_checkpoint_data::Checkpoint;
 pub use writing::write;

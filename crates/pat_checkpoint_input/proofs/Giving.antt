@@ -11,6 +11,8 @@ use Rattle.pat_checkpoint_spec.specs.Checkpoints.{Checkpoint}
 use Rattle.pat_checkpoint_spec.specs.Checked.{NumbersRule, broken_check}
 use Rattle.pat_checkpoint_spec.specs.text.CheckpointText.{marker as checkpoint_marker}
 use Rattle.pat_checkpoint_spec.specs.text.Reading as checkpoint_text
+use Rattle.pat_derivations.specs.declared.data.Derivation.{Derivation as CodeDerivation}
+use Rattle.pat_derivations.specs.Views.{derivation_view}
 use Rattle.pat_checkpoint_data.specs.declared.data.Checkpoint.{Checkpoint as CodeCheckpoint}
 use Rattle.pat_checkpoint_data.specs.Views.{checkpoint_view}
 use Rattle.pat_checkpoint_checks.specs.Answers.{check_rule_view}
@@ -38,17 +40,13 @@ AllHaveCheckpoint bytes = length bytes ≤ whole_limit → (front text : List �
 
 module _ (bytes : List ℕ) where
   of_parts : (front derivation checkpoint : List ℕ) (p : Program) → HasParts bytes front derivation checkpoint p → (r : Result CheckedInput FrontError) → PartsGive p (length front) derivation checkpoint r → BytesGive bytes r
-  of_parts front d c p has (Done r) h =
-      let checked = h.1 in (
-        checked.0,
-        record {
-          front = front;
-          derivation = d;
-          checkpoint = c;
-          has = subst (HasParts bytes front d c) (sym h.0) has;
-          checked = subst (λ q. HasChecked q d c checked.0 (checkpoint_view r.checkpoint)) (sym h.0) checked.1;
-        },
-      )
+  of_parts front d c p has (Done r) h = record {
+    front = front;
+    derivation = d;
+    checkpoint = c;
+    has = subst (HasParts bytes front d c) (sym h.0) has;
+    checked = subst (λ q. HasChecked q d c (derivation_view r.derivation) (checkpoint_view r.checkpoint)) (sym h.0) h.1;
+  }
   of_parts front d c p has (Failed (error.Refused v)) h = inr (record { front = front; derivation = d; checkpoint = c; program = p; has = has; unchecked = h })
   of_parts front d c p has (Failed error.NoMemory) h = tt
 
@@ -98,8 +96,11 @@ no_marks_at bytes at marked split behind none marks =
 -- ---- texts
 
 -- what is behind the program begins with the derivation
-pub parts_checked : (p : Program) (from : ℕ) (derivation checkpoint : List ℕ) (r : CheckedInput) (x : CodeCheckpoint) → program_view r.program ≡ p → r.checkpoint ≡ x → TextsGive p from derivation checkpoint (Done x) → PartsGive p from derivation checkpoint (Done r)
-parts_checked p from d c r x program is given = (program, (given.0, subst (λ y. HasChecked p d c given.0 (checkpoint_view y)) (sym is) given.1))
+pub parts_checked : (p : Program) (from : ℕ) (derivation checkpoint : List ℕ) (r : CheckedInput) (s : CodeDerivation × CodeCheckpoint) → program_view r.program ≡ p → r.derivation ≡ s.0 → r.checkpoint ≡ s.1 → TextsGive p from derivation checkpoint (Done s) → PartsGive p from derivation checkpoint (Done r)
+parts_checked p from d c r s program shown is given = (
+  program,
+  subst (λ e. HasChecked p d c (derivation_view e) (checkpoint_view r.checkpoint)) (sym shown) (subst (λ y. HasChecked p d c (derivation_view s.0) (checkpoint_view y)) (sym is) given),
+)
 
 pub parts_refused : (p : Program) (from : ℕ) (derivation checkpoint : List ℕ) (e : FrontError) → TextsGive p from derivation checkpoint (Failed e) → PartsGive p from derivation checkpoint (Failed e)
 parts_refused p from d c (error.Refused v) given = given
@@ -122,10 +123,13 @@ module _ (p : Program) (from : ℕ) (derivation checkpoint : List ℕ) (d : Deri
   why (verdict.Unshown n) (x, spelled, bad) = absurd bad
   why (verdict.Unaccepted r) (x, spelled, bad) = absurd bad
 
-  pub texts_of : (r : Result CodeCheckpoint FrontError) → CheckpointGives p d (from + length derivation) checkpoint r → TextsGive p from derivation checkpoint r
-  texts_of (Done x) h = (d, record { read = read; spelled = h.0; checked = h.1; room = h.2 })
-  texts_of (Failed (error.Refused v)) h = why v h
-  texts_of (Failed error.NoMemory) h = tt
+  -- what is read, and refused
+  pub texts_read : (shown : CodeDerivation) (x : CodeCheckpoint) → derivation_view shown ≡ d → CheckpointGives p d (from + length derivation) checkpoint (Done x) → TextsGive p from derivation checkpoint (Done (shown, x))
+  texts_read shown x is h = subst (λ e. HasChecked p derivation checkpoint e (checkpoint_view x)) (sym is) (record { read = read; spelled = h.0; checked = h.1; room = h.2 })
+
+  pub texts_refused : (e : FrontError) → CheckpointGives p d (from + length derivation) checkpoint (Failed e) → TextsGive p from derivation checkpoint (Failed e)
+  texts_refused (error.Refused v) h = why v h
+  texts_refused error.NoMemory h = tt
 
 -- ---- a checkpoint that is read
 

@@ -1,13 +1,17 @@
 -- What is answered of bytes, and of parts of them.
-use Rattle.std.specs.Prelude.{◌≡◌, ◌+◌, ℕ, IsTrue, List, Some, Result}
+use Rattle.std.specs.Prelude.{◌≡◌, ◌+◌, ℕ, IsTrue, List, map, Some, Result}
 use Rattle.std.specs.declared.result.Result.TheVariants.{Ok, Err}
 use Rattle.pat_semantics_spec.specs.Programs.{Program}
 use Rattle.pat_core.specs.Views.{program_view}
 use Rattle.pat_derivation_spec.specs.Derivations.{Derivation}
+use Rattle.pat_derivations.specs.declared.data.Derivation.{Derivation as CodeDerivation}
+use Rattle.pat_derivations.specs.Views.{derivation_view}
 use Rattle.pat_derivation_spec.specs.Validity.{first_bad, IsValid}
 use Rattle.pat_judge.specs.Views.{rule_view}
 use Rattle.pat_checkpoint_spec.specs.Checkpoints.{Checkpoint}
 use Rattle.pat_checkpoint_spec.specs.Checked.{IsChecked}
+use Rattle.pat_checkpoint_spec.specs.Resumed.{interfaces_after_history}
+use Rattle.pat_reduce.specs.Views.{config_view, entry_view}
 use Rattle.pat_checkpoint_spec.specs.text.Reading as checkpoint_text
 use Rattle.pat_checkpoint_spec.specs.text.CheckpointText.{marker}
 use Rattle.pat_checkpoint_data.specs.declared.data.Checkpoint.{Checkpoint as CodeCheckpoint}
@@ -19,6 +23,10 @@ use Rattle.pat_front.specs.declared.front.FrontError.TheVariants as error
 use Rattle.pat_front.specs.declared.verdict.Verdict.{Verdict}
 use Rattle.pat_front.specs.declared.verdict.Verdict.TheVariants as verdict
 use Rattle.pat_checkpoint_input.specs.declared.inputs.CheckedInput.{CheckedInput}
+use Rattle.pat_replay_input.specs.Histories.{HasReplay, Unreplayed}
+use Rattle.pat_checkpoint_input.specs.declared.pieces.Piece.{Piece}
+use Rattle.pat_checkpoint_input.specs.declared.pieces.Led.{Led}
+use Rattle.pat_checkpoint_input.specs.Pieces.{ReplaysPiece, RefusesPiece}
 use Rattle.pat_checkpoint_input.specs.CheckedTexts.{has_room, first_broken, HasChecked, Unchecked, HasCheckedParts, IsCheckpointRefusal}
 
 -- the checkpoint is checked and has room, or the first rule that it breaks; want of memory says nothing
@@ -52,15 +60,15 @@ CheckpointGives p d at text (Err (error.Refused v)) = RefusesCheckpoint p d at t
 CheckpointGives p d at text (Err error.NoMemory) = Unit {0}
 
 -- so of both texts
-abbrev pub TextsGive : Program → (from : ℕ) → (derivation checkpoint : List ℕ) → Result CodeCheckpoint FrontError → Type 0
-TextsGive p from derivation checkpoint (Ok x) = (d : Derivation) × HasChecked p derivation checkpoint d (checkpoint_view x)
+abbrev pub TextsGive : Program → (from : ℕ) → (derivation checkpoint : List ℕ) → Result (CodeDerivation × CodeCheckpoint) FrontError → Type 0
+TextsGive p from derivation checkpoint (Ok r) = HasChecked p derivation checkpoint (derivation_view r.0) (checkpoint_view r.1)
 TextsGive p from derivation checkpoint (Err (error.Refused v)) = Unchecked p from derivation checkpoint v
 TextsGive p from derivation checkpoint (Err error.NoMemory) = Unit {0}
 
 -- so of the program with them
 abbrev pub PartsGive : Program → (from : ℕ) → (derivation checkpoint : List ℕ) → Result CheckedInput FrontError → Type 0
 PartsGive p from derivation checkpoint (Ok r) =
-    (program_view r.program ≡ p) × ((d : Derivation) × HasChecked p derivation checkpoint d (checkpoint_view r.checkpoint))
+    (program_view r.program ≡ p) × HasChecked p derivation checkpoint (derivation_view r.derivation) (checkpoint_view r.checkpoint)
 PartsGive p from derivation checkpoint (Err (error.Refused v)) = Unchecked p from derivation checkpoint v
 PartsGive p from derivation checkpoint (Err error.NoMemory) = Unit {0}
 
@@ -69,8 +77,41 @@ abbrev pub BehindGives : Program → (from : ℕ) → (text : List ℕ) → Resu
 BehindGives p from text r =
     (derivation : List ℕ) × (checkpoint : List ℕ) × IsMarked marker text derivation checkpoint × PartsGive p from derivation checkpoint r
 
--- the program and the checkpoint of the bytes, or why they are refused
+-- the program, the derivation and the checkpoint of the bytes, or why they are refused
 abbrev pub BytesGive : List ℕ → Result CheckedInput FrontError → Type 0
-BytesGive bytes (Ok r) = (d : Derivation) × HasCheckedParts bytes (program_view r.program) d (checkpoint_view r.checkpoint)
+BytesGive bytes (Ok r) = HasCheckedParts bytes (program_view r.program) (derivation_view r.derivation) (checkpoint_view r.checkpoint)
 BytesGive bytes (Err (error.Refused v)) = IsCheckpointRefusal bytes v
 BytesGive bytes (Err error.NoMemory) = Unit {0}
+
+-- ---- pieces
+
+-- the piece is the history of the bytes, with the derivation, where it leads, and the interfaces of the mailboxes that live there
+pub record HasLed (bytes : List ℕ) (r : Piece) : Type 0 where
+  pub from : Checkpoint
+  pub replays : ReplaysPiece bytes (program_view r.replayed.code.program) (derivation_view r.derivation) from (map entry_view r.replayed.entries.items) (config_view r.replayed.config)
+  pub interfaces : r.interfaces ≡ interfaces_after_history (program_view r.replayed.code.program) from (map entry_view r.replayed.entries.items) (config_view r.replayed.config)
+
+-- so of the bytes, or why they are refused
+abbrev pub PieceGives : List ℕ → Result Piece FrontError → Type 0
+PieceGives bytes (Ok r) = HasLed bytes r
+PieceGives bytes (Err (error.Refused v)) = RefusesPiece bytes v
+PieceGives bytes (Err error.NoMemory) = Unit {0}
+
+-- so of a text behind a program, a derivation and a checkpoint
+abbrev pub ProgramGives : Program → Derivation → Checkpoint → (from : ℕ) → (text : List ℕ) → Result Piece FrontError → Type 0
+ProgramGives p d x from text (Ok r) =
+    (program_view r.replayed.code.program ≡ p)
+    × (derivation_view r.derivation ≡ d)
+    × HasReplay p x.config text (map entry_view r.replayed.entries.items) (config_view r.replayed.config)
+    × (r.interfaces ≡ interfaces_after_history p x (map entry_view r.replayed.entries.items) (config_view r.replayed.config))
+ProgramGives p d x from text (Err (error.Refused v)) = Unreplayed p x.config from text v
+ProgramGives p d x from text (Err error.NoMemory) = Unit {0}
+
+-- the same of a text behind a program, from a checkpoint on
+abbrev pub LedGives : Program → Checkpoint → (from : ℕ) → (text : List ℕ) → Result Led FrontError → Type 0
+LedGives p x from text (Ok r) =
+    (program_view r.replayed.code.program ≡ p)
+    × HasReplay p x.config text (map entry_view r.replayed.entries.items) (config_view r.replayed.config)
+    × (r.interfaces ≡ interfaces_after_history p x (map entry_view r.replayed.entries.items) (config_view r.replayed.config))
+LedGives p x from text (Err (error.Refused v)) = Unreplayed p x.config from text v
+LedGives p x from text (Err error.NoMemory) = Unit {0}

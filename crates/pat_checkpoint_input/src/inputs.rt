@@ -14,21 +14,22 @@ ghost use Rattle.pat_limits.specs.Limits.{number_count};
 use crate::texts::checked_texts;
 use pat_checkpoint_data::Checkpoint;
 use pat_core::Program;
+use pat_derivations::Derivation;
 use pat_front::{FrontError, Verdict};
 use pat_input::{LIMIT, WHOLE_LIMIT};
 use pat_input_split::{place_of_mark, program_before, split_law};
 use pat_sequences::let_go;
 use std::alloc::Global;
 
-/// A program, and a checkpoint that a valid derivation of it checks.
+/// A program, a valid derivation of it, and a checkpoint that this checks.
 #[derive(Drop)]
 pub struct CheckedInput {
     pub program: Program,
+    pub derivation: Derivation,
     pub checkpoint: Checkpoint,
 }
 
-/// The bytes are the texts of a program, of a valid derivation of it, and of a checkpoint that is checked by it: this program and
-/// checkpoint.
+/// The bytes are the texts of a program, of a valid derivation of it, and of a checkpoint that is checked by it: these three.
 pub fn checked_bytes(alloc: Global, bytes: &[u8]) -> Result<CheckedInput, FrontError>
     ensures gives { BytesGive bytes.now result }
     ensures well_formed { IfOk result (λ r. WellFormed (program_view r.program)) }
@@ -133,8 +134,9 @@ fn checked_parts(
     ensures well_formed { IfOk result (λ r. WellFormed (program_view r.program)) }
 {
     match checked_texts(alloc, &program, derivation, checkpoint, from) {
-        Ok(checkpoint) => Ok(CheckedInput {
+        Ok((derivation, checkpoint)) => Ok(CheckedInput {
             program,
+            derivation,
             checkpoint,
         }),
         Err(error) => {

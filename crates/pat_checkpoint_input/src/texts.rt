@@ -23,15 +23,15 @@ use pat_reduce::Config;
 use pat_texts::TextError;
 use std::alloc::Global;
 
-/// The checkpoint that is checked by the derivation, where both texts are read. The first byte of the derivation's text has this offset,
-/// and the checkpoint's text begins at its end.
+/// A valid derivation, and the checkpoint that is checked by it, where both texts are read. The first byte of the derivation's text has
+/// this offset, and the checkpoint's text begins at its end.
 pub fn checked_texts(
     alloc: Global,
     program: &Program,
     derivation: &[u8],
     checkpoint: &[u8],
     from: u32,
-) -> Result<Checkpoint, FrontError>
+) -> Result<(Derivation, Checkpoint), FrontError>
     requires well_formed { WellFormed (program_view program.now) }
     requires interfaces { length program.now.interfaces < number_count }
     requires room { from + length derivation.now + length checkpoint.now ≤ whole_limit }
@@ -39,7 +39,10 @@ pub fn checked_texts(
 {
     let at = from + derivation.len() as u32;
     match pat_deriv::read(alloc, program, derivation, from) {
-        Ok(shown) => checked_text(alloc, program, &shown, checkpoint, at),
+        Ok(shown) => match checked_text(alloc, program, &shown, checkpoint, at) {
+            Ok(checkpoint) => Ok((shown, checkpoint)),
+            Err(error) => Err(error),
+        },
         Err(TextError::BadText(offset)) => Err(FrontError::Refused(Verdict::BadText(offset))),
         Err(TextError::NoMemory) => Err(FrontError::NoMemory),
     }

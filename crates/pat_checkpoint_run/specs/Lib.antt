@@ -1,3 +1,4 @@
+pub use Rattle.pat_machine.specs.Gives
 pub mod NextNumbers
 pub mod Courses
 pub mod Searches

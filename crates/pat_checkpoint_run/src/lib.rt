@@ -12,6 +12,7 @@ mod sharing;
 mod start;
 
 pub use limits::MOST_NEXT_NUMBER;
+pub use mailboxes::FirstMailboxes;
 pub use pat_machine::Outcome;
 pub use resumed::{Resumed, run_from};
 pub use start::start_checkpoint;

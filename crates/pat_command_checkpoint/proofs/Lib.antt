@@ -1,6 +1,6 @@
-mod Strings
 mod Starting
 mod Answering
+mod Leading
 mod Points
 mod Solutions
 mod Shown

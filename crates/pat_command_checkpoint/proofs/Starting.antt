@@ -7,7 +7,7 @@ use Rattle.pat_semantics_spec.specs.Configs.{start_of}
 use Rattle.pat_derivation_spec.specs.Derivations.{Derivation}
 use Rattle.pat_derivation_spec.specs.Validity.{IsValid}
 use Rattle.pat_reduce.specs.Views.{config_view, entry_view}
-use Rattle.pat_machine.specs.Gives.{outcome_view}
+use Rattle.pat_checkpoint_run.specs.Gives.{outcome_view}
 use Rattle.pat_checkpoint_spec.specs.Checkpoints.{Checkpoint}
 use Rattle.pat_checkpoint_spec.specs.Checked.{IsChecked}
 use Rattle.pat_checkpoint_spec.specs.Resumed.{IsResumed, start_checkpoint}

@@ -1,2 +1,3 @@
+pub use Rattle.pat_checkpoint_input.specs.Pieces
 pub mod Allowed
 pub mod Answers

@@ -1,5 +1,6 @@
-// The checkpoint that a run of the program of an input leads to, as text.
-ghost use Rattle.std.specs.Prelude.{◌≡◌, ◌≤◌, ◌++◌, ℕ, List, IfOk};
+// The checkpoint that a run of the program of an input leads to, or a history behind a checkpoint, as text.
+ghost use Rattle.std.specs.Prelude.{◌≡◌, ◌<◌, ◌≤◌, ◌++◌, ℕ, List, length, IfOk};
+ghost use Rattle.std.specs.List.{AllByRecursion};
 ghost use Rattle.pat_semantics_spec.specs.WellFormed.{WellFormed};
 ghost use Rattle.pat_core.specs.Views.{program_view};
 ghost use Rattle.pat_resolver_spec.specs.Places.{Places};
@@ -9,29 +10,45 @@ ghost use Rattle.pat_derivation_spec.specs.Validity.{IsValid};
 ghost use Rattle.pat_derivations.specs.Views.{derivation_view};
 ghost use Rattle.pat_derivation_text_spec.specs.DerivationText.{derivation_text};
 ghost use Rattle.pat_front.specs.declared.exit_answers.status.Status.TheVariants.{Ok};
-ghost use Rattle.pat_input.specs.Inputs.{IsRead};
 ghost use Rattle.pat_typecheck.specs.Checks.{IsChecked};
-ghost use Rattle.pat_command_checkpoint.specs.Allowed.{AllowedCheckpoint, AnswersProgram, HasReached};
+ghost use Rattle.pat_reduce.specs.Views.{config_view};
+ghost use Rattle.pat_checkpoint.specs.Certified.{CanBeCertified};
+ghost use Rattle.pat_checkpoint.specs.Strings.{HasSpelledStrings};
+ghost use Rattle.pat_command_checkpoint.specs.Allowed.{AllowedCheckpoint, AllowedRun, AnswersAt, AnswersProgram, HasReached};
 ghost use Rattle.pat_limits.specs.Limits.{most_steps};
 
+use crate::pieces::answer_piece;
 use pat_checkpoint::{WriteError, started_law, write};
+use pat_checkpoint_input::place_of_piece;
 use pat_checkpoint_laws::resumed_laws;
 use pat_checkpoint_run::{Resumed, run_from, start_checkpoint};
 use pat_core::Program;
 use pat_derivations::Derivation;
 use pat_front::{Answer, Status, Verdict, verdict_answer};
-use pat_input::Input;
+use pat_input::lex_bytes;
+use pat_reduce::Config;
 use pat_reduce_values::Executable;
-use pat_sequences::let_go;
+use pat_sequences::{Sequence, let_go};
 use pat_typecheck::{Checked, check_input};
 use std::alloc::{AllocError, Global};
 
-/// What `checkpoint` answers on this input, where the run may take so many steps.
-pub fn answer_checkpoint(alloc: Global, steps: u32, input: Input) -> Result<Answer, AllocError>
-    requires read { (bytes : List ℕ) × IsRead bytes input }
-    requires within { steps ≤ most_steps }
-    ensures { (bytes : List ℕ) → IsRead bytes input → IfOk result (λ a. AllowedCheckpoint steps bytes a.text.items a.status) }
+/// What `checkpoint` answers on these bytes, where a run of a program alone may take so many steps.
+pub fn answer_checkpoint(alloc: Global, steps: u32, bytes: &[u8]) -> Result<Answer, AllocError>
+    requires { steps ≤ most_steps }
+    ensures { IfOk result (λ a. AllowedCheckpoint steps bytes.now a.text.items a.status) }
 {
+    match place_of_piece(bytes) {
+        Some(at) => answer_piece(alloc, bytes, at),
+        None => answer_run(alloc, steps, bytes),
+    }
+}
+
+// So of the text of a program alone.
+fn answer_run(alloc: Global, steps: u32, bytes: &[u8]) -> Result<Answer, AllocError>
+    requires { steps ≤ most_steps }
+    ensures { IfOk result (λ a. AllowedRun steps bytes.now a.text.items a.status) }
+{
+    let input = lex_bytes(alloc, bytes)?;
     let found = check_input(alloc, input)?;
     answer_of(alloc, steps, found)
 }
@@ -39,7 +56,7 @@ pub fn answer_checkpoint(alloc: Global, steps: u32, input: Input) -> Result<Answ
 fn answer_of(alloc: Global, steps: u32, found: Checked) -> Result<Answer, AllocError>
     requires checked { (bytes : List ℕ) × IsChecked bytes found }
     requires within { steps ≤ most_steps }
-    ensures { (bytes : List ℕ) → IsChecked bytes found → IfOk result (λ a. AllowedCheckpoint steps bytes a.text.items a.status) }
+    ensures { (bytes : List ℕ) → IsChecked bytes found → IfOk result (λ a. AllowedRun steps bytes a.text.items a.status) }
 {
     match found {
         Checked::Accepted(program, derivation) => of_program(alloc, steps, program, &derivation),
@@ -100,6 +117,25 @@ fn answer_at(
     started_law();
     let (entries, config, interfaces, _) = resumed.into_parts();
     let_go(entries);
+    written(alloc, program, derivation, config, interfaces)
+}
+
+/// The answer where a configuration of a program was come to, of which each live mailbox has one of these interfaces.
+pub fn written(
+    alloc: Global,
+    program: &Program,
+    derivation: &Derivation,
+    config: Config,
+    interfaces: Sequence<u32>,
+) -> Result<Answer, AllocError>
+    requires resolved { (q : Places) × IsResolved (program_view program.now) q }
+    requires valid { IsValid (program_view program.now) (derivation_view derivation.now) }
+    requires typed { CanBeCertified (program_view program.now) (derivation_view derivation.now) (config_view config) interfaces }
+    requires there { AllByRecursion (λ i. i < length (program_view program.now).interfaces) interfaces }
+    requires strings { HasSpelledStrings (config_view config) }
+    ensures { IfOk result (λ a. AnswersAt (program_view program.now) (derivation_view derivation.now) (config_view config) interfaces
+        a.text.items a.status) }
+{
     match write(alloc, program, derivation, config, interfaces) {
         Ok(text) => joined(alloc, program, derivation, text.as_slice()),
         Err(WriteError::Unshown(line)) => verdict_answer(alloc, Verdict::Unshown(line)),

@@ -2,6 +2,7 @@
 ghost use Rattle.std.specs.Prelude.{ℕ, List};
 ghost use Rattle.pat_command_checkpoint.specs.Answers.{OneAnswer};
 
+use pat_checkpoint_input::piece_law;
 use pat_front::verdict_law;
 use pat_solve_derivation::refusal_laws;
 use pat_typecheck::one_verdict_law;
@@ -14,4 +15,5 @@ pub fn checkpoint_law()
     verdict_law();
     one_verdict_law();
     refusal_laws();
+    piece_law();
 }

@@ -1,5 +1,3 @@
-mod Percents
-mod Marks
 mod Giving
 mod Answering
 -- for the crates above

@@ -12,7 +12,8 @@ use Rattle.pat_front.specs.declared.exit_answers.status.Status.{Status}
 use Rattle.pat_front.specs.declared.exit_answers.status.Status.TheVariants.{Ok, Refused, Usage, ReadFault, WriteFault, NoMemory, Budget, Waiting, Full}
 use Rattle.pat_replay_input.specs.Histories.{Replays, IsReplayRefusal}
 use Rattle.pat_replay_input.proofs.Small.{refusal_small}
-use Rattle.pat_command_replay.specs.Pieces.{IsNoPiece, GoesOnFrom, ReplaysInput, RefusesPiece, IsInputRefusal}
+use Rattle.pat_checkpoint_input.specs.Pieces.{IsNoPiece, RefusesPiece}
+use Rattle.pat_command_replay.specs.Pieces.{GoesOnFrom, ReplaysInput, IsInputRefusal}
 use Rattle.pat_command_replay.specs.Allowed.{AllowedReplay}
 
 input_small : (bytes : List ℕ) (p : Program) (es : List Entry) (c : Config) → ReplaysInput bytes p es c → length bytes ≤ whole_limit

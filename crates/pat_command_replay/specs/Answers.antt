@@ -7,7 +7,8 @@ use Rattle.pat_derivation_spec.specs.Derivations.{Derivation}
 use Rattle.pat_checkpoint_spec.specs.Checkpoints.{Checkpoint}
 use Rattle.pat_front.specs.declared.verdict.Verdict.{Verdict}
 use Rattle.pat_replay_input.specs.Histories.{Replays}
-use Rattle.pat_command_replay.specs.Pieces.{ReplaysPiece, IsInputRefusal}
+use Rattle.pat_checkpoint_input.specs.Pieces.{ReplaysPiece}
+use Rattle.pat_command_replay.specs.Pieces.{IsInputRefusal}
 use Rattle.pat_command_replay.specs.Allowed.{IsReplayed}
 
 -- they are replayed, with one output, or refused, in one way, and not both: so each answer comes exactly where it is said to come. A history

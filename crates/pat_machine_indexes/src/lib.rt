@@ -6,7 +6,7 @@ mod ready_sets;
 mod refcounts;
 
 pub use messages::{
-    Mailboxes, Numbered, Taken, copy_pending, count_live, delivery, first_message, list_live,
+    Mailboxes, Taken, copy_pending, count_live, delivery, first_message, list_live,
 };
 pub use ready_sets::{Ascending, ReadySets, lesser};
 pub use refcounts::{Counted, RefCounts, list_top};

@@ -4,5 +4,5 @@ mod copies;
 mod deliveries;
 
 pub use copies::{copy_pending, count_live, list_live};
-pub use deliveries::{Numbered, Taken, delivery, first_message};
+pub use deliveries::{Taken, delivery, first_message};
 pub use pat_mailboxes::Mailboxes;

@@ -1,5 +1,5 @@
 -- Threads that wait at guards, and the last message.
-use Rattle.std.proofs.Common.{◌≡◌, ℕ, ◌+◌, ◌<◌, Bool, true, false, nat_eq, List, [], ◌∷◌, ◌++◌, map, length, Option, Some, None, slice_get, refl, sym, ap, ◌∙◌, subst, inl, inr, eq-eqb, arith}
+use Rattle.std.proofs.Common.{◌≡◌, ℕ, ◌+◌, ◌<◌, Bool, true, false, nat_eq, List, [], ◌∷◌, ◌++◌, map, length, drop, Option, Some, None, slice_get, refl, sym, ap, ◌∙◌, subst, inl, inr, eq-eqb, arith}
 use Rattle.std.specs.Prelude.{◌↔◌, option_map, option_and_then, is_some, if◌then◌else◌, filter}
 use Rattle.std.specs.List.{AllByRecursion}
 use Rattle.std.proofs.lemmas.Bool.{cond-true}
@@ -22,8 +22,9 @@ use Rattle.pat_reduce.proofs.Shared.{taken, receive_step}
 use Rattle.pat_machine_laws.specs.mailbox_index.Pending.{Ascend, messages_of}
 use Rattle.pat_machine_laws.proofs.MailboxIndexLookUps.{own_are_pending}
 use Rattle.pat_machine_indexes.specs.messages.Mailboxes.{Mailbox as Box, pending_at as pending_of}
+use Rattle.pat_machine_indexes.specs.messages.Lanes.{last_of as last_pending}
 use Rattle.pat_machine_indexes.specs.messages.Boxes.{boxes_view}
-use Rattle.pat_machine_indexes.proofs.Boxed.{pending_view, map_get}
+use Rattle.pat_machine_indexes.proofs.Boxed.{pending_view}
 use Rattle.pat_machine_states.specs.Boxes.{state_view, IsLatest, IsState}
 use Rattle.pat_machine_states.specs.Stepping.{mailbox_of}
 use Rattle.pat_machine_states.proofs.Reaching.{some_map}
@@ -59,9 +60,12 @@ pub latest_of : (latest : Option ℕ) (c : Config) (ms : List Message) (m : Mess
 latest_of latest c ms m all last next =
     last_of (λ (x : Message). x.number + 1 ≡ c.next_message → latest ≡ Some x.mailbox) ms m (subst (AllByRecursion (λ (x : Message). x.number + 1 ≡ c.next_message → latest ≡ Some x.mailbox)) last all) next
 
-at_end : {A : Type 0} (xs : List A) (x : A) → slice_get (xs ++ x ∷ []) (length xs) ≡ Some x
-at_end [] x = refl
-at_end (y ∷ ys) x = at_end ys x
+last_view : (xs : List CodeMessage) (ys : List Message) (m : Message) → map message_view xs ≡ ys ++ m ∷ [] → option_map message_view (last_pending xs) ≡ Some m
+last_view [] ys m e = let size = ap length e ∙ length-append ys (m ∷ []) in absurd (omega arith)
+last_view (x ∷ []) [] m e = ap (λ l. slice_get l 0) e
+last_view (x ∷ []) (y ∷ ys) m e = let size = ap length e ∙ length-append (y ∷ ys) (m ∷ []) in absurd (omega arith)
+last_view (x ∷ z ∷ zs) [] m e = let size = ap length e in absurd (omega arith)
+last_view (x ∷ z ∷ zs) (y ∷ ys) m e = last_view (z ∷ zs) ys m (ap (drop 1) e)
 
 module _ (c : Config) (latest : Option ℕ) (ms : List (Option Box)) (h : IsState c latest ms) (before : List Message) (m : Message) (last : messages_of (boxes_view ms) ≡ before ++ m ∷ []) (next : m.number + 1 ≡ c.next_message) (b : ℕ) (sent : latest ≡ Some b) where
   abbrev own : Message → Bool
@@ -91,16 +95,8 @@ module _ (c : Config) (latest : Option ℕ) (ms : List (Option Box)) (h : IsStat
   pub some_there : 0 < length (pending_of ms b)
   some_there = let len = own_length in omega arith
 
-  pub last_there : (i : ℕ) (x : CodeMessage) → i + 1 ≡ length (pending_of ms b) → slice_get (pending_of ms b) i ≡ Some x → message_view x ≡ m
-  last_there i x end at =
-      let len = own_length in
-      let place : i ≡ length (filter own before) = omega arith in
-      let both : Some (message_view x) ≡ Some m =
-      sym (map_get message_view (pending_of ms b) i x at)
-      ∙ ap (λ l. slice_get l i) own_last
-      ∙ ap (slice_get (filter own before ++ m ∷ [])) place
-      ∙ at_end (filter own before) m in
-      cc
+  pub last_is : option_map message_view (last_pending (pending_of ms b)) ≡ Some m
+  last_is = last_view (pending_of ms b) (filter own before) m own_last
 
 -- ---- who receives the last message
 

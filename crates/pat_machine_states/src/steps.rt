@@ -136,8 +136,8 @@ impl IndexedConfig {
     {
         match self.placed.thread(thread) {
             Some(state) => match delivery(alloc, code, &self.mailboxes, &state.control, number) {
-                Ok((mailbox, place, control)) => {
-                    let message = self.mailboxes.take(mailbox, place);
+                Ok((mailbox, tag, control)) => {
+                    let message = self.mailboxes.take(mailbox, tag, number);
                     self.placed.go_on(thread, control);
                     Ok(message)
                 }

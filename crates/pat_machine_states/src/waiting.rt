@@ -59,11 +59,7 @@ impl IndexedConfig {
         if !self.mailboxes.is_live(mailbox) {
             return None;
         }
-        let count = self.mailboxes.len(mailbox);
-        if count == 0 {
-            return None;
-        }
-        Some(self.mailboxes.get(mailbox, count - 1))
+        self.mailboxes.last(mailbox)
     }
 
     /// Whether the thread may receive the message that was sent last, where that is pending and the last one. It takes no memory, and no walk.

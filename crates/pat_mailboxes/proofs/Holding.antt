@@ -1,11 +1,12 @@
 -- What nodes hold, while one of them changes.
 use Rattle.std.proofs.Common.{◌≡◌, ℕ, zero, suc, ◌+◌, ◌<◌, List, [], ◌∷◌, ◌++◌, ⊎_elim, length, get_or, remove, slice_index, slice_set, slice_get, Option, Some, None, IsSome, option_to_list, refl, sym, ap, ◌∙◌, subst, arith, append_assoc, set-set, length-set, length-append, get_or-set_same, get_or-set_other}
 use Rattle.std.proofs.lemmas.Bool.{cases_eq}
-use Rattle.std.proofs.lemmas.List.{map-append}
+use Rattle.std.proofs.lemmas.List.{length-map, map-append}
 use Rattle.pat_mailboxes.specs.queues.Nodes.{times, sum_over}
-use Rattle.pat_mailboxes.specs.queues.Chained.{IsChained, queue_nodes, nodes_in}
-use Rattle.pat_mailboxes.specs.queues.Pooled.{values_of, AreFull, contents_of, IsHolding}
+use Rattle.pat_mailboxes.specs.queues.Chained.{IsChained, nodes_of, queue_nodes, nodes_in}
+use Rattle.pat_mailboxes.specs.queues.Pooled.{values_of, AreFull, contents_of, contents, IsHolding}
 use Rattle.pat_mailboxes.specs.declared.queues.chains.Chains.{Chains}
+use Rattle.pat_mailboxes.specs.declared.queues.region.Region.{Region}
 use Rattle.pat_mailboxes.proofs.NodeLaws.{itself, differs, times-append, times-remove, times_at, sum_over_part, is_node, is_alone, not_elsewhere}
 use Rattle.pat_mailboxes.proofs.ChainLaws.{is_queue, not_there, get_empty}
 
@@ -175,6 +176,9 @@ module _ {T : Type 0} where
   full_at held [] i f h = absurd (omega arith)
   full_at held (x ∷ xs) zero f h = f.0
   full_at held (x ∷ xs) (suc i) f h = full_at held xs i f.1 (omega arith)
+
+  pub length_contents : (r : Region T) → length (contents r) ≡ length r.chains.queues.items
+  length_contents r = length-map (queue_nodes r.chains) (values_of r.held.items) ∙ length-map r.chains.queues.items (nodes_of r.chains.links.items)
 
   -- what a queue has at a place
   pub value_in : (chains : Chains) (held : List (Option T)) (q i : ℕ) → IsHolding chains held → i < length (get_or (contents_of held (queue_nodes chains)) q [])

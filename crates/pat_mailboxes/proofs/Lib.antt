@@ -1,11 +1,15 @@
 mod Messages
 mod Keeping
 mod Seeing
--- for the crates above
-pub mod Firsts
+mod Firsts
 mod NodeLaws
 mod ChainLaws
 mod Linking
 mod Holding
 mod Marking
+mod Lanes
+mod LaneChains
+mod LaneLoops
+mod Sorted
+mod Serving
 mod Searching

@@ -1,15 +1,18 @@
 -- Queues by their marks.
-use Rattle.std.proofs.Common.{◌≡◌, ℕ, zero, suc, ◌<◌, List, [], ◌∷◌, ◌++◌, ⊎_elim, length, get_or, slice_set, slice_get, Option, Some, None, refl, sym, ap, ◌∙◌, subst, arith, length-set, length-append, get_or-set_same, get_or-set_other}
+use Rattle.std.proofs.Common.{◌≡◌, ℕ, zero, suc, ◌+◌, ◌*◌, ◌<◌, ◌≤◌, List, [], ◌∷◌, ◌++◌, ⊎_elim, length, get_or, slice_set, slice_get, Option, Some, None, Result, Ok, Err, refl, sym, ap, ◌∙◌, subst, arith, length-set, length-append}
+use Rattle.std.specs.Prelude.{OnErr}
 use Rattle.std.specs.Option.{unwrap_or}
 use Rattle.std.proofs.lemmas.Bool.{cases_eq}
-use Rattle.std.proofs.lemmas.List.{get_or_past}
-use Rattle.pat_mailboxes.proofs.ChainLaws.{get_empty}
+use Rattle.pat_limits.specs.Limits.{number_count}
+use Rattle.pat_reduce.specs.declared.threads.state.Message.{Message}
+use Rattle.pat_mailboxes.specs.queues.Lanes.{AreLanes, queue_in}
 use Rattle.pat_mailboxes.specs.queues.Queues.{queue_at, values_at, Becomes, IsLive}
-use Rattle.pat_mailboxes.specs.queues.Pooled.{marked, queues_of, IsEmptyIfClosed, AreMarked}
+use Rattle.pat_mailboxes.specs.queues.Pooled.{marked, queues_from, queues_of, IsEmptyUnlessLive, AreMarked}
 use Rattle.pat_mailboxes.specs.declared.queues.pool.Mark.{Mark}
 use Rattle.pat_mailboxes.specs.declared.queues.pool.Mark.TheVariants.{Live, Closed}
+use Rattle.pat_mailboxes.proofs.LaneChains.{queue_same, lanes_same}
 
-abbrev marked_at : {T : Type 0} → Option Mark → List T → Option (List T)
+abbrev marked_at : Option Mark → List Message → Option (List Message)
 marked_at None values = None
 marked_at (Some m) values = marked m values
 
@@ -44,140 +47,135 @@ inside [] q x e = absurd cc
 inside (y ∷ ys) zero x e = omega arith
 inside (y ∷ ys) (suc q) x e = let rest = inside ys q x e in omega arith
 
-module _ {T : Type 0} where
-  queue_of : (ms : List Mark) (qs : List (List T)) (q : ℕ) → length ms ≡ length qs → queue_at (queues_of ms qs) q ≡ marked_at (slice_get ms q) (get_or qs q [])
-  queue_of [] [] q e = refl
-  queue_of [] (v ∷ vs) q e = absurd (omega arith)
-  queue_of (m ∷ ms) [] q e = absurd (omega arith)
-  queue_of (m ∷ ms) (v ∷ vs) zero e = refl
-  queue_of (m ∷ ms) (v ∷ vs) (suc q) e = queue_of ms vs q (omega arith)
+queue_of : (ms : List Mark) (cs : List (List Message)) (from q : ℕ) → queue_at (queues_from ms cs from) q ≡ marked_at (slice_get ms q) (queue_in cs (from + q))
+queue_of [] cs from q = refl
+queue_of (m ∷ ms) cs from zero = ap (λ k. marked m (queue_in cs k)) (let e : from ≡ from + 0 = omega arith in e)
+queue_of (m ∷ ms) cs from (suc q) = queue_of ms cs (suc from) q ∙ ap (λ k. marked_at (slice_get ms q) (queue_in cs k)) (let e : suc from + q ≡ from + suc q = omega arith in e)
 
-  live_mark : (o : Option Mark) (vs ws : List T) → marked_at o vs ≡ Some ws → (o ≡ Some Live) × (ws ≡ vs)
-  live_mark None vs ws e = absurd cc
-  live_mark (Some Live) vs ws e = (refl, cc)
-  live_mark (Some (Closed n)) vs ws e = absurd cc
+queue_is : (ms : List Mark) (cs : List (List Message)) (q : ℕ) → queue_at (queues_of ms cs) q ≡ marked_at (slice_get ms q) (queue_in cs q)
+queue_is ms cs q = queue_of ms cs 0 q ∙ ap (λ k. marked_at (slice_get ms q) (queue_in cs k)) (let e : 0 + q ≡ q = omega arith in e)
 
-  -- a live queue is one of those that there are
-  pub live_queue : (ms : List Mark) (qs : List (List T)) (q : ℕ) → AreMarked ms qs → IsLive (queues_of ms qs) q → (slice_get ms q ≡ Some Live) × (q < length qs) × (values_at (queues_of ms qs) q ≡ get_or qs q [])
-  live_queue ms qs q a live =
-      let is = live_mark (slice_get ms q) (get_or qs q []) live.0 (sym (queue_of ms qs q a.each) ∙ live.1) in
-      let each = a.each in
+live_mark : (o : Option Mark) (vs ws : List Message) → marked_at o vs ≡ Some ws → (o ≡ Some Live) × (ws ≡ vs)
+live_mark None vs ws e = absurd cc
+live_mark (Some Live) vs ws e = (refl, cc)
+live_mark (Some (Closed n)) vs ws e = absurd cc
+
+-- the marks and chains of queues that are seen
+module _ (ms : List Mark) (cs : List (List Message)) (spare q : ℕ) (seen : List (Option (List Message)) × ℕ) (view : (queues_of ms cs, spare) ≡ seen) (a : AreMarked ms cs) where
+  first : queues_of ms cs ≡ seen.0
+  first = ap (λ (v : List (Option (List Message)) × ℕ). v.0) view
+
+  seen_is : (r : ℕ) → queue_at seen.0 r ≡ marked_at (slice_get ms r) (queue_in cs r)
+  seen_is r = ap (λ v. queue_at v r) (sym first) ∙ queue_is ms cs r
+
+  -- a live queue has its lanes
+  pub live_seen : IsLive seen.0 q → (slice_get ms q ≡ Some Live) × (q * 8 + 8 ≤ length cs) × (q * 8 + 8 ≤ number_count) × (values_at seen.0 q ≡ queue_in cs q)
+  live_seen live =
+      let is = live_mark (slice_get ms q) (queue_in cs q) live.0 (sym (seen_is q) ∙ live.1) in
       let there = inside ms q Live is.0 in
-      (is.0, omega arith, ap (λ o. unwrap_or o []) live.1 ∙ is.1)
+      let each = a.each in
+      let few = a.few in
+      (is.0, omega arith, omega arith, ap (λ o. unwrap_or o []) live.1 ∙ is.1)
 
-  -- a live queue gets other values
-  pub set_queue : (ms : List Mark) (qs : List (List T)) (q : ℕ) (vs : List T) → AreMarked ms qs → IsLive (queues_of ms qs) q → AreMarked ms (slice_set qs q vs) × Becomes (queues_of ms qs) (queues_of ms (slice_set qs q vs)) q (Some vs)
-  set_queue ms qs q vs a live =
-      let own = live_queue ms qs q a live in
-      let each : length ms ≡ length (slice_set qs q vs) = a.each ∙ sym (length-set qs q vs) in (
+  -- it gets other messages
+  pub set_seen : (cs' : List (List Message)) (vs : List Message) → IsLive seen.0 q → length cs' ≡ length cs → AreLanes cs' → queue_in cs' q ≡ vs → ((r : ℕ) → (r ≡ q → ⊥) → queue_in cs' r ≡ queue_in cs r)
+      → AreMarked ms cs' × Becomes seen.0 (queues_of ms cs') q (Some vs)
+  set_seen cs' vs live size lanes here others =
+      let own = live_seen live in (
         record {
-          each = each;
+          few = a.few;
+          each = let each = a.each in omega arith;
+          lanes = lanes;
           closed = λ r.
-              ⊎_elim (λ (e : r ≡ q). subst (λ o. IsEmptyIfClosed o (get_or (slice_set qs q vs) r [])) (sym (ap (slice_get ms) e ∙ own.0)) tt)
-              (λ (ne : r ≡ q → ⊥). subst (IsEmptyIfClosed (slice_get ms r)) (sym (get_or-set_other qs q r vs [] ne)) (a.closed r))
+              ⊎_elim (λ (e : r ≡ q). subst (λ o. IsEmptyUnlessLive o (queue_in cs' r)) (sym (ap (slice_get ms) e ∙ own.0)) tt)
+              (λ (ne : r ≡ q → ⊥). subst (IsEmptyUnlessLive (slice_get ms r)) (sym (others r ne)) (a.closed r))
               (cases_eq r q);
         },
         record {
-          here = queue_of ms (slice_set qs q vs) q each ∙ ap (λ o. marked_at o (get_or (slice_set qs q vs) q [])) own.0 ∙ ap Some (get_or-set_same qs q vs [] own.1);
-          others = λ r ne.
-              queue_of ms (slice_set qs q vs) r each ∙ ap (marked_at (slice_get ms r)) (get_or-set_other qs q r vs [] ne) ∙ sym (queue_of ms qs r a.each);
+          here = queue_is ms cs' q ∙ ap (λ o. marked_at o (queue_in cs' q)) own.0 ∙ ap Some here;
+          others = λ r ne. queue_is ms cs' r ∙ ap (marked_at (slice_get ms r)) (others r ne) ∙ sym (seen_is r);
         },
       )
+
+  -- the mark of a queue changes that is empty before or behind
+  remarked : (m : Mark) → q < length ms → IsEmptyUnlessLive (Some m) (queue_in cs q) → AreMarked (slice_set ms q m) cs × Becomes seen.0 (queues_of (slice_set ms q m) cs) q (marked m (queue_in cs q))
+  remarked m there empty = (
+    record {
+      few = let size = length-set ms q m in let few = a.few in omega arith;
+      each = let size = length-set ms q m in let each = a.each in omega arith;
+      lanes = a.lanes;
+      closed = λ r.
+          ⊎_elim (λ (e : r ≡ q). subst (λ n. IsEmptyUnlessLive (slice_get (slice_set ms q m) n) (queue_in cs n)) (sym e) (subst (λ o. IsEmptyUnlessLive o (queue_in cs q)) (sym (set_here ms q m there)) empty))
+          (λ (ne : r ≡ q → ⊥). subst (λ o. IsEmptyUnlessLive o (queue_in cs r)) (sym (set_there ms q r m ne)) (a.closed r))
+          (cases_eq r q);
+    },
+    record {
+      here = queue_is (slice_set ms q m) cs q ∙ ap (λ o. marked_at o (queue_in cs q)) (set_here ms q m there);
+      others = λ r ne. queue_is (slice_set ms q m) cs r ∙ ap (λ o. marked_at o (queue_in cs r)) (set_there ms q r m ne) ∙ sym (seen_is r);
+    },
+  )
 
   -- an empty queue is closed
-  pub close_queue : (ms : List Mark) (qs : List (List T)) (q : ℕ) (next : Option ℕ) → AreMarked ms qs → queue_at (queues_of ms qs) q ≡ Some [] → (q < length ms) × AreMarked (slice_set ms q (Closed next)) qs × Becomes (queues_of ms qs) (queues_of (slice_set ms q (Closed next)) qs) q None
-  close_queue ms qs q next a empty =
-      let is = live_mark (slice_get ms q) (get_or qs q []) [] (sym (queue_of ms qs q a.each) ∙ empty) in
+  pub close_seen : (next : Option ℕ) → queue_at seen.0 q ≡ Some [] → (q < length ms) × AreMarked (slice_set ms q (Closed next)) cs × Becomes seen.0 (queues_of (slice_set ms q (Closed next)) cs) q None
+  close_seen next empty =
+      let is = live_mark (slice_get ms q) (queue_in cs q) [] (sym (seen_is q) ∙ empty) in
       let there = inside ms q Live is.0 in
-      let each : length (slice_set ms q (Closed next)) ≡ length qs = length-set ms q (Closed next) ∙ a.each in (
-        there,
-        record {
-          each = each;
-          closed = λ r.
-              ⊎_elim (λ (e : r ≡ q). subst (λ n. IsEmptyIfClosed (slice_get (slice_set ms q (Closed next)) n) (get_or qs n [])) (sym e) (subst (λ o. IsEmptyIfClosed o (get_or qs q [])) (sym (set_here ms q (Closed next) there)) (sym is.1)))
-              (λ (ne : r ≡ q → ⊥). subst (λ o. IsEmptyIfClosed o (get_or qs r [])) (sym (set_there ms q r (Closed next) ne)) (a.closed r))
-              (cases_eq r q);
-        },
-        record {
-          here = queue_of (slice_set ms q (Closed next)) qs q each ∙ ap (λ o. marked_at o (get_or qs q [])) (set_here ms q (Closed next) there);
-          others = λ r ne. queue_of (slice_set ms q (Closed next)) qs r each ∙ ap (λ o. marked_at o (get_or qs r [])) (set_there ms q r (Closed next) ne) ∙ sym (queue_of ms qs r a.each);
-        },
-      )
+      let r = remarked (Closed next) there (sym is.1) in
+      (there, r.0, r.1)
 
   -- a closed queue is opened
-  pub reopen_queue : (ms : List Mark) (qs : List (List T)) (q : ℕ) (next : Option ℕ) → AreMarked ms qs → slice_get ms q ≡ Some (Closed next) → (queue_at (queues_of ms qs) q ≡ None) × AreMarked (slice_set ms q Live) qs × Becomes (queues_of ms qs) (queues_of (slice_set ms q Live) qs) q (Some [])
-  reopen_queue ms qs q next a closed =
+  pub reopen_seen : (next : Option ℕ) → slice_get ms q ≡ Some (Closed next) → (queue_at seen.0 q ≡ None) × AreMarked (slice_set ms q Live) cs × Becomes seen.0 (queues_of (slice_set ms q Live) cs) q (Some [])
+  reopen_seen next closed =
       let there = inside ms q (Closed next) closed in
-      let each : length (slice_set ms q Live) ≡ length qs = length-set ms q Live ∙ a.each in
-      let empty : get_or qs q [] ≡ [] = subst (λ o. IsEmptyIfClosed o (get_or qs q [])) closed (a.closed q) in (
-        queue_of ms qs q a.each ∙ ap (λ o. marked_at o (get_or qs q [])) closed,
-        record {
-          each = each;
-          closed = λ r.
-              ⊎_elim (λ (e : r ≡ q). subst (λ n. IsEmptyIfClosed (slice_get (slice_set ms q Live) n) (get_or qs n [])) (sym e) (subst (λ o. IsEmptyIfClosed o (get_or qs q [])) (sym (set_here ms q Live there)) tt))
-              (λ (ne : r ≡ q → ⊥). subst (λ o. IsEmptyIfClosed o (get_or qs r [])) (sym (set_there ms q r Live ne)) (a.closed r))
-              (cases_eq r q);
-        },
-        record {
-          here = queue_of (slice_set ms q Live) qs q each ∙ ap (λ o. marked_at o (get_or qs q [])) (set_here ms q Live there) ∙ ap Some empty;
-          others = λ r ne. queue_of (slice_set ms q Live) qs r each ∙ ap (λ o. marked_at o (get_or qs r [])) (set_there ms q r Live ne) ∙ sym (queue_of ms qs r a.each);
-        },
-      )
+      let empty : queue_in cs q ≡ [] = subst (λ o. IsEmptyUnlessLive o (queue_in cs q)) closed (a.closed q) in
+      let r = remarked Live there tt in
+      (seen_is q ∙ ap (λ o. marked_at o (queue_in cs q)) closed, r.0, subst (λ (vs : List Message). Becomes seen.0 (queues_of (slice_set ms q Live) cs) q (Some vs)) empty r.1)
+
+  -- chains are added that are empty
+  pub more_seen : (cs' : List (List Message)) → length cs ≤ length cs' → ((k : ℕ) → get_or cs' k [] ≡ get_or cs k []) → AreMarked ms cs' × (queues_of ms cs' ≡ seen.0)
+  more_seen cs' longer same = (
+    record {
+      few = a.few;
+      each = let each = a.each in omega arith;
+      lanes = lanes_same cs cs' same a.lanes;
+      closed = λ r. subst (IsEmptyUnlessLive (slice_get ms r)) (sym (queue_same cs cs' r same)) (a.closed r);
+    },
+    queues_same ms cs cs' 0 same ∙ first,
+  )
+    where
+      queues_same : (ms : List Mark) (cs cs' : List (List Message)) (from : ℕ) → ((k : ℕ) → get_or cs' k [] ≡ get_or cs k []) → queues_from ms cs' from ≡ queues_from ms cs from
+      queues_same [] cs cs' from same = refl
+      queues_same (m ∷ ms) cs cs' from same =
+          ap (λ (vs : List Message). marked m vs ∷ queues_from ms cs' (suc from)) (queue_same cs cs' from same) ∙ ap (λ qs. marked m (queue_in cs from) ∷ qs) (queues_same ms cs cs' (suc from) same)
 
   -- a queue is added
-  pub add_queue : (ms : List Mark) (qs : List (List T)) (q : ℕ) → q ≡ length ms → AreMarked ms qs → (queue_at (queues_of ms qs) q ≡ None) × AreMarked (ms ++ Live ∷ []) (qs ++ [] ∷ []) × Becomes (queues_of ms qs) (queues_of (ms ++ Live ∷ []) (qs ++ [] ∷ [])) q (Some [])
-  add_queue ms qs q at a =
-      let same = a.each in
-      let longer = length-append ms (Live ∷ []) in
-      let wider = length-append qs ([] ∷ []) in
-      let each : length (ms ++ Live ∷ []) ≡ length (qs ++ [] ∷ []) = omega arith in
+  pub add_seen : (cs' : List (List Message)) → q ≡ length ms → q * 8 + 8 ≤ number_count → q * 8 + 8 ≤ length cs' → length cs ≤ length cs' → ((k : ℕ) → get_or cs' k [] ≡ get_or cs k [])
+      → (queue_at seen.0 q ≡ None) × AreMarked (ms ++ Live ∷ []) cs' × Becomes seen.0 (queues_of (ms ++ Live ∷ []) cs') q (Some [])
+  add_seen cs' at few each longer same =
+      let size = length-append ms (Live ∷ []) in
       let none : slice_get ms q ≡ None = ap (slice_get ms) at ∙ past ms in
       let here : slice_get (ms ++ Live ∷ []) q ≡ Some Live = ap (slice_get (ms ++ Live ∷ [])) at ∙ push_here ms Live in
-      let empty : get_or (qs ++ [] ∷ []) q [] ≡ [] = get_empty qs q ∙ get_or_past qs q [] (omega arith) in (
-        queue_of ms qs q a.each ∙ ap (λ o. marked_at o (get_or qs q [])) none,
+      let empty : queue_in cs q ≡ [] = subst (λ o. IsEmptyUnlessLive o (queue_in cs q)) none (a.closed q) in (
+        seen_is q ∙ ap (λ o. marked_at o (queue_in cs q)) none,
         record {
-          each = each;
+          few = omega arith;
+          each = omega arith;
+          lanes = lanes_same cs cs' same a.lanes;
           closed = λ r.
-              ⊎_elim (λ (e : r ≡ q). subst (λ n. IsEmptyIfClosed (slice_get (ms ++ Live ∷ []) n) (get_or (qs ++ [] ∷ []) n [])) (sym e) (subst (λ o. IsEmptyIfClosed o (get_or (qs ++ [] ∷ []) q [])) (sym here) tt))
-              (λ (ne : r ≡ q → ⊥). subst (λ o. IsEmptyIfClosed o (get_or (qs ++ [] ∷ []) r [])) (sym (push_there ms Live r (λ e. ne (e ∙ sym at)))) (subst (IsEmptyIfClosed (slice_get ms r)) (sym (get_empty qs r)) (a.closed r)))
+              ⊎_elim (λ (e : r ≡ q). subst (λ n. IsEmptyUnlessLive (slice_get (ms ++ Live ∷ []) n) (queue_in cs' n)) (sym e) (subst (λ o. IsEmptyUnlessLive o (queue_in cs' q)) (sym here) tt))
+              (λ (ne : r ≡ q → ⊥). subst (λ o. IsEmptyUnlessLive o (queue_in cs' r)) (sym (push_there ms Live r (λ e. ne (e ∙ sym at)))) (subst (IsEmptyUnlessLive (slice_get ms r)) (sym (queue_same cs cs' r same)) (a.closed r)))
               (cases_eq r q);
         },
         record {
-          here = queue_of (ms ++ Live ∷ []) (qs ++ [] ∷ []) q each ∙ ap (λ o. marked_at o (get_or (qs ++ [] ∷ []) q [])) here ∙ ap Some empty;
+          here = queue_is (ms ++ Live ∷ []) cs' q ∙ ap (λ o. marked_at o (queue_in cs' q)) here ∙ ap Some (queue_same cs cs' q same ∙ empty);
           others = λ r ne.
-              queue_of (ms ++ Live ∷ []) (qs ++ [] ∷ []) r each
-              ∙ ap (λ o. marked_at o (get_or (qs ++ [] ∷ []) r [])) (push_there ms Live r (λ e. ne (e ∙ sym at)))
-              ∙ ap (marked_at (slice_get ms r)) (get_empty qs r)
-              ∙ sym (queue_of ms qs r a.each);
+              queue_is (ms ++ Live ∷ []) cs' r
+              ∙ ap (λ o. marked_at o (queue_in cs' r)) (push_there ms Live r (λ e. ne (e ∙ sym at)))
+              ∙ ap (marked_at (slice_get ms r)) (queue_same cs cs' r same)
+              ∙ sym (seen_is r);
         },
       )
 
-  -- the same of queues that are seen
-  module _ (ms : List Mark) (qs : List (List T)) (spare q : ℕ) (seen : List (Option (List T)) × ℕ) (view : (queues_of ms qs, spare) ≡ seen) (a : AreMarked ms qs) where
-    first : queues_of ms qs ≡ seen.0
-    first = ap (λ (v : List (Option (List T)) × ℕ). v.0) view
-
-    pub live_seen : IsLive seen.0 q → (q < length qs) × (values_at seen.0 q ≡ get_or qs q [])
-    live_seen live =
-        let own = live_queue ms qs q a (subst (λ v. IsLive v q) (sym first) live) in
-        (own.1, ap (λ v. values_at v q) (sym first) ∙ own.2)
-
-    pub set_seen : (vs : List T) → IsLive seen.0 q → AreMarked ms (slice_set qs q vs) × Becomes seen.0 (queues_of ms (slice_set qs q vs)) q (Some vs)
-    set_seen vs live =
-        let r = set_queue ms qs q vs a (subst (λ v. IsLive v q) (sym first) live) in
-        (r.0, subst (λ v. Becomes v (queues_of ms (slice_set qs q vs)) q (Some vs)) first r.1)
-
-    pub close_seen : (next : Option ℕ) → queue_at seen.0 q ≡ Some [] → (q < length ms) × AreMarked (slice_set ms q (Closed next)) qs × Becomes seen.0 (queues_of (slice_set ms q (Closed next)) qs) q None
-    close_seen next empty =
-        let r = close_queue ms qs q next a (ap (λ v. queue_at v q) first ∙ empty) in
-        (r.0, r.1, subst (λ v. Becomes v (queues_of (slice_set ms q (Closed next)) qs) q None) first r.2)
-
-    pub reopen_seen : (next : Option ℕ) → slice_get ms q ≡ Some (Closed next) → (queue_at seen.0 q ≡ None) × AreMarked (slice_set ms q Live) qs × Becomes seen.0 (queues_of (slice_set ms q Live) qs) q (Some [])
-    reopen_seen next closed =
-        let r = reopen_queue ms qs q next a closed in
-        (ap (λ v. queue_at v q) (sym first) ∙ r.0, r.1, subst (λ v. Becomes v (queues_of (slice_set ms q Live) qs) q (Some [])) first r.2)
-
-    pub add_seen : q ≡ length ms → (queue_at seen.0 q ≡ None) × AreMarked (ms ++ Live ∷ []) (qs ++ [] ∷ []) × Becomes seen.0 (queues_of (ms ++ Live ∷ []) (qs ++ [] ∷ [])) q (Some [])
-    add_seen at =
-        let r = add_queue ms qs q at a in
-        (ap (λ v. queue_at v q) (sym first) ∙ r.0, r.1, subst (λ v. Becomes v (queues_of (ms ++ Live ∷ []) (qs ++ [] ∷ [])) q (Some [])) first r.2)
+pub on_err : {A E : Type 0} (r : Result A E) (P : Type 0) → P → OnErr r P
+on_err (Ok x) P p = tt
+on_err (Err e) P p = p

@@ -5,7 +5,7 @@ use Rattle.std.proofs.lemmas.Bool.{cases_eq}
 use Rattle.pat_reduce.specs.declared.threads.state.Message.{Message}
 use Rattle.pat_mailboxes.specs.Mailboxes.{Mailbox, mailbox_at, pending_in, pending_at, all_pending, Ascend, IsInOrder, AreInOrder}
 
-all_push : {X : Type 0} (P : X → Type 0) (xs : List X) (x : X) → AllByRecursion P xs → P x → AllByRecursion P (xs ++ x ∷ [])
+pub all_push : {X : Type 0} (P : X → Type 0) (xs : List X) (x : X) → AllByRecursion P xs → P x → AllByRecursion P (xs ++ x ∷ [])
 all_push P [] x a p = (p, tt)
 all_push P (y ∷ ys) x a p = (a.0, all_push P ys x a.1 p)
 

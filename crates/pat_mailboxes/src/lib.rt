@@ -6,5 +6,5 @@ mod queues;
 mod store;
 
 pub use mailboxes::Mailboxes;
-pub use queues::{Chain, Chains, Mark, Pool, Region, Test};
+pub use queues::{Chain, Chains, LANES, Mark, Numbered, Pool, Region, Test, lane_of};
 pub use store::Store;

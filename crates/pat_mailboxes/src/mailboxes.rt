@@ -1,7 +1,7 @@
 // Mailboxes over a pool of queues.
-ghost use Rattle.std.specs.Prelude.{◌≡◌, ℕ, ◌+◌, ◌-◌, ◌<◌, ◌≤◌, max, [], ◌∷◌, ◌++◌, length, map, option_map, Some, None, IfOk, OnOk, OnErr, slice_get, slice_set, remove, is_some};
+ghost use Rattle.std.specs.Prelude.{◌≡◌, ℕ, ◌+◌, ◌-◌, ◌<◌, ◌≤◌, max, [], ◌∷◌, ◌++◌, length, map, find, option_copied, Some, None, IfOk, OnOk, OnErr, slice_get, slice_set, remove, is_some};
 ghost use Rattle.std.specs.List.{AllByRecursion};
-ghost use Rattle.pat_mailboxes.specs.queues.Queues.{Finds};
+ghost use Rattle.pat_mailboxes.specs.queues.Lanes.{IsMessageAt, last_of};
 ghost use Rattle.pat_mailboxes.specs.Mailboxes.{AreInOrder, IsLive, Mailbox, all_pending, mailbox_at, pending_at};
 
 use crate::queues::Test;
@@ -108,31 +108,31 @@ impl Mailboxes {
         self.store.pool.push_back(queue, message);
     }
 
-    /// The message of the least number that passes a test, and its place. It takes no memory.
-    pub fn find<P: Test<Message>>(&self, mailbox: u32, test: &P) -> Option<(u32, &Message)>
+    /// The message of the least number that passes a test. It takes no memory.
+    pub fn find<P: Test>(&self, mailbox: u32, test: &P) -> Option<&Message>
         requires { IsLive self.now.mailboxes mailbox }
-        ensures first { Finds (P.passes test.now) (pending_at self.now.mailboxes mailbox) (option_map (λ f. (f.0, f.1.now)) result) }
+        ensures first { option_copied result ≡ find (P.passes test.now) (pending_at self.now.mailboxes mailbox) }
         ensures order { AreInOrder self.now.mailboxes }
     {
         let queue = queue_of(self.store.queues.as_slice(), mailbox);
         self.store.pool.find(queue, test)
     }
 
-    /// Takes out the message at a place of those that are pending in a mailbox. It takes no memory.
-    pub fn take(&mut self, mailbox: u32, place: u32) -> Message
+    /// Takes out the message of a tag and a number that is pending in a mailbox. It takes no memory.
+    pub fn take(&mut self, mailbox: u32, tag: u8, number: u32) -> Message
         requires live { IsLive self.old.mailboxes mailbox }
-        requires there { place < length (pending_at self.old.mailboxes mailbox) }
-        ensures message { slice_get (pending_at self.old.mailboxes mailbox) place ≡ Some result }
-        ensures rest { self.new ≡ record {
+        requires there { (place : ℕ) × IsMessageAt tag number (pending_at self.old.mailboxes mailbox) place }
+        ensures number { result.number ≡ number }
+        ensures rest { (place : ℕ) × (slice_get (pending_at self.old.mailboxes mailbox) place ≡ Some result) × (self.new ≡ record {
           mailboxes
               = slice_set self.old.mailboxes mailbox (Some (record { pending = remove (pending_at self.old.mailboxes mailbox) place }));
           room
               = self.old.room;
           spare = self.old.spare;
-        } }
+        }) }
     {
         let queue = queue_of(self.store.queues.as_slice(), mailbox);
-        self.store.pool.take_at(queue, place)
+        self.store.pool.take(queue, tag, number)
     }
 
     /// How many messages are pending in a mailbox.
@@ -141,17 +141,16 @@ impl Mailboxes {
         ensures { result ≡ length (pending_at self.now.mailboxes mailbox) }
     {
         let queue = queue_of(self.store.queues.as_slice(), mailbox);
-        self.store.pool.len(queue)
+        self.store.pool.len(queue, self.room)
     }
 
-    /// The message at a place of those that are pending in a mailbox.
-    pub fn get(&self, mailbox: u32, place: u32) -> &Message
-        requires live { IsLive self.now.mailboxes mailbox }
-        requires there { place < length (pending_at self.now.mailboxes mailbox) }
-        ensures { slice_get (pending_at self.now.mailboxes mailbox) place ≡ Some result.now }
+    /// The last of the messages that are pending in a mailbox. It takes no memory.
+    pub fn last(&self, mailbox: u32) -> Option<&Message>
+        requires { IsLive self.now.mailboxes mailbox }
+        ensures { option_copied result ≡ last_of (pending_at self.now.mailboxes mailbox) }
     {
         let queue = queue_of(self.store.queues.as_slice(), mailbox);
-        self.store.pool.get(queue, place)
+        self.store.pool.last(queue)
     }
 
     /// The messages that are pending in a mailbox, in order.

@@ -3,13 +3,12 @@ ghost use Rattle.std.specs.Prelude.{◌≡◌, ℕ, ◌+◌, ◌≤◌, [], leng
 ghost use Rattle.pat_mailboxes.specs.Kept.{IsStore, shown_in};
 
 use crate::queues::Pool;
-use pat_reduce::Message;
 use std::alloc::{AllocError, Global};
 
 /// Mailboxes by number, each with a queue of one pool.
 #[derive(Drop)]
 pub struct Store {
-    pub pool: Pool<Message>,
+    pub pool: Pool,
     /// Of each live mailbox.
     pub queues: Vec<Option<u32>>,
     /// Queues that were opened ahead.

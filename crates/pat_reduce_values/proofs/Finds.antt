@@ -63,6 +63,10 @@ module _ {A : Type 0} where
   any_append q [] ys = refl
   any_append q (x ∷ xs) ys = ap (λ b. q x || b) (any_append q xs ys) ∙ or_assoc (q x) (list_any q xs) (list_any q ys)
 
+pub filter_alike : {A : Type 0} (q r : A → Bool) (xs : List A) → ((x : A) → q x ≡ r x) → filter q xs ≡ filter r xs
+filter_alike q r [] same = refl
+filter_alike q r (x ∷ xs) same = ap (λ b. if b then x ∷ filter q xs else filter q xs) (same x) ∙ ap (λ l. if r x then x ∷ l else l) (filter_alike q r xs same)
+
 pub any_map : {A B : Type 0} (q : B → Bool) (f : A → B) (xs : List A) → list_any q (map f xs) ≡ list_any (λ x. q (f x)) xs
 any_map q f [] = refl
 any_map q f (x ∷ xs) = ap (λ b. q (f x) || b) (any_map q f xs)

@@ -1,4 +1,5 @@
 mod Bindings
+mod Halving
 -- for the crates above
 pub mod Finds
 mod Keeping

@@ -1,10 +1,15 @@
 -- The environments of a frame and of a call, and where a variable stands in an environment.
-use Rattle.std.specs.Prelude.{◌≡◌, ℕ, suc, ◌≤◌, Bool, false, not, nat_eq, nat_lt, if◌then◌else◌, List, [], ◌∷◌, ◌++◌, length, take, drop, Option, Some, None, slice_get, filter}
+use Rattle.std.specs.Prelude.{◌≡◌, ℕ, suc, ◌≤◌, Bool, true, false, ◌&&◌, not, nat_eq, nat_le, nat_lt, if◌then◌else◌, List, [], ◌∷◌, ◌++◌, length, take, drop, Option, Some, None, slice_get, filter}
 use Rattle.pat_primitives.specs.Values.{Value, Env, bind}
 use Rattle.pat_primitives.specs.Programs.{Program, is_among, option_list, keep}
 use Rattle.pat_reduce_values.specs.declared.values.Value.{Value as CodeValue}
 use Rattle.pat_reduce_values.specs.ValueViews.{env_view}
 use Rattle.pat_limits.specs.Limits.{number_count}
+
+-- the variables ascend, from n on
+abbrev pub ascends_from : ℕ → Env → Bool
+ascends_from n [] = true
+ascends_from n (e ∷ env) = nat_le n e.0 && ascends_from (suc e.0) env
 
 -- the values of just the node's free variables but the one that a let binds
 abbrev pub keep_but : Program → ℕ → Option ℕ → Env → Env

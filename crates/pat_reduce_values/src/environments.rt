@@ -34,9 +34,10 @@ pub fn kept_but(
 ) -> Result<Sequence<(u32, Value)>, AllocError>
     ensures { IfOk result (λ r. env_view r ≡ keep_but (program_view code.now.program) node var (env_view env.now)) }
 {
+    let free = code.free_in(node);
     let mut own = Sequence::new(alloc);
     for entry in env {
-        if code.is_free(entry.0, node) && var != Some(entry.0) {
+        if free.contains(entry.0) && var != Some(entry.0) {
             push_copy(alloc, &mut own, entry)?;
         }
     }
@@ -72,7 +73,8 @@ pub fn copied(alloc: Global, env: &[(u32, Value)]) -> Result<Sequence<(u32, Valu
 pub fn keep_free(code: &Executable, node: u32, env: &mut Sequence<(u32, Value)>)
     ensures { env_view env.new ≡ keep (program_view code.now.program) node (env_view env.old) }
 {
-    env.items.retain(|entry| code.is_free(entry.0, node));
+    let free = code.free_in(node);
+    env.items.retain(|entry| free.contains(entry.0));
 }
 
 /// The environment where the variable, if there is one, has this value.

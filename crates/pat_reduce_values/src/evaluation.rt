@@ -7,6 +7,7 @@ ghost use Rattle.pat_reduce_values.specs.ValueViews.{value_view, reference_view,
 ghost use Rattle.pat_reduce_values.specs.Environments.{parameter, parameters_from};
 ghost use Rattle.pat_reduce_values.specs.Results.{Gives};
 
+use crate::lookups::{is_by_halves, value_in};
 use crate::{StepError, Value, ValueRef};
 use pat_core::Expr;
 use pat_primitives::Op;
@@ -117,9 +118,10 @@ pub fn values_of(
 ) -> Result<Sequence<Value>, StepError>
     ensures { Gives (map value_view) (eval_all (env_view env.now) (map expr_view args.now)) result }
 {
+    let by_halves = is_by_halves(args, env);
     let mut values = Sequence::new(alloc);
     for e in args {
-        values.push(value_for(alloc, e, env)?)?;
+        values.push(value_in(alloc, e, env, by_halves)?)?;
     }
     Ok(values)
 }
@@ -133,9 +135,10 @@ pub fn parameters(
 ) -> Result<Sequence<(u32, Value)>, StepError>
     ensures { Gives env_view (option_map (parameters_from 0) (eval_all (env_view env.now) (map expr_view args.now))) result }
 {
+    let by_halves = is_by_halves(args, env);
     let mut values = Sequence::new(alloc);
     for (number, e) in args.iter().enumerate() {
-        push_parameter(&mut values, number, value_for(alloc, e, env)?)?;
+        push_parameter(&mut values, number, value_in(alloc, e, env, by_halves)?)?;
     }
     Ok(values)
 }

@@ -4,6 +4,7 @@
 mod environments;
 mod error;
 mod evaluation;
+mod lookups;
 mod programs;
 mod values;
 

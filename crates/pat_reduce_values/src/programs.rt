@@ -5,4 +5,4 @@ mod free_variables;
 mod variables;
 
 pub use executable::Executable;
-use variables::Variables;
+use variables::{AtHand, Variables};

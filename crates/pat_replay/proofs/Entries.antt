@@ -92,7 +92,7 @@ shared_taken p c d t (Some a) n h taken =
       messages = let less = taken.messages in let one = ahead.messages in omega arith;
     })
 
-of_entry : (p : Program) (c d : Config) (ks : List Step) → entry_from p c ks ≡ Some d → run_from p c ks ≡ Some d
+pub of_entry : (p : Program) (c d : Config) (ks : List Step) → entry_from p c ks ≡ Some d → run_from p c ks ≡ Some d
 of_entry p c d [] h = cc
 of_entry p c d (k ∷ ks) h = h
 

@@ -1,12 +1,13 @@
 -- A search by halves through threads, which ascend by number.
-use Rattle.std.proofs.Common.{◌≡◌, ℕ, zero, suc, ◌<◌, ◌≤◌, ◌+◌, ⊎_elim, true, false, nat_eq, [], ◌∷◌, length, Some, None, refl, sym, ap, ◌∙◌, subst, arith}
+use Rattle.std.proofs.Common.{◌≡◌, ℕ, zero, suc, ◌<◌, ◌≤◌, ◌+◌, ⊎_elim, true, false, nat_eq, [], ◌∷◌, length, get_or, Some, None, refl, sym, ap, ◌∙◌, subst, arith}
 use Rattle.std.specs.Prelude.{slice_get}
 use Rattle.std.specs.Map.{lookup}
 use Rattle.std.proofs.lemmas.Bool.{cond-false, cases_Bool, cases_lt, eqb-true}
-use Rattle.std.proofs.lemmas.Option.{same_Some}
+use Rattle.std.proofs.lemmas.Option.{same_Some, slice_get_read}
 use Rattle.pat_reduce.specs.declared.threads.state.ThreadState.{ThreadState}
 use Rattle.pat_reduce.specs.threads.ThreadViews.{thread_view}
 use Rattle.pat_reduce.specs.Views.{threads_view}
+use Rattle.pat_reduce.specs.Places.{IsPlace}
 use Rattle.pat_reduce.proofs.Ascending.{Threads, Ascending, apart, at_least}
 
 unlike : (a b : ℕ) → b < a → nat_eq b a ≡ false
@@ -71,3 +72,23 @@ everywhere ts t high all = record {
     past [] j e l at = cc
     past (x ∷ ts) zero e l at = absurd (omega arith)
     past (x ∷ ts) (suc j) e l at = past ts j e (omega arith) at
+
+-- what is read at a place is the thread there
+pub stands : (threads : Threads) (t i : ℕ) (e : ℕ × ThreadState) → IsPlace threads t i → e ≡ get_or threads i e → slice_get threads i ≡ Some (t, (get_or threads i e).1)
+stands threads t i e at is =
+    let got = slice_get_read threads (length threads) i e refl at.within is in
+    got ∙ ap (λ (n : ℕ). Some (n, e.1)) (at.state e got).0 ∙ ap (λ (q : ℕ × ThreadState). Some (t, q.1)) is
+
+-- and it is the thread of its number
+pub stands_as : (threads slice : Threads) (t i : ℕ) (st : ThreadState) → slice ≡ threads → IsPlace threads t i → slice_get slice i ≡ Some (t, st) → lookup (nat_eq t) (threads_view threads) ≡ Some (thread_view st)
+stands_as threads slice t i st same at got = (at.state (t, st) (ap (λ l. slice_get l i) (sym same) ∙ got)).1
+
+-- there is one at each place
+one_at : (ts : Threads) (i : ℕ) → i < length ts → (e : ℕ × ThreadState) × (slice_get ts i ≡ Some e)
+one_at [] i l = absurd (omega arith)
+one_at (x ∷ ts) zero l = (x, refl)
+one_at (x ∷ ts) (suc i) l = one_at ts i (omega arith)
+
+-- so the thread at a place is there
+pub is_there : (ts : Threads) (t i : ℕ) → IsPlace ts t i → (e : ℕ × ThreadState) × (lookup (nat_eq t) (threads_view ts) ≡ Some (thread_view e.1))
+is_there ts t i at = let e = one_at ts i at.within in (e.0, (at.state e.0 e.1).1)

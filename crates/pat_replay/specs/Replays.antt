@@ -9,15 +9,15 @@ use Rattle.pat_machine_spec.specs.Commits.{local_of}
 use Rattle.pat_machine_spec.specs.Refusals.{IsRefusedAt}
 use Rattle.pat_reduce_values.specs.declared.error.StepError.{StepError}
 use Rattle.pat_reduce_values.specs.declared.error.StepError.TheVariants as step_error
-use Rattle.pat_reduce.specs.declared.config.Config.{Config as CodeConfig}
 use Rattle.pat_reduce.specs.Views.{config_view}
 use Rattle.pat_limits.specs.Limits.{most_number}
+use Rattle.pat_replay.specs.declared.making.Reached.{Reached}
 use Rattle.pat_replay.specs.declared.error.ReplayError.{ReplayError}
 use Rattle.pat_replay.specs.declared.error.ReplayError.TheVariants as replay_error
 
 -- the configuration to which the history leads from this one; or the entry that is refused; or memory ran out
-abbrev pub ReplayGives : Program → Config → List Entry → Result CodeConfig ReplayError → Type 0
-ReplayGives p b es (Ok c) = replay_from p b es ≡ Some (config_view c)
+abbrev pub ReplayGives : Program → Config → List Entry → Result Reached ReplayError → Type 0
+ReplayGives p b es (Ok r) = replay_from p b es ≡ Some (config_view r.config)
 ReplayGives p b es (Err (replay_error.RefusedAt i)) = IsRefusedAt p b es i
 ReplayGives p b es (Err replay_error.NoMemory) = Unit {0}
 

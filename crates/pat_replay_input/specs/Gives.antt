@@ -4,10 +4,12 @@ use Rattle.std.specs.declared.result.Result.TheVariants.{Ok, Err}
 use Rattle.pat_semantics_spec.specs.Programs.{Program}
 use Rattle.pat_semantics_spec.specs.Configs.{Config}
 use Rattle.pat_semantics_spec.specs.Runs.{Entry, replay_from}
+use Rattle.pat_semantics_laws.specs.Laws.{history_steps}
 use Rattle.pat_core.specs.Views.{program_view}
-use Rattle.pat_reduce.specs.declared.config.Config.{Config as CodeConfig}
 use Rattle.pat_reduce.specs.Views.{config_view, entry_view}
 use Rattle.pat_machine_spec.specs.Refusals.{IsRefusedAt}
+use Rattle.pat_checkpoint_spec.specs.Resumed.{made_along}
+use Rattle.pat_replay.specs.declared.making.Reached.{Reached}
 use Rattle.pat_history_spec.specs.Reading.{ReadsAs, Unread}
 use Rattle.pat_front.specs.declared.front.FrontError.{FrontError}
 use Rattle.pat_front.specs.declared.front.FrontError.TheVariants as error
@@ -40,9 +42,13 @@ PartGives p b from part (Ok r) =
 PartGives p b from part (Err (error.Refused v)) = RefusesPart p b from part v
 PartGives p b from part (Err error.NoMemory) = Unit {0}
 
--- the configuration that entries lead to, or which of them is refused
-abbrev pub EntriesGive : Program → Config → List Entry → Result CodeConfig FrontError → Type 0
-EntriesGive p b es (Ok c) = replay_from p b es ≡ Some (config_view c)
+-- the interfaces of the mailboxes that the history makes, from a configuration on
+abbrev pub Makes : Program → Config → Replayed → Type 0
+Makes p b r = r.made ≡ made_along p b (history_steps (map entry_view r.entries.items))
+
+-- where entries lead, or which of them is refused
+abbrev pub EntriesGive : Program → Config → List Entry → Result Reached FrontError → Type 0
+EntriesGive p b es (Ok r) = replay_from p b es ≡ Some (config_view r.config)
 EntriesGive p b es (Err (error.Refused (verdict.RefusedAt i))) = IsRefusedAt p b es i
 EntriesGive p b es (Err (error.Refused _)) = ⊥
 EntriesGive p b es (Err error.NoMemory) = Unit {0}

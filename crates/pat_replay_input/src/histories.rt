@@ -1,13 +1,15 @@
 // The replay of a history behind the text of its program.
-ghost use Rattle.std.specs.Prelude.{◌<◌, ◌≤◌, ◌+◌, IfOk, length, map};
+ghost use Rattle.std.specs.Prelude.{◌≡◌, ◌<◌, ◌≤◌, ◌+◌, IfOk, length, map};
 ghost use Rattle.pat_semantics_spec.specs.Configs.{start};
 ghost use Rattle.pat_semantics_spec.specs.Orders.{IsOrdered};
 ghost use Rattle.pat_semantics_spec.specs.WellFormed.{WellFormed};
 ghost use Rattle.pat_core.specs.Views.{program_view};
 ghost use Rattle.pat_reduce.specs.Views.{config_view, entry_view};
+ghost use Rattle.pat_semantics_laws.specs.Laws.{history_steps};
+ghost use Rattle.pat_checkpoint_spec.specs.Resumed.{made_along};
 ghost use Rattle.pat_replay.specs.Replays.{HasRoom};
 ghost use Rattle.pat_replay_input.specs.Histories.{IsHistoryPart};
-ghost use Rattle.pat_replay_input.specs.Gives.{BytesGive, TextGives, PartGives, EntriesGive};
+ghost use Rattle.pat_replay_input.specs.Gives.{BytesGive, TextGives, PartGives, EntriesGive, Makes};
 ghost use Rattle.pat_limits.specs.Limits.{most_number};
 ghost use Rattle.pat_input.specs.Inputs.{whole_limit};
 
@@ -17,16 +19,19 @@ use pat_history::read;
 use pat_input_split::{place_of_mark, program_before};
 use pat_reduce::{Config, Entry};
 use pat_reduce_values::Executable;
-use pat_replay::{ReplayError, replay_from};
+use pat_replay::{Reached, ReplayError, replay_from};
+use pat_sequences::Sequence;
 use pat_texts::TextError;
 use std::alloc::Global;
 
-/// A program, a history of it, and the configuration that this leads to.
+/// A program, a history of it, the configuration that this leads to, and the interfaces of the mailboxes that it makes, in the order in which
+/// they are made.
 #[derive(Drop)]
 pub struct Replayed {
     pub code: Executable,
     pub entries: Vec<Entry>,
     pub config: Config,
+    pub made: Sequence<u32>,
 }
 
 /// The bytes are the text of a program, and behind it that of a history: what this leads to.
@@ -64,22 +69,19 @@ fn replay_text(
 /// So of a history that goes on from this configuration of the program.
 pub fn replay_behind(
     alloc: Global,
-    program: Program,
+    code: Executable,
     config: Config,
     text: &[u8],
     from: u32,
 ) -> Result<Replayed, FrontError>
-    requires well_formed { WellFormed (program_view program) }
     requires ordered { IsOrdered (config_view config) }
     requires numbers { HasRoom (config_view config) whole_limit }
     requires room { from + length text.now ≤ whole_limit }
-    ensures gives { TextGives (program_view program) (config_view config) from text.now result }
+    ensures gives { TextGives (program_view code.program) (config_view config) from text.now result }
     ensures few { IfOk result (λ r. length r.entries.items < most_number) }
+    ensures made { IfOk result (Makes (program_view code.program) (config_view config)) }
 {
-    match Executable::new(alloc, program) {
-        Ok(code) => replay_part(alloc, code, config, before_output(text), from),
-        Err(_) => Err(FrontError::NoMemory),
-    }
+    replay_part(alloc, code, config, before_output(text), from)
 }
 
 // What is looked at of a text: nothing from the first line `%%output` on.
@@ -105,13 +107,15 @@ fn replay_part(
     requires room { from + length part.now ≤ whole_limit }
     ensures gives { PartGives (program_view code.program) (config_view config) from part.now result }
     ensures few { IfOk result (λ r. length r.entries.items < most_number) }
+    ensures made { IfOk result (Makes (program_view code.program) (config_view config)) }
 {
     match read(alloc, part, from) {
         Ok(entries) => match replay_entries(alloc, &code, config, &entries) {
-            Ok(config) => Ok(Replayed {
+            Ok(reached) => Ok(Replayed {
                 code,
                 entries,
-                config,
+                config: reached.config,
+                made: reached.made,
             }),
             Err(error) => Err(error),
         },
@@ -120,19 +124,21 @@ fn replay_part(
     }
 }
 
-// What the entries lead to.
+// Where the entries lead.
 fn replay_entries(
     alloc: Global,
     code: &Executable,
     config: Config,
     entries: &[Entry],
-) -> Result<Config, FrontError>
+) -> Result<Reached, FrontError>
     requires ordered { IsOrdered (config_view config) }
     requires numbers { HasRoom (config_view config) (length entries.now) }
-    ensures { EntriesGive (program_view code.now.program) (config_view config) (map entry_view entries.now) result }
+    ensures gives { EntriesGive (program_view code.now.program) (config_view config) (map entry_view entries.now) result }
+    ensures made { IfOk result (λ r. r.made ≡ made_along (program_view code.now.program) (config_view config)
+        (history_steps (map entry_view entries.now))) }
 {
     match replay_from(alloc, code, config, entries) {
-        Ok(config) => Ok(config),
+        Ok(reached) => Ok(reached),
         Err(ReplayError::RefusedAt(entry)) => Err(FrontError::Refused(Verdict::RefusedAt(entry))),
         Err(ReplayError::NoMemory) => Err(FrontError::NoMemory),
     }

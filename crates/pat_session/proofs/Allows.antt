@@ -32,7 +32,7 @@ use Rattle.pat_command_order.proofs.Statuses.{order_status}
 use Rattle.pat_command_verify.specs.Allowed.{AllowedVerify}
 use Rattle.pat_command_verify.proofs.Statuses.{verify_status}
 use Rattle.pat_command_checkpoint.specs.Allowed.{AllowedCheckpoint}
-use Rattle.pat_command_checkpoint.proofs.Statuses.{checkpoint_status}
+use Rattle.pat_command_checkpoint.proofs.Statuses.{checkpoint_status, written_small}
 use Rattle.pat_command_resume.specs.Allowed.{IsResumption, AllowedResume}
 use Rattle.pat_command_resume.proofs.Statuses.{resume_status}
 use Rattle.pat_session.specs.Allowed.{IsCommand, HasCommand, HasInput, Takes, AllowedTo, limit_of, Allowed, usage_line}
@@ -73,7 +73,7 @@ command_status (Run o) bytes text s a = of_input limit bytes s (run_status Whole
 command_status Replay bytes text s a = of_input whole_limit bytes s (replay_status bytes text s a)
 command_status Order bytes text s a = of_input whole_limit bytes s (order_status bytes text s a)
 command_status Verify bytes text s a = of_input whole_limit bytes s (verify_status bytes text s a)
-command_status (Checkpoint n) bytes text s a = of_input limit bytes s (checkpoint_status n bytes text s a)
+command_status (Checkpoint n) bytes text s a = of_input whole_limit bytes s (checkpoint_status n bytes text s a)
 command_status (Resume n) bytes text s a = of_input whole_limit bytes s (resume_status n bytes text s a)
 command_status (Load n o) bytes text s a = of_input limit (load_text n) s (load_status n o text s a)
 command_status Help bytes text s a = of_ok s a.0
@@ -413,7 +413,7 @@ module _ (words : List (List ℕ)) (had left old new : Option (List ℕ)) where
         bytes = c.bytes;
         text = c.text;
         input = input;
-        whole = input.all own.0.spelled.tree.small;
+        whole = input.all (written_small n c.bytes c.text own);
         shown = own;
         written = c.written;
       }

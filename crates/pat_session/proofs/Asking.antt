@@ -146,10 +146,10 @@ module _ {E : Type 0} (c : Command) (bytes : List ℕ) (r : Result Answer E) whe
       go (Load n u) h = absurd h
       go Help h = absurd h
 
-  pub of_checkpoint : (steps : ℕ) (input : Input) → Asks c bytes (asked.Checkpoint steps input) → (IsRead bytes input → IfOk r (λ a. AllowedCheckpoint steps bytes a.text.items a.status)) → IfOk r (λ a. AllowedTo c bytes a.text.items a.status)
-  of_checkpoint steps input asks answer = go c asks
+  pub of_checkpoint : (steps : ℕ) (read : Vec ℕ Global) → Asks c bytes (asked.Checkpoint steps read) → IfOk r (λ a. AllowedCheckpoint steps read.items a.text.items a.status) → IfOk r (λ a. AllowedTo c bytes a.text.items a.status)
+  of_checkpoint steps read asks answer = go c asks
     where
-      go : (d : Command) → Asks d bytes (asked.Checkpoint steps input) → IfOk r (λ a. AllowedTo d bytes a.text.items a.status)
+      go : (d : Command) → Asks d bytes (asked.Checkpoint steps read) → IfOk r (λ a. AllowedTo d bytes a.text.items a.status)
       go Check h = absurd h
       go Derive h = absurd h
       go Print h = absurd h
@@ -157,7 +157,9 @@ module _ {E : Type 0} (c : Command) (bytes : List ℕ) (r : Result Answer E) whe
       go Replay h = absurd h
       go Order h = absurd h
       go Verify h = absurd h
-      go (Checkpoint n) h = subst (λ k. IfOk r (λ a. AllowedCheckpoint k bytes a.text.items a.status)) (sym h.0) (answer h.2)
+      go (Checkpoint n) h =
+          subst (λ k. IfOk r (λ a. AllowedCheckpoint k bytes a.text.items a.status)) (sym h.0)
+          (subst (λ l. IfOk r (λ a. AllowedCheckpoint steps l a.text.items a.status)) h.2 answer)
       go (Resume n) h = absurd h
       go (Load n u) h = absurd h
       go Help h = absurd h
@@ -265,32 +267,19 @@ run_within options input (Resume n, bytes, h) = absurd h
 run_within options input (Load n o, bytes, h) = absurd h
 run_within options input (Help, bytes, h) = absurd h
 
-pub checkpoint_read : (steps : ℕ) (input : Input) → IsAsked (asked.Checkpoint steps input) → (bytes : List ℕ) × IsRead bytes input
-checkpoint_read steps input (Check, bytes, h) = absurd h
-checkpoint_read steps input (Derive, bytes, h) = absurd h
-checkpoint_read steps input (Print, bytes, h) = absurd h
-checkpoint_read steps input (Run o, bytes, h) = absurd h
-checkpoint_read steps input (Replay, bytes, h) = absurd h
-checkpoint_read steps input (Order, bytes, h) = absurd h
-checkpoint_read steps input (Verify, bytes, h) = absurd h
-checkpoint_read steps input (Checkpoint n, bytes, h) = (bytes, h.2)
-checkpoint_read steps input (Resume n, bytes, h) = absurd h
-checkpoint_read steps input (Load n o, bytes, h) = absurd h
-checkpoint_read steps input (Help, bytes, h) = absurd h
-
--- and its steps have their bound
-pub checkpoint_within : (steps : ℕ) (input : Input) → IsAsked (asked.Checkpoint steps input) → steps ≤ most_steps
-checkpoint_within steps input (Check, bytes, h) = absurd h
-checkpoint_within steps input (Derive, bytes, h) = absurd h
-checkpoint_within steps input (Print, bytes, h) = absurd h
-checkpoint_within steps input (Run o, bytes, h) = absurd h
-checkpoint_within steps input (Replay, bytes, h) = absurd h
-checkpoint_within steps input (Order, bytes, h) = absurd h
-checkpoint_within steps input (Verify, bytes, h) = absurd h
-checkpoint_within steps input (Checkpoint n, bytes, h) = h.1
-checkpoint_within steps input (Resume n, bytes, h) = absurd h
-checkpoint_within steps input (Load n o, bytes, h) = absurd h
-checkpoint_within steps input (Help, bytes, h) = absurd h
+-- the steps of what is asked have their bound
+pub checkpoint_within : (steps : ℕ) (read : Vec ℕ Global) → IsAsked (asked.Checkpoint steps read) → steps ≤ most_steps
+checkpoint_within steps read (Check, bytes, h) = absurd h
+checkpoint_within steps read (Derive, bytes, h) = absurd h
+checkpoint_within steps read (Print, bytes, h) = absurd h
+checkpoint_within steps read (Run o, bytes, h) = absurd h
+checkpoint_within steps read (Replay, bytes, h) = absurd h
+checkpoint_within steps read (Order, bytes, h) = absurd h
+checkpoint_within steps read (Verify, bytes, h) = absurd h
+checkpoint_within steps read (Checkpoint n, bytes, h) = h.1
+checkpoint_within steps read (Resume n, bytes, h) = absurd h
+checkpoint_within steps read (Load n o, bytes, h) = absurd h
+checkpoint_within steps read (Help, bytes, h) = absurd h
 
 pub resume_within : (steps : ℕ) (read : Vec ℕ Global) → IsAsked (asked.Resume steps read) → steps ≤ most_steps
 resume_within steps read (Check, bytes, h) = absurd h
@@ -341,6 +330,3 @@ module _ (had left : Option (List ℕ)) (before now : Option Reach) where
 
   pub reads_run : (options : RunOptions) (input : Input) → IsWithin options → ((bytes : List ℕ) × IsInput had left bytes × IsRead bytes input) → (input ≢ TooLong → EndsThere before now) → ReadAs (Run options) had left before now (asked.Run options input)
   reads_run options input within (bytes, own, read) there = (bytes, own, (refl, within, read), λ has small. there (small_input bytes input read small))
-
-  pub reads_checkpoint : (steps : ℕ) (input : Input) → steps ≤ most_steps → ((bytes : List ℕ) × IsInput had left bytes × IsRead bytes input) → (input ≢ TooLong → EndsThere before now) → ReadAs (Checkpoint steps) had left before now (asked.Checkpoint steps input)
-  reads_checkpoint steps input within (bytes, own, read) there = (bytes, own, (refl, within, read), λ has small. there (small_input bytes input read small))

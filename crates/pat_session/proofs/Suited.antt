@@ -14,12 +14,10 @@ use Rattle.pat_command_check.specs.Inputs.{IsCheckRefusal}
 use Rattle.pat_command_check.specs.Typable.{HasTypable}
 use Rattle.pat_command_verify.specs.Answers as verify
 use Rattle.pat_command_replay.specs.Answers as replay
-use Rattle.pat_command_replay.specs.Pieces.{HasPiece}
+use Rattle.pat_command_checkpoint.specs.Pieces.{HasPiece}
 use Rattle.pat_command_order.specs.Answers as order
 use Rattle.pat_command_resume.specs.Answers as resume
-use Rattle.pat_command_checkpoint.specs.Allowed.{IsUnshown}
-use Rattle.pat_front.specs.Lines.{line_of_verdict}
-use Rattle.pat_front.specs.declared.verdict.Verdict.TheVariants.{Unshown}
+use Rattle.pat_command_checkpoint.specs.Answers as checkpoint
 use Rattle.pat_session.specs.declared.words.Command.{Command}
 use Rattle.pat_session.specs.declared.words.Command.TheVariants.{Check, Derive, Print, Run, Replay, Order, Verify, Checkpoint, Resume, Load, Help}
 use Rattle.pat_session.specs.Allowed.{IsCommand, HasInput, Takes, AllowedTo, limit_of}
@@ -47,7 +45,8 @@ suits_small (Run o) bytes has s = s.spelled.tree.small
 suits_small Replay bytes has s = ⊎_elim (λ (h : HasHistory bytes). h.replays.has.small) (λ (h : HasPiece bytes). h.replays.piece.small) s
 suits_small Order bytes has s = s.0.replays.has.small
 suits_small Verify bytes has s = s.has.small
-suits_small (Checkpoint n) bytes has s = s.0.spelled.tree.small
+suits_small (Checkpoint n) bytes has s =
+    ⊎_elim (λ (h : HasTypable bytes). let few = h.spelled.tree.small in omega (arith, few)) (λ (h : HasPiece bytes). h.replays.piece.small) s.0
 suits_small (Resume n) bytes has s = s.parts.has.has.small
 suits_small (Load n o) bytes has s = absurd has
 suits_small Help bytes has s = absurd has
@@ -145,7 +144,7 @@ own Help bytes text s good a = a.0
 
 -- ---- refusals
 
-module _ (never : NeverRefused) (texts : (bytes : List ℕ) → front.OneAnswer bytes) (verifies : (bytes : List ℕ) → verify.OneAnswer bytes) (replays : (bytes : List ℕ) → replay.OneAnswer bytes) (orders : (bytes : List ℕ) → order.OneAnswer bytes) (resumes : (bytes : List ℕ) → resume.OneAnswer bytes) where
+module _ (never : NeverRefused) (texts : (bytes : List ℕ) → front.OneAnswer bytes) (verifies : (bytes : List ℕ) → verify.OneAnswer bytes) (replays : (bytes : List ℕ) → replay.OneAnswer bytes) (orders : (bytes : List ℕ) → order.OneAnswer bytes) (resumes : (bytes : List ℕ) → resume.OneAnswer bytes) (checkpoints : (steps : ℕ) (bytes : List ℕ) → checkpoint.OneAnswer steps bytes) where
   typable_stands : (bytes line : List ℕ) (v : Verdict) → HasTypable bytes → IsCheckRefusal bytes v line → ⊥
   typable_stands bytes line v s r = never bytes line s.tree s.program v s.spelled s.in_bounds s.usable s.typable r
 
@@ -164,9 +163,10 @@ module _ (never : NeverRefused) (texts : (bytes : List ℕ) → front.OneAnswer 
   stands Verify bytes text v s a = (verifies bytes).not_refused v s a.0
   stands (Checkpoint n) bytes text v s a =
       ⊎_elim
-      (λ (r : IsCheckRefusal bytes v text). typable_stands bytes text v s.0 r)
-      (λ (r : (line : ℕ) × (v ≡ Unshown line) × IsUnshown n bytes line × (text ≡ line_of_verdict v)). s.1 r.0 r.2)
-      a
+      (λ (h : HasTypable bytes).
+      (checkpoints n bytes).not_refused h.tree h.program text v h.spelled (λ line r. typable_stands bytes line v h r) s.1 a)
+      (λ (h : HasPiece bytes). (checkpoints n bytes).piece_stands h.program h.shown h.from h.entries h.config text v h.replays s.1 a)
+      s.0
   stands (Resume n) bytes text v s a = (resumes bytes).not_refused v s a.0
   stands (Load n o) bytes text v s a = typable_stands (load_text n) text v s a
   stands Help bytes text v s a = let clash : Refused v ≡ Ok = a.0 in cc

@@ -171,12 +171,12 @@ pub record ShowsVerified (had left old new : Option (List ℕ)) : Type 0 where
   pub whole : IsAtEnd left
   pub written : Appends old new accepted_line
 
--- all that the source had was read and is the text of a program, and the sink took the text of a valid derivation of it and that of the
--- checkpoint to which a run of it leads
+-- all that the source had was read and is the text of a program, or with those of a derivation, of a checkpoint and of a history behind it; and
+-- the sink took the text of a valid derivation of it and that of the checkpoint to which a run of it leads, or the history
 pub record ShowsCheckpoint (steps : ℕ) (had left old new : Option (List ℕ)) : Type 0 where
   pub bytes : List ℕ
   pub text : List ℕ
-  pub input : IsInput had left bytes
+  pub input : IsInputWithin whole_limit had left bytes
   pub whole : IsAtEnd left
   pub shown : IsWritten steps bytes text
   pub written : Appends old new text

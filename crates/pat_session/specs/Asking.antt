@@ -21,7 +21,7 @@ Asks (Run o) bytes (asked.Run options input) = (o ≡ options) × IsWithin optio
 Asks Replay bytes (asked.Replay read) = read.items ≡ bytes
 Asks Order bytes (asked.Order read) = read.items ≡ bytes
 Asks Verify bytes (asked.Verify read) = read.items ≡ bytes
-Asks (Checkpoint n) bytes (asked.Checkpoint steps input) = (n ≡ steps) × (steps ≤ most_steps) × IsRead bytes input
+Asks (Checkpoint n) bytes (asked.Checkpoint steps read) = (n ≡ steps) × (steps ≤ most_steps) × (read.items ≡ bytes)
 Asks (Resume n) bytes (asked.Resume steps read) = (n ≡ steps) × (steps ≤ most_steps) × (read.items ≡ bytes)
 Asks (Load n o) bytes (asked.Load size options) = (n ≡ size) × (o ≡ options) × (size ≤ 1000) × IsWithin options
 Asks c bytes a = ⊥
@@ -54,15 +54,16 @@ IsOfProgram (Run o) = Unit {0}
 IsOfProgram Replay = ⊥
 IsOfProgram Order = ⊥
 IsOfProgram Verify = ⊥
-IsOfProgram (Checkpoint steps) = Unit {0}
+IsOfProgram (Checkpoint steps) = ⊥
 IsOfProgram (Resume steps) = ⊥
 IsOfProgram (Load n o) = ⊥
 IsOfProgram Help = ⊥
 
--- or a program, and texts behind it
+-- or a program, and texts behind it if there are any
 abbrev pub IsOfParts : Command → Type 0
 IsOfParts Replay = Unit {0}
 IsOfParts Order = Unit {0}
 IsOfParts Verify = Unit {0}
+IsOfParts (Checkpoint steps) = Unit {0}
 IsOfParts (Resume steps) = Unit {0}
 IsOfParts _ = ⊥

@@ -10,7 +10,7 @@ use Rattle.pat_front.specs.Texts.{IsProgramText}
 use Rattle.pat_front.specs.declared.exit_answers.status.Status.{Status}
 use Rattle.pat_front.specs.declared.exit_answers.status.Status.TheVariants.{Ok, NoMemory}
 use Rattle.pat_command_replay.specs.Histories.{Replays}
-use Rattle.pat_command_replay.specs.Pieces.{HasPiece}
+use Rattle.pat_command_checkpoint.specs.Pieces.{HasPiece}
 use Rattle.pat_command_check.specs.Typable.{HasTypable}
 use Rattle.pat_command_order.specs.Answers.{AreFew}
 use Rattle.pat_command_verify.specs.Answers.{HasValidDerivation}
@@ -46,7 +46,7 @@ Suits Replay bytes = HasHistory bytes ⊎ HasPiece bytes
 Suits Order bytes = (h : HasHistory bytes) × AreFew h.entries
 Suits Verify bytes = HasValidDerivation bytes
 -- no line of its checkpoint needs an inclusion that can't be shown
-Suits (Checkpoint steps) bytes = HasTypable bytes × ((line : ℕ) → IsUnshown steps bytes line → ⊥)
+Suits (Checkpoint steps) bytes = (HasTypable bytes ⊎ HasPiece bytes) × ((line : ℕ) → IsUnshown steps bytes line → ⊥)
 Suits (Resume steps) bytes = IsCheckedInput bytes
 -- it has no input, and its program is generated
 Suits (Load n o) bytes = HasTypable (load_text n)

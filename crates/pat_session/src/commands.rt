@@ -33,7 +33,7 @@ pub enum Asked {
     Replay(Vec<u8>),
     Order(Vec<u8>),
     Verify(Vec<u8>),
-    Checkpoint(u32, Input),
+    Checkpoint(u32, Vec<u8>),
     Resume(u32, Vec<u8>),
     Load(u32, RunOptions),
 }
@@ -56,7 +56,7 @@ pub fn answer_to<F: Fn(Accepted, RunOptions) -> Result<Finished, AllocError>>(
         Asked::Replay(bytes) => answer_replay(alloc, bytes.as_slice()),
         Asked::Order(bytes) => answer_order(alloc, bytes.as_slice()),
         Asked::Verify(bytes) => answer_verify(alloc, bytes.as_slice()),
-        Asked::Checkpoint(steps, input) => answer_checkpoint(alloc, steps, input),
+        Asked::Checkpoint(steps, bytes) => answer_checkpoint(alloc, steps, bytes.as_slice()),
         Asked::Resume(steps, bytes) => answer_resume(alloc, steps, bytes.as_slice()),
         Asked::Load(size, options) => answer_load(alloc, run, size, options),
     }
@@ -81,6 +81,7 @@ pub fn read_asked<S: Source>(
         Command::Replay => read_parts(alloc, command, source),
         Command::Order => read_parts(alloc, command, source),
         Command::Verify => read_parts(alloc, command, source),
+        Command::Checkpoint(_) => read_parts(alloc, command, source),
         Command::Resume(_) => read_parts(alloc, command, source),
         _ => read_program(alloc, command, source),
     }
@@ -112,12 +113,11 @@ fn asked_of_program(command: Command, input: Input) -> Asked
         Command::Derive => Asked::Derive(input),
         Command::Print => Asked::Print(input),
         Command::Run(options) => Asked::Run(options, input),
-        Command::Checkpoint(steps) => Asked::Checkpoint(steps, input),
         _ => unreachable!(),
     }
 }
 
-// A program, and texts behind it.
+// A program, and texts behind it if there are any.
 fn read_parts<S: Source>(
     alloc: Global,
     command: Command,
@@ -142,6 +142,7 @@ fn asked_of_parts(command: Command, bytes: Vec<u8>) -> Asked
         Command::Replay => Asked::Replay(bytes),
         Command::Order => Asked::Order(bytes),
         Command::Verify => Asked::Verify(bytes),
+        Command::Checkpoint(steps) => Asked::Checkpoint(steps, bytes),
         Command::Resume(steps) => Asked::Resume(steps, bytes),
         _ => unreachable!(),
     }

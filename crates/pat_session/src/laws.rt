@@ -1,6 +1,7 @@
 // What holds of every call.
 ghost use Rattle.pat_session.specs.Complete.{IsComplete};
 
+use pat_command_checkpoint::checkpoint_law;
 use pat_command_order::order_law;
 use pat_command_replay::replay_law;
 use pat_command_resume::resume_law;
@@ -17,4 +18,5 @@ pub fn complete_law()
     replay_law();
     order_law();
     resume_law();
+    checkpoint_law();
 }

@@ -22,7 +22,7 @@ pub enum Command {
     Order,
     /// Judge a derivation of a program.
     Verify,
-    /// Run a program for so many steps, and write where that leads.
+    /// Write where a history behind a checkpoint leads, or else a run of a program for so many steps.
     Checkpoint(u32),
     /// Go on from a checkpoint of a program for so many steps.
     Resume(u32),

@@ -4,4 +4,5 @@ mod Tagged
 mod Meaning
 mod Kept
 mod Singles
+mod Bounding
 mod Reflexive

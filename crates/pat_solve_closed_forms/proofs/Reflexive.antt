@@ -20,7 +20,7 @@ use Rattle.pat_solve_closed_forms.specs.Findings.{have_forms, Follows}
 use Rattle.pat_solve_closed_forms.specs.declared.same.Comparison.{Comparison}
 use Rattle.pat_solve_closed_forms.specs.declared.same.Comparison.TheVariants.{Apart, Same, SameWithForm}
 use Rattle.pat_solve_closed_forms.specs.Comparisons.{Compares, ComparesParts}
-use Rattle.pat_solve_closed_forms.proofs.Singles.{single_form}
+use Rattle.pat_solve_closed_forms.proofs.Bounding.{short_form}
 use Rattle.pat_solve_closed_forms.proofs.Steps.{follows_uncovered}
 
 all_with : {A : Type 0} (P Q : A → Type 0) → ((x : A) → P x → Q x) → (xs : List A) → AllByRecursion P xs → AllByRecursion Q xs
@@ -116,7 +116,7 @@ pub compares : (e f p q : Pat) (c : Comparison) → Some p ≡ within e → Some
 compares e f p q Apart left right h = tt
 compares e f p q Same left right h = come_to_one e f p q left right h
 compares e f p q SameWithForm left right h =
-    (come_to_one e f p q left right h.0, single_form most_tags f q right h.1)
+    (come_to_one e f p q left right h.0, short_form most_tags f q right h.1)
 
 form_there : (o : Option (List LinearSet)) → is_some o ≡ true → (sets : List LinearSet) × (Some sets ≡ o)
 form_there (Some sets) h = (sets, refl)

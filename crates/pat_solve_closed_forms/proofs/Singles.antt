@@ -1,14 +1,14 @@
 -- A pattern of a single word has a closed form of a single set, unless it is too large.
-use Rattle.std.proofs.Common.{◌≡◌, ℕ, true, false, ◌&&◌, [], ◌∷◌, Some, None, refl, ap, ap₂, ◌∙◌, ⊎_elim, subst}
-use Rattle.std.specs.Prelude.{is_some}
-use Rattle.std.proofs.lemmas.Bool.{and_parts, and_from, cases_Bool, cond-true}
+use Rattle.std.proofs.Common.{◌≡◌, ℕ, true, false, ◌&&◌, [], ◌∷◌, refl, ap, ap₂}
+use Rattle.std.proofs.lemmas.Bool.{and_parts, and_from}
 use Rattle.pat_words_spec.specs.Patterns.{Pat, One, Tag, Prod, Zero, Sum, Star, Var}
 use Rattle.pat_words_spec.specs.Words.{one}
 use Rattle.pat_inclusion_spec.specs.LinearSets.{LinearSet, linear_set}
-use Rattle.pat_inclusion_spec.specs.ClosedForms.{only_empty, set_product, products, sets_of, is_short, is_small, lists_are_short, closed_form}
-use Rattle.pat_solve_bounded.specs.Limits.{within}
-use Rattle.pat_solve_elimination.proofs.Forms.{part_is}
+use Rattle.pat_inclusion_spec.specs.Counts.{most_tags}
+use Rattle.pat_inclusion_spec.specs.ClosedForms.{only_empty, set_product, products, sets_of, is_short, lists_are_short}
 use Rattle.pat_solve_closed_forms.specs.Singles.{is_single}
+use Rattle.pat_solve_closed_forms.specs.declared.same.Comparison.TheVariants.{SameWithForm}
+use Rattle.pat_solve_closed_forms.specs.Comparisons.{ComparesParts}
 
 record HasOneSet (n : ℕ) (e : Pat) : Type 0 where
   set : LinearSet
@@ -36,14 +36,5 @@ one_set n (Sum e f) h = let clash : false ≡ true = h in cc
 one_set n (Star e) h = let clash : false ≡ true = h in cc
 one_set n (Var k) h = let clash : false ≡ true = h in cc
 
-small_if : (e x : Pat) → Some x ≡ within e → is_small e ≡ true
-small_if e x h =
-    ⊎_elim (λ (s : is_small e ≡ true). s) (λ (l : is_small e ≡ false). absurd (clash (h ∙ (rw l refl)))) (cases_Bool (is_small e))
-  where
-    clash : Some x ≡ None → ⊥
-    clash p = cc
-
-pub single_form : (n : ℕ) (e x : Pat) → Some x ≡ within e → is_single x ≡ true → is_some (closed_form n e) ≡ true
-single_form n e x h single =
-    let own = one_set n e (subst (λ y. is_single y ≡ true) (part_is e x h) single) in
-    ap is_some (cond-true (is_small e && lists_are_short n e) (Some (sets_of n e)) None (and_from (is_small e) (lists_are_short n e) (small_if e x h) own.short))
+pub single_same : (e : Pat) → is_single e ≡ true → ComparesParts e e SameWithForm
+single_same e h = (refl, (one_set most_tags e h).short)

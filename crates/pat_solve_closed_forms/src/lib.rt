@@ -2,6 +2,7 @@
 //! isn't covered.
 #![tactic(auto)]
 
+mod bounds;
 mod checking;
 mod forms;
 mod lowers;

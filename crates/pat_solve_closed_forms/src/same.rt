@@ -1,5 +1,5 @@
 // Sides of a constraint that are the same once their variables are replaced.
-ghost use Rattle.std.specs.Prelude.{◌≡◌, IfOk, IsTrue};
+ghost use Rattle.std.specs.Prelude.{◌≡◌, IfOk};
 ghost use Rattle.pat_words_spec.specs.Patterns.{subst_of};
 ghost use Rattle.pat_patterns.specs.Views.{pattern_view};
 ghost use Rattle.pat_types.specs.Views.{right_view};
@@ -11,6 +11,7 @@ ghost use Rattle.pat_solve_closed_forms.specs.Singles.{is_single as is_single_of
 ghost use Rattle.pat_solve_closed_forms.specs.Comparisons.{Compares, ComparesParts};
 ghost use Rattle.pat_solve_closed_forms.specs.Forms.{values_by, IsAssignment};
 
+use crate::bounds::set_bound;
 use crate::forms::Assignment;
 use pat_patterns::Pattern;
 use pat_solve_bounded::{Part, Replacement, replaced};
@@ -64,6 +65,7 @@ fn right_part<'a>(
 }
 
 /// Compares the parts, which aren't too large.
+#[tactic(auto, using(crate::proofs::Bounding::same_parts))]
 fn compare_parts(left: &Part, right: &Part) -> Comparison
     ensures { ComparesParts (part_view left.now) (part_view right.now) result }
 {
@@ -71,14 +73,26 @@ fn compare_parts(left: &Part, right: &Part) -> Comparison
     let right = right.as_measured();
     if !left.pattern.is_same(&right.pattern) {
         Comparison::Apart
-    } else if is_single(&right.pattern) {
-        Comparison::SameWithForm
     } else {
-        Comparison::Same
+        compare_same(&right.pattern)
     }
 }
 
-/// Whether the pattern is made of tags and 1 by products alone. It has a single word then, and a closed form of a single set.
+/// What is known where both parts are this pattern. Many have a single word, and to look for that alone is quicker.
+#[tactic(auto, using(crate::proofs::Singles::single_same, crate::proofs::Bounding::short_same))]
+fn compare_same(p: &Pattern) -> Comparison
+    ensures { ComparesParts (pattern_view p.now) (pattern_view p.now) result }
+{
+    if is_single(p) {
+        return Comparison::SameWithForm;
+    }
+    match set_bound(p) {
+        Some(_) => Comparison::SameWithForm,
+        None => Comparison::Same,
+    }
+}
+
+/// Whether the pattern is made of tags and 1 by products alone. It has a single word then.
 fn is_single(p: &Pattern) -> bool
     ensures { result ≡ is_single_of (pattern_view p.now) }
 {

@@ -1,5 +1,4 @@
-// Pools and mailboxes called in a row, with answers by hand.
+// Mailboxes called in a row, with answers by hand.
 
 mod mailboxes;
-mod pools;
 mod tests;

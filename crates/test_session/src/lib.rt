@@ -7,8 +7,6 @@ mod calls;
 #[cfg(test)]
 mod checking;
 #[cfg(test)]
-mod checkpoints;
-#[cfg(test)]
 mod holding;
 #[cfg(test)]
 mod hostile;

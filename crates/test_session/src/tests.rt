@@ -1,5 +1,5 @@
 use crate::holding::{two_workers, two_workers_of_a_load};
-use crate::{checkpoints, hostile, rows};
+use crate::{hostile, rows};
 use std::test::Fail;
 
 #[test]
@@ -17,17 +17,6 @@ fn calls(rt: HostRuntime) -> Result<(), Fail> {
     rows::each_read_and_each_write_fails_in_turn(&rt, alloc)?;
     two_workers(&rt, alloc)?;
     two_workers_of_a_load(&rt, alloc)
-}
-
-#[test]
-fn checkpoint_calls(rt: HostRuntime) -> Result<(), Fail> {
-    let alloc = rt.alloc();
-    checkpoints::where_runs_lead(&rt, alloc)?;
-    checkpoints::runs_that_go_on(&rt, alloc)?;
-    checkpoints::histories_that_go_on(&rt, alloc)?;
-    checkpoints::each_rule_of_checkpoints(&rt, alloc)?;
-    checkpoints::lines_that_are_not_read(&rt, alloc)?;
-    checkpoints::refusals_before_a_checkpoint_is_looked_at(&rt, alloc)
 }
 
 #[test]

@@ -1,8 +1,10 @@
 -- The queues that a pool holds.
-use Rattle.std.specs.Prelude.{◌≡◌, ◌+◌, ◌<◌, ◌≤◌, ℕ, List, [], ◌∷◌, ◌++◌, length, map, get_or, Option, Some, None, IsSome, slice_get, vec_len, vec_capacity}
+use Rattle.std.specs.Prelude.{◌≡◌, ◌+◌, ◌*◌, ◌<◌, ◌≤◌, ℕ, suc, List, [], ◌∷◌, ◌++◌, length, map, get_or, Option, Some, None, IsSome, slice_get, vec_len, vec_capacity}
 use Rattle.std.specs.Option.{option_to_list}
 use Rattle.std.specs.List.{AllByRecursion}
 use Rattle.pat_mailboxes.specs.queues.Chained.{IsChained, queue_nodes, nodes_in}
+use Rattle.pat_reduce.specs.declared.threads.state.Message.{Message}
+use Rattle.pat_mailboxes.specs.queues.Lanes.{AreLanes, queue_in}
 use Rattle.pat_mailboxes.specs.declared.queues.chains.Chains.{Chains}
 use Rattle.pat_mailboxes.specs.declared.queues.pool.Mark.{Mark}
 use Rattle.pat_mailboxes.specs.declared.queues.pool.Mark.TheVariants.{Live, Closed}
@@ -43,22 +45,27 @@ abbrev pub spare_in : {T : Type 0} → Region T → ℕ
 spare_in r = r.chains.spare + r.fresh
 
 -- a queue by its mark
-abbrev pub marked : {T : Type 0} → Mark → List T → Option (List T)
-marked Live values = Some values
-marked (Closed _) values = None
+abbrev pub marked : Mark → List Message → Option (List Message)
+marked Live messages = Some messages
+marked (Closed _) messages = None
 
-abbrev pub queues_of : {T : Type 0} → List Mark → List (List T) → List (Option (List T))
-queues_of [] qs = []
-queues_of (m ∷ ms) [] = []
-queues_of (m ∷ ms) (q ∷ qs) = marked m q ∷ queues_of ms qs
+-- the queues of these marks, from one on
+abbrev pub queues_from : List Mark → List (List Message) → (queue : ℕ) → List (Option (List Message))
+queues_from [] chains queue = []
+queues_from (m ∷ ms) chains queue = marked m (queue_in chains queue) ∷ queues_from ms chains (suc queue)
 
--- a closed queue is empty
-abbrev pub IsEmptyIfClosed : {T : Type 0} → Option Mark → List T → Type 0
-IsEmptyIfClosed None values = Unit {0}
-IsEmptyIfClosed (Some Live) values = Unit {0}
-IsEmptyIfClosed (Some (Closed _)) values = values ≡ []
+abbrev pub queues_of : List Mark → List (List Message) → List (Option (List Message))
+queues_of marks chains = queues_from marks chains 0
 
--- each queue has a mark, and what is closed is empty
-pub record AreMarked {T : Type 0} (marks : List Mark) (queues : List (List T)) : Type 0 where
-  pub each : length marks ≡ length queues
-  pub closed : (q : ℕ) → IsEmptyIfClosed (slice_get marks q) (get_or queues q [])
+-- a queue that isn't live is empty
+abbrev pub IsEmptyUnlessLive : Option Mark → List Message → Type 0
+IsEmptyUnlessLive None messages = messages ≡ []
+IsEmptyUnlessLive (Some Live) messages = Unit {0}
+IsEmptyUnlessLive (Some (Closed _)) messages = messages ≡ []
+
+-- there are chains for the lanes of each queue that has a mark, and what isn't live is empty
+pub record AreMarked (marks : List Mark) (chains : List (List Message)) : Type 0 where
+  pub few : length marks * 8 ≤ number_count
+  pub each : length marks * 8 ≤ length chains
+  pub lanes : AreLanes chains
+  pub closed : (queue : ℕ) → IsEmptyUnlessLive (slice_get marks queue) (queue_in chains queue)

@@ -1,11 +1,19 @@
 // A pool of queues.
-ghost use Rattle.std.specs.Prelude.{◌≡◌, ◌≢◌, ℕ, ◌+◌, ◌-◌, ◌<◌, max, List, [], ◌∷◌, ◌++◌, length, map, option_map, Some, None, IfOk, OnOk, OnErr, IfSome, IfNone, slice_get, remove};
-ghost use Rattle.pat_mailboxes.specs.queues.Queues.{Becomes, Finds, IsLive, queue_at, values_at};
+ghost use Rattle.std.specs.Prelude.{◌≡◌, ◌≢◌, ℕ, ◌+◌, ◌-◌, ◌<◌, ◌≤◌, max, List, [], ◌∷◌, ◌++◌, length, map, find, option_copied, Some, None, IfOk, OnOk, OnErr, IfSome, IfNone, slice_get, remove};
+ghost use Rattle.std.specs.List.{AllByRecursion};
+ghost use Rattle.std.specs.List.Sorted.{IsPermutation};
+ghost use Rattle.pat_mailboxes.specs.queues.Lanes.{IsMessageAt, Rise, last_of};
+ghost use Rattle.pat_mailboxes.specs.queues.Queues.{Becomes, IsLive, queue_at, values_at};
 
-use crate::queues::Test;
+use crate::queues::lanes::{LANES, count_in, first_in, last_in, list_in, push_in, take_in};
 use crate::queues::region::Region;
+use crate::queues::test::Test;
+use pat_reduce::Message;
 use std::alloc::{AllocError, Global};
 use std::marker::Model;
+
+/// The most queues: the chains of their lanes are numbered with 32 bits.
+const MOST_QUEUES: usize = 536_870_911;
 
 /// Whether a queue is live. The closed ones are linked, so that their numbers are taken again.
 #[derive(Clone, Copy)]
@@ -14,20 +22,22 @@ pub enum Mark {
     Closed(Option<u32>),
 }
 
-/// Queues whose values stand in one region of nodes. Contracts see the queues by number, and how many nodes are spare.
+/// Queues of messages that stand in one region of nodes, each queue in lanes by tag. Contracts see the queues by number, each in order of
+/// its messages' numbers, and how many nodes are spare.
 #[derive(Drop)]
-pub struct Pool<T> {
-    region: Region<T>,
+pub struct Pool {
+    region: Region<Message>,
     /// Of each queue.
     marks: Vec<Mark>,
     /// A closed queue.
     closed: Option<u32>,
 }
 
-impl<T> Model for Pool<T> {
+impl Model for Pool {
     ghost use Rattle.std.specs.Prelude.{ℕ, List, Option, ◌≡◌};
+    ghost use Rattle.pat_reduce.specs.declared.threads.state.Message.{Message as Held};
 
-    ghost Value = { List (Option (List T)) × ℕ };
+    ghost Value = { List (Option (List Held)) × ℕ };
 
     ghost use Rattle.pat_mailboxes.specs.queues.Pooled.{contents, spare_in, queues_of, AreMarked, IsRegion};
 
@@ -36,9 +46,9 @@ impl<T> Model for Pool<T> {
     ghost invariant = { λ p. IsRegion p.region × AreMarked p.marks.items (contents p.region) };
 }
 
-impl<T: Drop> Pool<T> {
+impl Pool {
     /// A pool without queues and nodes. It takes no memory.
-    pub fn new(alloc: Global) -> Pool<T>
+    pub fn new(alloc: Global) -> Pool
         ensures { result ≡ ([], 0) }
     {
         Pool {
@@ -49,7 +59,7 @@ impl<T: Drop> Pool<T> {
     }
 
     /// A pool without queues, with `n` spare nodes. It takes memory for them, and touches none of it.
-    pub fn fixed(alloc: Global, n: u32) -> Result<Pool<T>, AllocError>
+    pub fn fixed(alloc: Global, n: u32) -> Result<Pool, AllocError>
         ensures { IfOk result (λ p. p ≡ ([], n)) }
     {
         let mut pool = Pool::new(alloc);
@@ -105,68 +115,70 @@ impl<T: Drop> Pool<T> {
         ensures err { OnErr result (self.new.0 ≡ self.old.0) }
     {
         let queue = self.marks.len();
-        // Queues are numbered with 32 bits.
-        if queue > u32::MAX as usize {
+        if queue >= MOST_QUEUES {
             return Err(AllocError);
         }
         self.marks.reserve(1)?;
-        self.region.add_queue()?;
+        self.region.add_queues((queue as u32 + 1) * LANES)?;
         self.marks.push_reserved(Mark::Live);
         Ok(queue as u32)
     }
 
-    /// Appends a value to a queue. It takes no memory.
-    pub fn push_back(&mut self, queue: u32, value: T)
+    /// Appends a message to a queue. It takes no memory.
+    pub fn push_back(&mut self, queue: u32, message: Message)
         requires live { IsLive self.old.0 queue }
         requires spare { 0 < self.old.1 }
+        requires last { AllByRecursion (λ m. m.number < message.number) (values_at self.old.0 queue) }
         ensures spare { self.new.1 + 1 ≡ self.old.1 }
-        ensures queue { Becomes self.old.0 self.new.0 queue (Some (values_at self.old.0 queue ++ value ∷ [])) }
+        ensures queue { Becomes self.old.0 self.new.0 queue (Some (values_at self.old.0 queue ++ message ∷ [])) }
     {
-        self.region.push(queue, value);
+        push_in(&mut self.region, queue, message);
     }
 
-    /// Takes the value at a place out of a queue. It takes no memory.
-    pub fn take_at(&mut self, queue: u32, place: u32) -> T
+    /// Takes the message of a tag and a number out of a queue. It takes no memory.
+    pub fn take(&mut self, queue: u32, tag: u8, number: u32) -> Message
         requires live { IsLive self.old.0 queue }
-        requires there { place < length (values_at self.old.0 queue) }
+        requires there { (place : ℕ) × IsMessageAt tag number (values_at self.old.0 queue) place }
         ensures spare { self.new.1 ≡ self.old.1 + 1 }
-        ensures value { slice_get (values_at self.old.0 queue) place ≡ Some result }
-        ensures queue { Becomes self.old.0 self.new.0 queue (Some (remove (values_at self.old.0 queue) place)) }
+        ensures number { result.number ≡ number }
+        ensures queue { (place : ℕ) × (slice_get (values_at self.old.0 queue) place ≡ Some result)
+            × Becomes self.old.0 self.new.0 queue (Some (remove (values_at self.old.0 queue) place)) }
     {
-        self.region.take(queue, place)
+        take_in(&mut self.region, queue, tag, number)
     }
 
-    /// The value at a place of a queue.
-    pub fn get(&self, queue: u32, place: u32) -> &T
+    /// The messages of a queue, in order of number.
+    pub fn list(&self, alloc: Global, queue: u32) -> Result<Vec<&Message>, AllocError>
+        requires { IsLive self.now.0 queue }
+        ensures all { IfOk result (λ ms. IsPermutation (values_at self.now.0 queue) (map (λ m. m.now) ms.items)) }
+        ensures order { IfOk result (λ ms. Rise (map (λ m. m.now) ms.items)) }
+    {
+        list_in(alloc, &self.region, queue)
+    }
+
+    /// The first message of a queue that passes a test. It takes no memory.
+    pub fn find<P: Test>(&self, queue: u32, test: &P) -> Option<&Message>
+        requires { IsLive self.now.0 queue }
+        ensures { option_copied result ≡ find (P.passes test.now) (values_at self.now.0 queue) }
+    {
+        first_in(&self.region, queue, test)
+    }
+
+    /// The last message of a queue. It takes no memory.
+    pub fn last(&self, queue: u32) -> Option<&Message>
+        requires { IsLive self.now.0 queue }
+        ensures { option_copied result ≡ last_of (values_at self.now.0 queue) }
+    {
+        last_in(&self.region, queue)
+    }
+
+    /// How many messages a queue has, where it has at most so many.
+    pub fn len(&self, queue: u32, most: u32) -> u32
         requires live { IsLive self.now.0 queue }
-        requires there { place < length (values_at self.now.0 queue) }
-        ensures { slice_get (values_at self.now.0 queue) place ≡ Some result.now }
-    {
-        self.region.get(queue, place)
-    }
-
-    /// The values of a queue, in order.
-    pub fn list(&self, alloc: Global, queue: u32) -> Result<Vec<&T>, AllocError>
-        requires { IsLive self.now.0 queue }
-        ensures { IfOk result (λ vs. map (λ v. v.now) vs.items ≡ values_at self.now.0 queue) }
-    {
-        self.region.list(alloc, queue)
-    }
-
-    /// The first value of a queue that passes a test, and its place. It takes no memory.
-    pub fn find<P: Test<T>>(&self, queue: u32, test: &P) -> Option<(u32, &T)>
-        requires { IsLive self.now.0 queue }
-        ensures { Finds (P.passes test.now) (values_at self.now.0 queue) (option_map (λ f. (f.0, f.1.now)) result) }
-    {
-        self.region.find(queue, test)
-    }
-
-    /// How many values a queue has.
-    pub fn len(&self, queue: u32) -> u32
-        requires { IsLive self.now.0 queue }
+        requires few { length (values_at self.now.0 queue) ≤ most }
         ensures { result ≡ length (values_at self.now.0 queue) }
     {
-        self.region.len(queue)
+        count_in(&self.region, queue, most)
     }
 
     /// How many nodes are spare.

@@ -1,9 +1,7 @@
 // Nodes with what they hold.
-ghost use Rattle.std.specs.Prelude.{◌≡◌, ℕ, ◌+◌, ◌<◌, List, [], ◌∷◌, ◌++◌, length, map, option_map, get_or, Some, None, IfOk, IsSome, OnOk, OnErr, slice_get, slice_set, remove, vec_len, vec_capacity};
+ghost use Rattle.std.specs.Prelude.{◌≡◌, ℕ, ◌+◌, ◌<◌, ◌≤◌, List, [], ◌∷◌, ◌++◌, length, map, get_or, Some, None, IfOk, IsSome, OnOk, OnErr, slice_get, slice_set, remove, vec_len, vec_capacity};
 ghost use Rattle.pat_mailboxes.specs.queues.Pooled.{IsRegion, contents, spare_in};
-ghost use Rattle.pat_mailboxes.specs.queues.Queues.{Finds};
 
-use crate::queues::Test;
 use crate::queues::chains::Chains;
 use std::alloc::{AllocError, Global};
 use std::mem;
@@ -85,8 +83,23 @@ impl<T: Drop> Region<T> {
         self.chains.add_node();
     }
 
-    /// A further queue, which is empty. An error changes nothing.
-    pub(crate) fn add_queue(&mut self) -> Result<(), AllocError>
+    /// Makes further queues, which are empty, until there are so many. An error changes nothing that contracts see of a queue.
+    pub(crate) fn add_queues(&mut self, count: u32) -> Result<(), AllocError>
+        requires { IsRegion self.old }
+        ensures region { IsRegion self.new }
+        ensures spare { spare_in self.new ≡ spare_in self.old }
+        ensures more { length (contents self.old) ≤ length (contents self.new) }
+        ensures same { (queue : ℕ) → get_or (contents self.new) queue [] ≡ get_or (contents self.old) queue [] }
+        ensures ok { OnOk result (count ≤ length (contents self.new)) }
+    {
+        for _ in self.chains.queues.len()..count as usize {
+            self.add_queue()?;
+        }
+        Ok(())
+    }
+
+    // A further queue, which is empty. An error changes nothing.
+    fn add_queue(&mut self) -> Result<(), AllocError>
         requires { IsRegion self.old }
         ensures region { IsRegion self.new }
         ensures spare { spare_in self.new ≡ spare_in self.old }
@@ -153,24 +166,6 @@ impl<T: Drop> Region<T> {
         Ok(values)
     }
 
-    /// The first value of a queue that passes a test, and its place.
-    pub(crate) fn find<P: Test<T>>(&self, queue: u32, test: &P) -> Option<(u32, &T)>
-        requires region { IsRegion self.now }
-        requires there { queue < length (contents self.now) }
-        ensures { Finds (P.passes test.now) (get_or (contents self.now) queue []) (option_map (λ f. (f.0, f.1.now)) result) }
-    {
-        let chain = self.chains.queues[queue as usize];
-        let mut node = chain.first;
-        for place in 0..chain.len {
-            let value = value_at(self.held.as_slice(), node);
-            if test.passes(value) {
-                return Some((place, value));
-            }
-            node = self.chains.links[node as usize];
-        }
-        None
-    }
-
     /// How many values a queue has.
     pub(crate) fn len(&self, queue: u32) -> u32
         requires region { IsRegion self.now }
@@ -191,8 +186,8 @@ fn take_out<T>(held: &mut Vec<Option<T>>, node: u32) -> Option<T>
     mem::replace(&mut held[node as usize], None)
 }
 
-// The value that a node holds.
-fn value_at<T>(held: &[Option<T>], node: u32) -> &T
+/// The value that a node holds.
+pub(crate) fn value_at<T>(held: &[Option<T>], node: u32) -> &T
     requires { IsSome (get_or held.now node None) }
     ensures { get_or held.now node None ≡ Some result.now }
 {

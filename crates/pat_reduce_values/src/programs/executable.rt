@@ -1,13 +1,13 @@
 // Programs with the free variables of their nodes.
 ghost use Rattle.std.specs.Prelude.{◌≡◌, ◌<◌, ℕ, IsTrue, IfOk};
-ghost use Rattle.pat_semantics_laws.specs.Programs.{is_free};
+ghost use Rattle.pat_semantics_laws.specs.Programs.{is_among, is_free};
 ghost use Rattle.pat_semantics_laws.specs.WellFormed.{WellFormed};
 ghost use Rattle.pat_core.specs.Views.{program_view};
 ghost use Rattle.pat_reduce_values.specs.programs.FreeVariables.{is_listed};
 ghost use Rattle.pat_limits.specs.Limits.{number_count};
 
-use crate::programs::Variables;
 use crate::programs::free_variables::list_free;
+use crate::programs::{AtHand, Variables};
 use pat_core::Program;
 use pat_sequences::Sequence;
 use std::alloc::{AllocError, Global};
@@ -35,9 +35,16 @@ impl Executable {
     pub fn is_free(&self, variable: u32, node: u32) -> bool
         ensures { result ≡ is_free (program_view self.now.program) variable node }
     {
+        self.free_in(node).contains(variable)
+    }
+
+    /// The variables that are free in the node.
+    pub(crate) fn free_in(&self, node: u32) -> AtHand<'_>
+        ensures { (x : ℕ) → is_among x result.listed.now ≡ is_free (program_view self.now.program) x node }
+    {
         match self.free.as_slice().get(node as usize) {
-            Some(variables) => variables.contains(variable),
-            None => false,
+            Some(variables) => variables.at_hand(),
+            None => AtHand::none(),
         }
     }
 }

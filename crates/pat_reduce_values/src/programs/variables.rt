@@ -1,17 +1,17 @@
 // Sets of variables.
-ghost use Rattle.std.specs.Prelude.{◌≡◌, ◌≤◌, ◌<◌, ◌||◌, ℕ, false, nat_eq, IsTrue, OnOk, OnErr};
+ghost use Rattle.std.specs.Prelude.{◌≡◌, ◌<◌, ◌≤◌, ◌||◌, ℕ, [], length, insert, false, nat_eq, IsTrue, IfOk, IfErr, OnOk, OnErr};
 ghost use Rattle.pat_semantics_laws.specs.Programs.{is_among};
-ghost use Rattle.pat_semantics_laws.specs.WellFormed.{count_among};
+ghost use Rattle.pat_reduce_values.specs.programs.Places.{Ascends, StandsAt, FitsAt};
 ghost use Rattle.pat_limits.specs.Limits.{number_count};
 
 use pat_sequences::Sequence;
 use std::alloc::{AllocError, Global};
 
-/// A set of variables: a list that has each of them once, in no order.
+/// A set of variables: their list, in ascending order.
 #[derive(Drop)]
 pub struct Variables {
     pub listed: Sequence<u32>,
-    ghost once: { (x : ℕ) → count_among x listed ≤ 1 },
+    ghost ascends: { Ascends listed },
     ghost small: { (x : ℕ) → IsTrue (is_among x listed) → x < number_count },
 }
 
@@ -30,17 +30,26 @@ impl Variables {
         ensures ok { OnOk result ((x : ℕ) → is_among x self.new.listed ≡ (is_among x self.old.listed || nat_eq x variable)) }
         ensures err { OnErr result (self.new.listed ≡ self.old.listed) }
     {
-        if self.contains(variable) {
-            return Ok(());
+        match place_of(self.listed.as_slice(), variable) {
+            Ok(_) => Ok(()),
+            Err(place) => insert_at(&mut self.listed, place, variable),
         }
-        self.listed.push(variable)
     }
 
     /// Whether the variable is in the set.
     pub fn contains(&self, variable: u32) -> bool
         ensures { result ≡ is_among variable self.now.listed }
     {
-        self.listed.as_slice().contains(&variable)
+        self.at_hand().contains(variable)
+    }
+
+    /// The set as it is looked up many times.
+    pub fn at_hand(&self) -> AtHand<'_>
+        ensures { result.listed.now ≡ self.now.listed }
+    {
+        AtHand {
+            listed: self.listed.as_slice(),
+        }
     }
 
     /// The variables.
@@ -49,4 +58,65 @@ impl Variables {
     {
         self.listed.as_slice()
     }
+}
+
+/// A set of variables that is at hand, as for each value of an environment.
+#[derive(Clone, Copy)]
+pub struct AtHand<'a> {
+    pub listed: &'a [u32],
+    ghost ascends: { Ascends listed.now },
+}
+
+impl<'a> AtHand<'a> {
+    /// No variable.
+    pub fn none() -> AtHand<'a>
+        ensures { result.listed.now ≡ [] }
+    {
+        AtHand { listed: &[] }
+    }
+
+    /// Whether the variable is in the set.
+    pub fn contains(&self, variable: u32) -> bool
+        ensures { result ≡ is_among variable self.now.listed.now }
+    {
+        stands_in_row(self.listed, variable) || place_of(self.listed, variable).is_ok()
+    }
+}
+
+// Whether the variable stands where it does if none is left out from it to the last one, which is mostly so.
+fn stands_in_row(listed: &[u32], variable: u32) -> bool
+    ensures { IsTrue result → IsTrue (is_among variable listed.now) }
+{
+    let Some(last) = listed.last() else {
+        return false;
+    };
+    let Some(back) = last.checked_sub(variable) else {
+        return false;
+    };
+    let Some(place) = (listed.len() - 1).checked_sub(back as usize) else {
+        return false;
+    };
+    listed[place] == variable
+}
+
+// The place of a variable in an ascending list, or where it belongs.
+fn place_of(listed: &[u32], variable: u32) -> Result<usize, usize>
+    requires { Ascends listed.now }
+    ensures found { IfOk result (StandsAt listed.now variable) }
+    ensures absent { IfErr result (FitsAt listed.now variable) }
+{
+    match listed.binary_search(&variable) {
+        Ok(place) => Ok(place),
+        Err(place) => Err(place),
+    }
+}
+
+// Puts a variable at a place; those from there on move down. An error changes nothing.
+fn insert_at(listed: &mut Sequence<u32>, place: usize, variable: u32) -> Result<(), AllocError>
+    requires { place ≤ length listed.old }
+    ensures ok { OnOk result (listed.new ≡ insert listed.old place variable) }
+    ensures err { OnErr result (listed.new ≡ listed.old) }
+{
+    listed.items.insert(place, variable)?;
+    Ok(())
 }

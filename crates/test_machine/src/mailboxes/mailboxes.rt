@@ -13,11 +13,16 @@ struct Tagged {
     tag: u8,
 }
 
-impl Test<Message> for Tagged {
+impl Test for Tagged {
     ghost passes = { λ t m. nat_eq t.tag m.tag };
 
-    fn passes(&self, value: &Message) -> bool {
-        self.tag == value.tag
+    fn passes(&self, message: &Message) -> bool {
+        self.tag == message.tag
+    }
+
+    fn may_pass(&self, lane: u32) -> bool {
+        let _ = lane;
+        true
     }
 }
 
@@ -34,7 +39,7 @@ pub fn a_message_is_found_and_taken(rt: &impl Abort, alloc: Global) {
     check(rt, mailboxes.find(0, &Tagged { tag: 0 }).is_some() == true);
     check(rt, mailboxes.find(0, &Tagged { tag: 1 }).is_some() == false);
     check(rt, mailboxes.pending() == 1);
-    check(rt, mailboxes.take(0, 0).tag == 0);
+    check(rt, mailboxes.take(0, 0, 0).tag == 0);
     check(rt, mailboxes.pending() == 0);
     mailboxes.free(0);
     check(rt, mailboxes.is_live(0) == false);

@@ -1,7 +1,8 @@
+use Rattle.pat_command_checkpoint.proofs.Answering.{run_allowed, piece_allowed}
 use Rattle.pat_command_checkpoint.proofs.command.answer_checkpoint.Goals as goal
 
-pub answer_of-requires-clause-checked : goal.answer_of-requires-clause-checked
-answer_of-requires-clause-checked c = let r = c.requires.read in (r.0, c.in_ok-found.ensures r.0 r.1)
+pub returns-in-Some : goal.returns-in-Some
+returns-in-Some c = piece_allowed c.args.steps c.args.bytes.now c.answer_piece.result c.answer_piece.ensures
 
-pub returns : goal.returns
-returns c = λ bytes read. c.answer_of.ensures bytes (c.in_ok-found.ensures bytes read)
+pub returns-in-None : goal.returns-in-None
+returns-in-None c = run_allowed c.args.steps c.args.bytes.now c.answer_run.result c.in-None.ensures.none c.answer_run.ensures

@@ -1,8 +1,9 @@
 use Rattle.std.proofs.Common.{subst}
 use Rattle.std.specs.Prelude.{IfOk}
+use Rattle.pat_command_checkpoint.specs.Allowed.{AllowedCheckpoint}
 use Rattle.pat_command_resume.specs.Allowed.{AllowedResume}
 use Rattle.pat_session.specs.Asking.{Asks, IsAsked}
-use Rattle.pat_session.proofs.Asking.{of_check, of_derive, of_print, of_run, of_checkpoint, of_resume, of_load, check_read, derive_read, print_read, run_read, run_within, checkpoint_read, checkpoint_within, resume_within, load_within}
+use Rattle.pat_session.proofs.Asking.{of_check, of_derive, of_print, of_run, of_checkpoint, of_resume, of_load, check_read, derive_read, print_read, run_read, run_within, checkpoint_within, resume_within, load_within}
 use Rattle.pat_session.proofs.commands.answer_to.Goals as goal
 
 pub answer_check-requires : goal.answer_check-requires
@@ -20,11 +21,8 @@ answer_run-requires-clause-read g c = run_read c.in-Run.options c.in-Run.input (
 pub answer_run-requires-clause-within : goal.answer_run-requires-clause-within
 answer_run-requires-clause-within g c = run_within c.in-Run.options c.in-Run.input (subst IsAsked c.in-Run.is c.requires.asked)
 
-pub answer_checkpoint-requires-clause-read : goal.answer_checkpoint-requires-clause-read
-answer_checkpoint-requires-clause-read g c = checkpoint_read c.in-Checkpoint.steps c.in-Checkpoint.input (subst IsAsked c.in-Checkpoint.is c.requires.asked)
-
-pub answer_checkpoint-requires-clause-within : goal.answer_checkpoint-requires-clause-within
-answer_checkpoint-requires-clause-within g c = checkpoint_within c.in-Checkpoint.steps c.in-Checkpoint.input (subst IsAsked c.in-Checkpoint.is c.requires.asked)
+pub answer_checkpoint-requires : goal.answer_checkpoint-requires
+answer_checkpoint-requires g c = checkpoint_within c.in-Checkpoint.steps c.in-Checkpoint.bytes (subst IsAsked c.in-Checkpoint.is c.requires.asked)
 
 pub answer_resume-requires : goal.answer_resume-requires
 answer_resume-requires g c = resume_within c.in-Resume.steps c.in-Resume.bytes (subst IsAsked c.in-Resume.is c.requires.asked)
@@ -42,7 +40,9 @@ pub returns-in-Run : goal.returns-in-Run
 returns-in-Run g c = λ command bytes asks. of_run command bytes c.answer_run.result c.in-Run.options c.in-Run.input (subst (Asks command bytes) c.in-Run.is asks) (c.answer_run.ensures bytes)
 
 pub returns-in-Checkpoint : goal.returns-in-Checkpoint
-returns-in-Checkpoint g c = λ command bytes asks. of_checkpoint command bytes c.answer_checkpoint.result c.in-Checkpoint.steps c.in-Checkpoint.input (subst (Asks command bytes) c.in-Checkpoint.is asks) (c.answer_checkpoint.ensures bytes)
+returns-in-Checkpoint g c = λ command bytes asks.
+    let own = subst (λ l. IfOk c.answer_checkpoint.result (λ a. AllowedCheckpoint c.in-Checkpoint.steps l a.text.items a.status)) c.as_slice-in-Checkpoint.ensures.value c.answer_checkpoint.ensures in
+    of_checkpoint command bytes c.answer_checkpoint.result c.in-Checkpoint.steps c.in-Checkpoint.bytes (subst (Asks command bytes) c.in-Checkpoint.is asks) own
 
 pub returns-in-Resume : goal.returns-in-Resume
 returns-in-Resume g c = λ command bytes asks.

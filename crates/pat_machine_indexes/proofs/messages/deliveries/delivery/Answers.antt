@@ -1,4 +1,4 @@
-use Rattle.std.proofs.Common.{◌≡◌, Some, Err, sym, subst}
+use Rattle.std.proofs.Common.{◌≡◌, Some, Err, refl, sym, subst}
 use Rattle.pat_semantics_spec.specs.Steps.{redex}
 use Rattle.pat_core.specs.Views.{program_view}
 use Rattle.pat_reduce_values.specs.declared.error.StepError.TheVariants.{Disabled}
@@ -13,7 +13,7 @@ pub returns-in-Ok-clause-ok : goal.returns-in-Ok-clause-ok
 returns-in-Ok-clause-ok c =
     let p = program_view c.args.code.now.program in
     let own = c.in-Some-find_numbered.ensures.there in
-    delivers c.args.mailboxes.now.mailboxes c.requires p (redex p (control_view c.args.control.now)) (guard_view c.in-Some.guard) (sym c.in-Some.ensures) c.args.number c.in-Some-find_numbered.place c.in-Some-find_numbered.message.now (control_view c.in-Ok.control) own.0 own.1 c.in-Ok.ensures
+    (own.0, delivers c.args.mailboxes.now.mailboxes c.requires p (redex p (control_view c.args.control.now)) (guard_view c.in-Some.guard) (sym c.in-Some.ensures) c.args.number own.0 c.in-Some-find_numbered.message.now (control_view c.in-Ok.control) own.1 own.2 c.in-Ok.ensures, (c.in-Some-find_numbered.message.now, own.1, refl, own.2))
 
 pub returns-in-Err-clause-disabled : goal.returns-in-Err-clause-disabled
 returns-in-Err-clause-disabled c is =
@@ -22,7 +22,7 @@ returns-in-Err-clause-disabled c is =
     let own = c.in-Some-find_numbered.ensures.there in
     let error : c.in-Err.error ≡ Disabled = cc in
     let none = subst (λ e. Gives control_view (received_of p (guard_view c.in-Some.guard) (Some (message_view m))) (Err e)) error c.in-Err.ensures in
-    undelivered c.args.mailboxes.now.mailboxes c.requires p (redex p (control_view c.args.control.now)) (guard_view c.in-Some.guard) (sym c.in-Some.ensures) c.args.number c.in-Some-find_numbered.place m own.0 own.1 none
+    undelivered c.args.mailboxes.now.mailboxes c.requires p (redex p (control_view c.args.control.now)) (guard_view c.in-Some.guard) (sym c.in-Some.ensures) c.args.number own.0 m own.1 own.2 none
 
 pub returns-in-None-find_numbered-clause-disabled : goal.returns-in-None-find_numbered-clause-disabled
 returns-in-None-find_numbered-clause-disabled c is =

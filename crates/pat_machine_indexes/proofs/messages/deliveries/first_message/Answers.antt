@@ -3,8 +3,6 @@ use Rattle.std.specs.Prelude.{find}
 use Rattle.pat_reduce.specs.threads.ThreadViews.{message_view}
 use Rattle.pat_reduce.specs.threads.GuardViews.{guard_view}
 use Rattle.pat_reduce.specs.threads.ThreadActs.{takes}
-use Rattle.pat_mailboxes.specs.Mailboxes.{pending_at as pending_of}
-use Rattle.pat_mailboxes.proofs.Firsts.{none_found, first_found}
 use Rattle.pat_machine_indexes.proofs.Boxed.{none_pending}
 use Rattle.pat_machine_indexes.proofs.Delivering.{number_in}
 use Rattle.pat_machine_indexes.proofs.messages.deliveries.first_message.Goals as goal
@@ -19,12 +17,10 @@ pub returns-in-Some : goal.returns-in-Some
 returns-in-Some c =
     let g = guard_view c.args.guard.now in
     let ms = c.args.mailboxes.now.mailboxes in
-    let first = c.in-Some.ensures.first in
-    let found = first_found (λ m. takes g (message_view m)) (pending_of ms g.mailbox) c.in-Some.field-0-0 c.in-Some.message.now first.0 first.1 first.2 in
-    number_in ms c.requires g (Some c.in-Some.message.now) found
+    number_in ms c.requires g (Some c.in-Some.message.now) (sym c.in-Some.ensures.first)
 
 pub returns-in-None : goal.returns-in-None
 returns-in-None c =
     let g = guard_view c.args.guard.now in
     let ms = c.args.mailboxes.now.mailboxes in
-    number_in ms c.requires g None (none_found (λ m. takes g (message_view m)) (pending_of ms g.mailbox) c.in-None.ensures.first)
+    number_in ms c.requires g None (sym c.in-None.ensures.first)

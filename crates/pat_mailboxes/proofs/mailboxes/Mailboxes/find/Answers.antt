@@ -1,8 +1,5 @@
 use Rattle.std.proofs.Common.{◌≡◌, ℕ, List, slice_get, Option, Some, sym, ap, ◌∙◌, subst}
-use Rattle.std.specs.Prelude.{option_map}
-use Rattle.std.specs.Borrow.{Bor}
-use Rattle.pat_mailboxes.specs.queues.Queues.{Finds}
-use Rattle.pat_reduce.specs.declared.threads.state.Message.{Message}
+use Rattle.std.specs.Prelude.{find}
 use Rattle.pat_mailboxes.specs.Mailboxes.{AreInOrder}
 use Rattle.pat_mailboxes.proofs.Keeping.{live_queue}
 use Rattle.pat_mailboxes.proofs.Seeing.{first, seen_entry, seen_pending}
@@ -23,7 +20,7 @@ pub returns-clause-first : goal.returns-clause-first
 returns-clause-first g c =
     let s = c.self.inside.store in
     let at : slice_get s.queues.items c.args.mailbox ≡ Some (Some c.queue_of-queue.result) = ap (λ (xs : List (Option ℕ)). slice_get xs c.args.mailbox) (sym c.as_slice.ensures.value) ∙ c.queue_of-queue.ensures in
-    subst (λ (vs : List Message). Finds (g.P.Test.passes c.args.test.now) vs (option_map (λ (f : ℕ × Bor Message). (f.0, f.1.now)) c.find.result)) (sym (seen_pending s.queues.items s.pool.0 c.self.inside.room c.self.inside.spare c.args.self.now c.self.view_is c.args.mailbox c.queue_of-queue.result at)) c.find.ensures
+    c.find.ensures ∙ ap (find (g.P.Test.passes c.args.test.now)) (sym (seen_pending s.queues.items s.pool.0 c.self.inside.room c.self.inside.spare c.args.self.now c.self.view_is c.args.mailbox c.queue_of-queue.result at))
 
 pub returns-clause-order : goal.returns-clause-order
 returns-clause-order g c =

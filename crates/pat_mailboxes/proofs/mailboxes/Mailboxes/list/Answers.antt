@@ -2,7 +2,10 @@ use Rattle.std.proofs.Common.{◌≡◌, ℕ, List, map, slice_get, Option, Some
 use Rattle.std.specs.Prelude.{IfOk}
 use Rattle.std.specs.Borrow.{Bor}
 use Rattle.pat_reduce.specs.declared.threads.state.Message.{Message}
-use Rattle.pat_mailboxes.proofs.Keeping.{live_queue}
+use Rattle.pat_mailboxes.specs.Mailboxes.{IsInOrder}
+use Rattle.pat_mailboxes.specs.queues.Queues.{values_at}
+use Rattle.pat_mailboxes.proofs.Keeping.{live_queue, pending_is}
+use Rattle.pat_mailboxes.proofs.Sorted.{listed}
 use Rattle.pat_mailboxes.proofs.Seeing.{seen_entry, seen_pending}
 use Rattle.pat_mailboxes.proofs.mailboxes.Mailboxes.list.Goals as goal
 
@@ -21,4 +24,6 @@ pub returns : goal.returns
 returns c =
     let s = c.self.inside.store in
     let at : slice_get s.queues.items c.args.mailbox ≡ Some (Some c.queue_of-queue.result) = ap (λ (xs : List (Option ℕ)). slice_get xs c.args.mailbox) (sym c.as_slice.ensures.value) ∙ c.queue_of-queue.ensures in
-    subst (λ (own : List Message). IfOk c.list.result (λ ms. map (λ (m : Bor Message). m.now) ms.items ≡ own)) (sym (seen_pending s.queues.items s.pool.0 c.self.inside.room c.self.inside.spare c.args.self.now c.self.view_is c.args.mailbox c.queue_of-queue.result at)) c.list.ensures
+    let order = (subst (IsInOrder c.args.mailbox) (pending_is s.queues.items s.pool.0 c.args.mailbox c.queue_of-queue.result at) (c.self.invariant.0.order c.args.mailbox)).ascend in
+    subst (λ (own : List Message). IfOk c.list.result (λ ms. map (λ (m : Bor Message). m.now) ms.items ≡ own)) (sym (seen_pending s.queues.items s.pool.0 c.self.inside.room c.self.inside.spare c.args.self.now c.self.view_is c.args.mailbox c.queue_of-queue.result at))
+    (listed (values_at s.pool.0 c.queue_of-queue.result) order c.list.result c.list.ensures.all c.list.ensures.order)

@@ -19,6 +19,12 @@ push_back-requires-clause-live c =
     let at : slice_get s.queues.items c.args.message.mailbox ≡ Some (Some c.queue_of-queue.result) = ap (λ (xs : List (Option ℕ)). slice_get xs c.args.message.mailbox) (sym c.as_slice.ensures.value) ∙ c.queue_of-queue.ensures in
     (live_queue s.queues.items s.ready.items s.pool.0 s.pool.1 c.self.inside.room c.args.message.mailbox c.queue_of-queue.result c.self.invariant.0 at)
 
+pub push_back-requires-clause-last : goal.push_back-requires-clause-last
+push_back-requires-clause-last c =
+    let s = c.self.inside.store in
+    let at : slice_get s.queues.items c.args.message.mailbox ≡ Some (Some c.queue_of-queue.result) = ap (λ (xs : List (Option ℕ)). slice_get xs c.args.message.mailbox) (sym c.as_slice.ensures.value) ∙ c.queue_of-queue.ensures in
+    subst (λ (vs : List Message). AllByRecursion (λ n. n.number < c.args.message.number) vs) (seen_pending s.queues.items s.pool.0 c.self.inside.room c.self.inside.spare c.args.self.now c.self.view_is c.args.message.mailbox c.queue_of-queue.result at) c.requires.last
+
 pub push_back-requires-clause-spare : goal.push_back-requires-clause-spare
 push_back-requires-clause-spare c =
     let s = c.self.inside.store in

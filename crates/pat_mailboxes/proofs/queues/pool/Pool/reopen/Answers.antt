@@ -7,7 +7,7 @@ use Rattle.pat_mailboxes.proofs.Marking.{reopen_seen}
 use Rattle.pat_mailboxes.proofs.queues.pool.Pool.reopen.Goals as goal
 
 pub invariant_of-self : goal.invariant_of-self
-invariant_of-self g c =
+invariant_of-self c =
     let i = c.self.inside in
     let l = c.in-Some-Closed.ensures.lookup in
     let at : slice_get i.marks.items c.in_ok-queue.queue ≡ Some (Closed c.in-Some-Closed.next) =
@@ -16,7 +16,7 @@ invariant_of-self g c =
     (c.self.invariant.0, r.1)
 
 pub returns-in-Some-Closed-clause-fresh : goal.returns-in-Some-Closed-clause-fresh
-returns-in-Some-Closed-clause-fresh g c =
+returns-in-Some-Closed-clause-fresh c =
     let i = c.self.inside in
     let l = c.in-Some-Closed.ensures.lookup in
     let at : slice_get i.marks.items c.in_ok-queue.queue ≡ Some (Closed c.in-Some-Closed.next) =
@@ -25,7 +25,7 @@ returns-in-Some-Closed-clause-fresh g c =
     r.0
 
 pub returns-in-Some-Closed-clause-some : goal.returns-in-Some-Closed-clause-some
-returns-in-Some-Closed-clause-some g c =
+returns-in-Some-Closed-clause-some c =
     let i = c.self.inside in
     let l = c.in-Some-Closed.ensures.lookup in
     let at : slice_get i.marks.items c.in_ok-queue.queue ≡ Some (Closed c.in-Some-Closed.next) =

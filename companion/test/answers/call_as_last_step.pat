@@ -1,0 +1,3 @@
+def answer(): Int { 42 }
+
+def main(): Unit { print(1); answer() }
