@@ -1,5 +1,5 @@
 mod LookUps
-mod Closed
+mod Pairs
 mod Flags
 mod Grids
 mod Large

@@ -1,7 +1,8 @@
 // Values that variables may have.
-ghost use Rattle.std.specs.Prelude.{◌≡◌};
+ghost use Rattle.std.specs.Prelude.{◌≡◌, ◌&&◌};
 ghost use Rattle.pat_semantics_spec.specs.WellFormed.{WellFormed};
-ghost use Rattle.pat_words_spec.specs.Tags.{tags_below as tags_below_of};
+ghost use Rattle.pat_words_spec.specs.Patterns.{is_closed};
+ghost use Rattle.pat_words_spec.specs.Tags.{tags_below};
 ghost use Rattle.pat_inclusion_spec.specs.Values.{value_fits as value_fits_of, values_fit as values_fit_of};
 ghost use Rattle.pat_derivation_spec.specs.Derivations.{scope_of};
 ghost use Rattle.pat_patterns.specs.Views.{pattern_view};
@@ -12,31 +13,30 @@ use crate::looking::{tag_count, tags_are_few};
 use crate::points::points_fit;
 use pat_core::Program;
 use pat_derivations::{Derivation, VarValue};
-use pat_patterns::{Pattern, has_values};
+use pat_patterns::Pattern;
 
-/// Whether the pattern's tags are below the number.
-fn tags_below(tags: u32, pattern: &Pattern) -> bool
-    ensures { result ≡ tags_below_of tags (pattern_view pattern.now) }
+/// Whether the pattern has no variable, and its tags are below the number.
+#[tactic(auto, using(crate::proofs::Pairs::in_pairs))]
+fn is_closed_below(tags: u32, pattern: &Pattern) -> bool
+    ensures { result ≡ (is_closed (pattern_view pattern.now) && tags_below tags (pattern_view pattern.now)) }
 {
     match pattern {
-        Pattern::Zero | Pattern::One | Pattern::Var(_) => true,
+        Pattern::Zero | Pattern::One => true,
+        Pattern::Var(_) => false,
         Pattern::Tag(tag) => (*tag as u32) < tags,
         Pattern::Sum(left, right) | Pattern::Prod(left, right) => {
-            tags_below(tags, left) && tags_below(tags, right)
+            is_closed_below(tags, left) && is_closed_below(tags, right)
         }
-        Pattern::Star(part) => tags_below(tags, part),
+        Pattern::Star(part) => is_closed_below(tags, part),
     }
 }
 
 /// Whether the value is one that a variable of an interface of so many tags may have.
-#[tactic(auto, using(crate::proofs::Closed::closed_is))]
 fn value_fits(tags: u32, value: &VarValue) -> bool
     ensures { result ≡ value_fits_of tags (value_view value.now) }
 {
     match value {
-        VarValue::Pattern(pattern) => {
-            0 < tags && (has_values(pattern, 0) && tags_below(tags, pattern))
-        }
+        VarValue::Pattern(pattern) => 0 < tags && is_closed_below(tags, pattern),
         VarValue::Grid { k, points } => 0 < tags && points_fit(*k, tags, points.as_slice()),
     }
 }
