@@ -1,15 +1,17 @@
 -- Sums of sets, by words.
-use Rattle.std.proofs.Common.{◌≡◌, ℕ, ◌+◌, ◌*◌, ◌/◌, ◌%◌, ◌<◌, ◌≤◌, ⊎_elim, Bool, true, false, List, [], ◌∷◌, ◌++◌, length, get_or, refl, sym, ap, ap₂, ◌∙◌, subst, arith}
+use Rattle.std.proofs.Common.{◌≡◌, ℕ, ◌+◌, ◌*◌, ◌/◌, ◌%◌, ◌<◌, ◌≤◌, ⊎_elim, Bool, true, false, List, [], ◌∷◌, ◌++◌, replicate, length, get_or, refl, sym, ap, ap₂, ◌∙◌, subst, arith}
 use Rattle.std.specs.Prelude.{IsTrue, ◌↔◌}
+use Rattle.std.specs.Int.{bit_at}
 use Rattle.std.proofs.lemmas.Bool.{cases_lt}
+use Rattle.std.proofs.lemmas.Nat.Bits.{bit_at-zero}
 use Rattle.std.proofs.lemmas.List.{get_or_append_left, get_or_push, length_push}
 use Rattle.pat_inclusion_spec.specs.bounds.Numbers.{points_in}
 use Rattle.pat_grid_points.specs.Views.{summed}
-use Rattle.pat_grid_points.proofs.Digits.{summed_below}
+use Rattle.pat_grid_points.proofs.Digits.{summed_below, summed_zero_left}
 use Rattle.pat_grid_sums.specs.declared.shape.Shape.{Shape}
 use Rattle.pat_grid_sums.specs.Sets.{In, Puts, AnyBefore, IsListed, AtNumber, Lists, IsMovedAny, IsJoined, IsAdded}
-use Rattle.pat_grid_sums.specs.Shapes.{IsShape, IsRow, IsSum, Has, AreMoved, IsRowSum, AreSums}
-use Rattle.pat_grid_sums.proofs.Putting.{puts_as, has_as}
+use Rattle.pat_grid_sums.specs.Shapes.{IsShape, IsRow, IsSum, Has, AreMoved, IsGathered, IsRowSum, AreSums}
+use Rattle.pat_grid_sums.proofs.Putting.{puts_none, puts_as, has_all, has_as}
 use Rattle.pat_grid_sums.proofs.Splitting.{all_points, word_within, place_within, sum_word, sum_place, is_sum}
 
 -- the words' bits, each moved by the row of a place
@@ -60,20 +62,64 @@ added_if ones word moved row l wanted now x y test is h =
     (λ a q t. (test.1 t.0, subst (λ xs. AnyBefore (IsJoined xs row) (length row) a q) (sym is) t.1))
     h
 
--- sums of the points of one word
-pub row_sums : (s : Shape) (ones : List ℕ) (moved : List (List ℕ)) (row x y : List ℕ) (i : ℕ) → s.words ≡ points_in s.k s.high → IsRow s.k s.high i row → Puts (AnyBefore (IsAdded ones i moved row) (length moved)) x y → Puts (IsRowSum ones moved s i) x y
-row_sums s ones moved row x y i words row_is h =
-    puts_as (AnyBefore (IsAdded ones i moved row) (length moved)) (IsRowSum ones moved s i) x y
+-- ---- what is gathered for a word
+
+-- nothing, of no bits
+pub gathered_none : (moved : List (List ℕ)) (s : Shape) (words : List ℕ) → words ≡ replicate s.words 0 → IsGathered moved s 0 words
+gathered_none moved s words e =
+    let P : ℕ → ℕ → Type 0 = λ h q. (l : ℕ) × (l < length moved) × (bit_at 0 l ≡ 1) × (h < s.words) × In (get_or moved l []) h q in
+    subst (Has P s.words) (sym e)
+    (has_all P s.words (replicate s.words 0)
+    (puts_none P (replicate s.words 0) (λ h q t. let z = bit_at-zero t.0 in let one = t.2 in absurd (omega arith))))
+
+-- what the row of no point puts in
+pub gathered_made : (s : Shape) (ones : List ℕ) (moved : List (List ℕ)) (row zeros words : List ℕ) (i : ℕ) → s.words ≡ points_in s.k s.high → IsRow s.k s.high 0 row → zeros ≡ replicate s.words 0 → Puts (AnyBefore (IsAdded ones i moved row) (length moved)) zeros words → IsGathered moved s (get_or ones i 0) words
+gathered_made s ones moved row zeros words i count row_is none h =
+    let P : ℕ → ℕ → Type 0 = λ a q. (l : ℕ) × (l < length moved) × In ones i l × (a < s.words) × In (get_or moved l []) a q in
+    let many = row_is.0 in
+    let at : (w : ℕ) → w < s.words → get_or row w 0 ≡ w = λ w l. row_is.1 w (omega arith) ∙ sym (summed_zero_left s.k s.high w (omega arith)) in
+    has_all P s.words words
+    (puts_as (AnyBefore (IsAdded ones i moved row) (length moved)) P (replicate s.words 0) words
     (λ a q t.
-    let l = t.0 in
     let w = t.2.1.0 in
     let few = t.2.1.1 in
+    let l : w < s.words = omega arith in
+    let is : a ≡ w = t.2.1.2.0 ∙ at w l in
+    (t.0, t.1, t.2.0, subst (λ b. b < s.words) (sym is) l, subst (λ b. In (get_or moved t.0 []) b q) (sym is) t.2.1.2.1))
+    (λ a q t.
+    let few = t.3 in
+    (t.0, t.1, (t.2, (a, (let e : a < length row = omega arith in e), (sym (at a t.3), t.4)))))
+    (subst (λ z. Puts (AnyBefore (IsAdded ones i moved row) (length moved)) z words) none h))
+
+-- where it goes, in the row of the word, are the sums of the word's points
+pub row_sums : (s : Shape) (ones : List ℕ) (moved : List (List ℕ)) (words row x y : List ℕ) (i : ℕ) → s.words ≡ points_in s.k s.high → IsRow s.k s.high i row → IsGathered moved s (get_or ones i 0) words → Puts (AnyBefore (IsJoined words row) (length row)) x y → Puts (IsRowSum ones moved s i) x y
+row_sums s ones moved words row x y i count row_is gathered h =
     let many = row_is.0 in
-    (l, w, t.1, t.2.0, (let e : w < s.words = omega arith in e), t.2.1.2.0 ∙ row_is.1 w (omega arith), t.2.1.2.1))
+    puts_as (AnyBefore (IsJoined words row) (length row)) (IsRowSum ones moved s i) x y
+    (λ a q t.
+    let w = t.0 in
+    let few = t.1 in
+    let g = gathered.only w q t.2.1 in
+    (g.0, w, g.1, g.2, g.3, t.2.0 ∙ row_is.1 w (omega arith), g.4))
     (λ a q t.
     let few = t.4 in
-    let many = row_is.0 in
-    (t.0, t.2, (t.3, (t.1, (let e : t.1 < length row = omega arith in e), (t.5 ∙ sym (row_is.1 t.1 (omega arith)), t.6)))))
+    (t.1, (let e : t.1 < length row = omega arith in e), (t.5 ∙ sym (row_is.1 t.1 (omega arith)), gathered.put t.1 q (t.0, t.2, t.3, t.4, t.6))))
+    h
+
+-- ---- words that are the same as the one before
+
+-- what the bits of the word before were moved to
+pub moved_alike : (others row moved new : List ℕ) (word before bits : ℕ) → before + 1 ≡ word → get_or others word 0 ≡ get_or others before 0 → bits ≡ get_or moved before 0 → Has (AnyBefore (IsMovedAny others row) word) (length others) moved → Puts (λ h q. (h ≡ word) × (bit_at bits q ≡ 1)) moved new → Puts (IsMovedAny others row word) moved new
+moved_alike others row moved new word before bits next same is had h =
+    puts_as (λ a q. (a ≡ word) × (bit_at bits q ≡ 1)) (IsMovedAny others row word) moved new
+    (λ a q t.
+    let found = had.only before q (subst (λ b. bit_at b q ≡ 1) is t.1) in
+    let m = found.2 in
+    let at : before ≡ found.0 = m.2.1 in
+    (m.0, m.1, (subst (λ b. bit_at b m.0 ≡ 1) (sym same) (subst (λ b. In others b m.0) (sym at) m.2.0), t.0, m.2.2)))
+    (λ a q t.
+    let there : In moved before q = had.put before q (before, (let e : before < word = omega arith in e), (t.0, t.1, (subst (λ b. bit_at b t.0 ≡ 1) same t.2.0, refl, t.2.2))) in
+    (t.2.1, subst (λ b. bit_at b q ≡ 1) (sym is) there))
     h
 
 module _ (k n : ℕ) (s : Shape) (shape : IsShape k n s) (firsts seconds ones others : List ℕ) (moved : List (List ℕ)) (sums numbers : List ℕ) (had : Has (AnyBefore (AtNumber firsts s.width) (length firsts)) s.words ones) (have : Has (AnyBefore (AtNumber seconds s.width) (length seconds)) s.words others) (went : AreMoved ones others s s.width moved) (summing : Has (AnyBefore (IsRowSum ones moved s) (length ones)) s.words sums) (listed : Lists sums s.width (s.words * s.width) numbers) where

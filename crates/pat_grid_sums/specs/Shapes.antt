@@ -1,5 +1,6 @@
 -- How the points of a grid are divided, and their sums.
 use Rattle.std.specs.Prelude.{◌≡◌, ℕ, ◌+◌, ◌<◌, ◌≤◌, List, [], length, get_or}
+use Rattle.std.specs.Int.{bit_at}
 use Rattle.pat_inclusion_spec.specs.bounds.Numbers.{points_in}
 use Rattle.pat_grid_points.specs.Views.{summed}
 use Rattle.pat_limits.specs.Limits.{most_points}
@@ -38,6 +39,11 @@ pub record AreMoved (ones others : List ℕ) (s : Shape) (m : ℕ) (all : List (
   pub as_many : length all ≡ m
   pub as_long : (l : ℕ) → l < m → length (get_or all l []) ≡ length others
   pub moved : (l h : ℕ) → l < m → h < length ones → In ones h l → Has (IsSum others s l) (length others) (get_or all l [])
+
+-- the words have just what was moved by a place of the bits
+abbrev pub IsGathered : List (List ℕ) → Shape → ℕ → List ℕ → Type 0
+IsGathered moved s bits words =
+    Has (λ h q. (l : ℕ) × (l < length moved) × (bit_at bits l ≡ 1) × (h < s.words) × In (get_or moved l []) h q) s.words words
 
 -- sums of a point of the word with those that were moved by its place
 abbrev pub IsRowSum : List ℕ → List (List ℕ) → Shape → ℕ → ℕ → ℕ → Type 0

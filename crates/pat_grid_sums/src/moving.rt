@@ -1,10 +1,10 @@
 // A set of points moved by the places of a word.
 
-ghost use Rattle.std.specs.Prelude.{◌≡◌, ◌<◌, ◌≤◌, true, ℕ, length, get_or, IfOk, IsFalse};
+ghost use Rattle.std.specs.Prelude.{◌≡◌, ◌<◌, ◌≤◌, true, ℕ, length, get_or, replicate, IfOk, IsFalse};
 ghost use Rattle.pat_grid_sums.specs.Sets.{In, Puts, AnyBefore, IsMovedAny};
 ghost use Rattle.pat_grid_sums.specs.Shapes.{IsShape, IsSum, Has, AreMoved};
 
-use crate::bits::{has, no_bits, put};
+use crate::bits::{has, join, no_bits, put};
 use crate::rows::row_of;
 use crate::shape::Shape;
 use pat_sequences::Sequence;
@@ -62,16 +62,34 @@ fn moved_if(
     Ok(moved)
 }
 
-/// Puts the bits of each word in where the row says.
+/// Puts the bits of each word in where the row says, in place of nothing.
 fn move_all(others: &[u64], row: &[usize], moved: &mut Sequence<u64>)
-    requires long { length moved.old ≡ length others.now }
+    requires none { moved.old ≡ replicate (length others.now) 0 }
     requires few { length row.now ≤ 64 }
     requires row { (p : ℕ) → p < length row.now → get_or row.now p 0 < 64 }
     ensures { Puts (AnyBefore (IsMovedAny others.now row.now) (length others.now)) moved.old moved.new }
 {
     for word in 0..others.len() {
-        move_word(others, word, row, moved);
+        move_next(others, word, row, moved);
     }
+}
+
+/// So the bits of the next word; many words are the same as the one before.
+fn move_next(others: &[u64], word: usize, row: &[usize], moved: &mut Sequence<u64>)
+    requires word { word < length others.now }
+    requires few { length row.now ≤ 64 }
+    requires row { (p : ℕ) → p < length row.now → get_or row.now p 0 < 64 }
+    requires before { Puts (AnyBefore (IsMovedAny others.now row.now) word) (replicate (length others.now) 0) moved.old }
+    ensures { Puts (IsMovedAny others.now row.now word) moved.old moved.new }
+{
+    if word == 0 {
+        return move_word(others, word, row, moved);
+    }
+    if others[word] != others[word - 1] {
+        return move_word(others, word, row, moved);
+    }
+    let bits = moved.as_slice()[word - 1];
+    join(moved, word, bits);
 }
 
 /// Puts the bits of one word in where the row says.

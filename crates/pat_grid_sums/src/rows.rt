@@ -14,13 +14,14 @@ pub fn row_of(alloc: Global, point: usize, k: u32, tags: u8) -> Result<Sequence<
     requires { points_in k tags ≤ most_points }
     ensures { IfOk result (λ row. IsRow k tags point row) }
 {
-    let mut row = Sequence::new(alloc);
     if tags == 0 {
+        let mut row = Sequence::new(alloc);
         row.push(0)?;
         return Ok(row);
     }
     let base = k as usize + 1;
     let above = row_of(alloc, point / base, k, tags - 1)?;
+    let mut row = Sequence::from_vec(Vec::with_capacity(alloc, above.len().saturating_mul(base))?);
     for sum in above.as_slice() {
         push_digits(*sum, point % base, k, &mut row)?;
     }

@@ -4,7 +4,7 @@ ghost use Rattle.std.specs.Prelude.{◌≡◌, ◌<◌, ◌≤◌, ◌/◌, ℕ,
 ghost use Rattle.pat_inclusion_spec.specs.Points.{grid_fits};
 ghost use Rattle.pat_inclusion_spec.specs.bounds.Numbers.{points_in};
 ghost use Rattle.pat_grid_sums.specs.Sets.{In, Puts, AnyBefore, AtNumber, IsJoined, IsAdded};
-ghost use Rattle.pat_grid_sums.specs.Shapes.{IsShape, Has, IsRowSum, AreSums};
+ghost use Rattle.pat_grid_sums.specs.Shapes.{IsShape, Has, IsGathered, IsRowSum, AreSums};
 
 use crate::bits::{has, join, list_all, no_bits, put_all};
 use crate::moving::moved_by_each;
@@ -13,8 +13,16 @@ use crate::shape::{Shape, shape_of};
 use pat_sequences::Sequence;
 use std::alloc::{AllocError, Global};
 
-/// The numbers of the sums of a point of the one list with one of the other. It takes time in proportion to the points of the first list
-/// and all points, by words; where `k` is 64 or more a word has one point alone.
+/// What was moved by places of a word, all together.
+#[derive(Drop)]
+struct Gathered {
+    /// The bit of each such place.
+    bits: u64,
+    words: Sequence<u64>,
+}
+
+/// The numbers of the sums of a point of the one list with one of the other. Both are sets as words of bits,
+/// and it takes time in proportion to the square of the words; where `k` is 64 or more a word has one point alone.
 pub fn list_sums(
     alloc: Global,
     firsts: &[usize],
@@ -61,37 +69,75 @@ fn sums_of(
     ensures { IfOk result (Has (AnyBefore (IsRowSum ones.now moved.now shape) (length ones.now)) shape.words) }
 {
     let mut sums = no_bits(alloc, shape.words)?;
+    let nothing = no_bits(alloc, shape.words)?;
+    let mut gathered = Gathered {
+        bits: 0,
+        words: nothing,
+    };
     for word in 0..ones.len() {
-        add_row(alloc, ones, word, moved, shape, &mut sums)?;
+        gathered = add_row(alloc, ones, word, moved, shape, gathered, &mut sums)?;
     }
     Ok(sums)
 }
 
-/// Adds those of the points of one word.
+/// Adds those of the points of one word, and answers what was gathered for it; many words are the same as the last one.
 fn add_row(
     alloc: Global,
     ones: &[u64],
     word: usize,
     moved: &[Sequence<u64>],
     shape: Shape,
+    last: Gathered,
     sums: &mut Sequence<u64>,
-) -> Result<(), AllocError>
+) -> Result<Gathered, AllocError>
     requires shape { (n : ℕ) × IsShape shape.k n shape }
     requires word { word < length ones.now }
     requires few { length moved.now ≤ 64 }
     requires moved { (l : ℕ) → l < length moved.now → length (get_or moved.now l []) ≡ shape.words }
     requires long { length sums.old ≡ shape.words }
-    ensures { OnOk result (Puts (IsRowSum ones.now moved.now shape word) sums.old sums.new) }
+    requires last { IsGathered moved.now shape last.bits last.words }
+    ensures sums { OnOk result (Puts (IsRowSum ones.now moved.now shape word) sums.old sums.new) }
+    ensures gathered { IfOk result (λ g. IsGathered moved.now shape g.bits g.words) }
 {
     if ones[word] == 0 {
-        return Ok(());
+        return Ok(last);
     }
+    let gathered = gather(alloc, ones, word, moved, shape, last)?;
     let row = row_of(alloc, word, shape.k, shape.high)?;
-    add_word(ones, word, moved, row.as_slice(), sums);
-    Ok(())
+    add_moved(gathered.words.as_slice(), row.as_slice(), sums);
+    Ok(gathered)
 }
 
-/// The sums of the points of one word.
+/// Puts together what was moved by the places of the word, if that isn't what was gathered last.
+fn gather(
+    alloc: Global,
+    ones: &[u64],
+    word: usize,
+    moved: &[Sequence<u64>],
+    shape: Shape,
+    last: Gathered,
+) -> Result<Gathered, AllocError>
+    requires shape { (n : ℕ) × IsShape shape.k n shape }
+    requires word { word < length ones.now }
+    requires few { length moved.now ≤ 64 }
+    requires moved { (l : ℕ) → l < length moved.now → length (get_or moved.now l []) ≡ shape.words }
+    requires last { IsGathered moved.now shape last.bits last.words }
+    ensures bits { IfOk result (λ g. g.bits ≡ get_or ones.now word 0) }
+    ensures words { IfOk result (λ g. IsGathered moved.now shape (get_or ones.now word 0) g.words) }
+{
+    if ones[word] == last.bits {
+        return Ok(last);
+    }
+    let mut words = no_bits(alloc, shape.words)?;
+    let row = row_of(alloc, 0, shape.k, shape.high)?;
+    add_word(ones, word, moved, row.as_slice(), &mut words);
+    Ok(Gathered {
+        bits: ones[word],
+        words,
+    })
+}
+
+/// Puts what was moved by the places of one word in where the row says.
 fn add_word(
     ones: &[u64],
     word: usize,

@@ -18,7 +18,7 @@ use pat_sequences::Sequence;
 use std::alloc::{AllocError, Global};
 
 // As many pairs for each point of the grid cost about what its sums of sets do.
-const PAIRS_A_POINT: usize = 16;
+pub const PAIRS_A_POINT: usize = 16;
 
 /// Lowers the entries of symbol `s` to what its parts give at each number of the one list with each of the other.
 pub fn relax_either(
@@ -220,6 +220,9 @@ fn relax_within(
         OnOk result (Moved g s (AreOthers parts.0 parts.1 s)
         (RowsWithin g s parts.0 parts.1 firsts.now seconds.now (length firsts.now)) sizes.old changed.old sizes.new changed.new) }
 {
+    if board.limit == 0 {
+        return Ok(());
+    }
     let ones = kept_below(alloc, board, &sizes.entries, parts.0, board.limit, firsts)?;
     let others = kept_below(alloc, board, &sizes.entries, parts.1, board.limit, seconds)?;
     relax_rows_within(

@@ -1,9 +1,17 @@
-use Rattle.std.proofs.Common.{◌<◌, get_or, length, sym, subst}
+use Rattle.std.proofs.Common.{◌<◌, get_or, length, sym, subst, arith}
 use Rattle.pat_grid.specs.tables.Views.{setting_of}
-use Rattle.pat_grid.specs.tables.Moves.{TakesParts, KeptBefore}
+use Rattle.pat_grid.specs.tables.Moves.{TakesParts, AreOthers, RowsWithin, KeptBefore}
+use Rattle.pat_grid.proofs.Relaxing.{moved_none}
 use Rattle.pat_grid.proofs.Summing.{within_moved}
 use Rattle.pat_grid.proofs.Waiting.{on_ok}
 use Rattle.pat_grid.proofs.tables.sums.relax_within.Goals as goal
+
+pub returns-then-board-eq0 : goal.returns-then-board-eq0
+returns-then-board-eq0 c =
+    let a = c.args in
+    let g = setting_of a.board.now in
+    moved_none g a.s (AreOthers a.parts.0 a.parts.1 a.s) (RowsWithin g a.s a.parts.0 a.parts.1 a.firsts.now a.seconds.now (length a.firsts.now)) a.sizes.now a.changed.now
+    (λ i l j m few. let none = c.if-board-eq0.true in absurd (omega arith))
 
 pub kept_below-requires-clause-numbers : goal.kept_below-requires-clause-numbers
 kept_below-requires-clause-numbers c = λ i l. (c.requires.firsts i l).0
