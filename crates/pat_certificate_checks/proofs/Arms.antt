@@ -61,7 +61,7 @@ arm_of_sum e f g n arm =
     either : (is_arm e f || is_arm e g) ≡ true
     either = ⊎_elim (or_left (is_arm e f) (is_arm e g)) (or_right (is_arm e f) (is_arm e g)) arm
 
-alike : (values : ℕ → Pat) (e f : Pat) → pat_eq e f ≡ true → is_arm (subst_of values e) (subst_of values f) ≡ true
+pub alike : (values : ℕ → Pat) (e f : Pat) → pat_eq e f ≡ true → is_arm (subst_of values e) (subst_of values f) ≡ true
 alike values e f same = subst (λ x. is_arm (subst_of values e) (subst_of values x) ≡ true) (pat_eq_same e f same) (arm_of_itself (subst_of values e))
 
 -- what is an arm as it is written still is one once the values are put in, unless it is 0 then

@@ -2,7 +2,9 @@
 use Rattle.std.proofs.Common.{◌≡◌, ℕ, Bool, true, false, ◌&&◌, ◌||◌, List, [], ◌∷◌, ◌++◌, Option, Some, None, length, drop, refl, sym, ap, ap₂, ◌∙◌, subst}
 use Rattle.std.specs.Prelude.{not, nat_eq}
 use Rattle.std.proofs.Math.Dec.{eqb-suc-zero}
-use Rattle.pat_words_spec.specs.Patterns.{Pat}
+use Rattle.std.proofs.lemmas.Bool.{and_parts}
+use Rattle.pat_words_spec.specs.Patterns.{Pat, pat_eq}
+use Rattle.pat_words_laws.proofs.PatternLaws.{pat_eq_same}
 use Rattle.pat_inclusion_spec.specs.Values.{Scope, is_formed, plainly_replaced}
 use Rattle.pat_inclusion_spec.specs.Certificates.{Cert, Inclusion, is_trivial, cert_shows, shows, is_shown, is_shown_in, are_shown}
 use Rattle.pat_inclusion_laws.proofs.Taking.{trivial_takes_none, other_takes_next}
@@ -58,6 +60,12 @@ leaves_reflexive s i e certs f = trivially s i e e f f certs (arm_of_itself (pla
 
 pub not_reflexive : (s : Scope) (i : ℕ) (e : Pat) (certs : List Cert) → is_formed s i e ≡ false → Leaves s (one (Some i) e e ∷ []) certs None
 not_reflexive s i e certs f = not_formed s i e e certs (ap₂ (λ a b. a && b) f f)
+
+-- so where they are the same
+pub same_trivially : (s : Scope) (i : ℕ) (e f : Pat) (certs : List Cert) → (pat_eq e f && is_formed s i e) ≡ true → Takes s (Some i) e f certs outcome.Trivially
+same_trivially s i e f certs h =
+    let both = and_parts (pat_eq e f) (is_formed s i e) h in
+    subst (λ x. Takes s (Some i) e x certs outcome.Trivially) (pat_eq_same e f both.0) (leaves_reflexive s i e certs both.1)
 
 -- ---- demands
 

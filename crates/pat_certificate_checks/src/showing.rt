@@ -18,7 +18,7 @@ use crate::covers::cover_shows;
 use crate::grids::grid_shows;
 use crate::inclusions::{Inclusion, Reflexive, inclusion_of, reflexive_of};
 use crate::trivial::is_trivial;
-use pat_certificate_values::is_formed;
+use pat_certificate_values::{are_same_and_formed, is_formed};
 use pat_core::Program;
 use pat_derivations::{Cert, Derivation};
 use pat_obligations::Demand;
@@ -108,7 +108,7 @@ fn shown_in(
 }
 
 /// How the inclusion is shown, where these certificates are left.
-#[tactic(auto, using(crate::proofs::Taken::no_interface, crate::proofs::Taken::not_formed))]
+#[tactic(auto, using(crate::proofs::Taken::no_interface, crate::proofs::Taken::same_trivially, crate::proofs::Taken::not_formed))]
 fn shown(
     alloc: Global,
     program: &Program,
@@ -128,6 +128,9 @@ fn shown(
         Some(interface) => {
             let left = needed.left.as_pattern();
             let right = needed.right;
+            if are_same_and_formed(program, derivation, interface, left, right) {
+                return Ok(Showing::Trivially);
+            }
             if !is_formed(program, derivation, interface, left)
                 || !is_formed(program, derivation, interface, right)
             {

@@ -43,6 +43,20 @@ fn is_zero_with(pattern: &Pattern, values: &[Pattern]) -> bool
     }
 }
 
+/// Whether it is seen without putting in these values that then the left side is the right one or one of its arms. An arm of a sum
+/// that is 0 then may be left out.
+#[tactic(auto, using(crate::proofs::Arms::arm_stays, crate::proofs::Arms::alike))]
+fn stays_arm(left: &Pattern, right: &Pattern, values: &[Pattern]) -> bool
+    requires { IsTrue (has_values (length values.now) (pattern_view left.now)) }
+    ensures { IsTrue result → IsTrue (is_arm_of (subst_of (value_at (patterns_view values.now)) (pattern_view left.now))
+        (subst_of (value_at (patterns_view values.now)) (pattern_view right.now))) }
+{
+    match right {
+        Pattern::Sum(..) => is_arm(left, right) && !is_zero_with(left, values),
+        _ => same_pattern(left, right),
+    }
+}
+
 /// The value where it is a pattern, and otherwise the variable.
 fn plain_value(number: u32, value: &VarValue) -> Result<Pattern, AllocError>
     ensures { IfOk result (λ p. pattern_view p ≡ plain_value_of number (value_view value.now)) }
@@ -103,7 +117,7 @@ pub fn is_trivial(
         → IsTrue (is_formed s i (pattern_view left.now)) → IsTrue (is_formed s i (pattern_view right.now))
         → yes ≡ is_trivial_of s (pattern_view left.now) (pattern_view right.now)) }
 {
-    if is_arm(left, right) && !is_zero_with(left, plain) {
+    if stays_arm(left, right, plain) {
         return Ok(true);
     }
     let left = with_values(alloc, left, plain)?;

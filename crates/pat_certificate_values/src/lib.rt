@@ -9,7 +9,7 @@ mod values;
 mod words;
 
 pub use forms::form_of;
-pub use looking::{is_formed, tag_count, tags_are_few, var_of};
+pub use looking::{are_same_and_formed, is_formed, tag_count, tags_are_few, var_of};
 pub use pat_derivations::Derivation;
 pub use points::points_fit;
 pub use types::{

@@ -1,5 +1,6 @@
 // What stands behind a number, and patterns of an interface.
-ghost use Rattle.std.specs.Prelude.{◌≡◌, ◌<◌, option_map, option_copied, slice_get};
+ghost use Rattle.std.specs.Prelude.{◌≡◌, ◌&&◌, ◌<◌, option_map, option_copied, slice_get};
+ghost use Rattle.pat_words_spec.specs.Patterns.{pat_eq};
 ghost use Rattle.pat_semantics_spec.specs.WellFormed.{WellFormed};
 ghost use Rattle.pat_inclusion_spec.specs.Values.{var_at, has_interface as has_interface_of, is_formed as is_formed_of};
 ghost use Rattle.pat_derivation_spec.specs.Derivations.{scope_of, tag_count as tag_count_of};
@@ -94,5 +95,37 @@ fn is_formed_within(
                 && is_formed_within(program, derivation, interface, right)
         }
         Pattern::Star(part) => is_formed_within(program, derivation, interface, part),
+    }
+}
+
+/// Whether the patterns are the same, as they are written, and are ones of the interface.
+#[tactic(auto, using(crate::proofs::Pairs::in_pairs))]
+pub fn are_same_and_formed(
+    program: &Program,
+    derivation: &Derivation,
+    interface: u32,
+    left: &Pattern,
+    right: &Pattern,
+) -> bool
+    ensures { result ≡ (pat_eq (pattern_view left.now) (pattern_view right.now)
+        && is_formed_of (scope_of (program_view program.now) (derivation_view derivation.now)) interface (pattern_view left.now)) }
+{
+    match (left, right) {
+        (Pattern::Zero, Pattern::Zero) | (Pattern::One, Pattern::One) => true,
+        (Pattern::Tag(tag), Pattern::Tag(other)) => {
+            tag == other && (*tag as usize) < tag_count(program, interface)
+        }
+        (Pattern::Var(number), Pattern::Var(other)) => {
+            number == other && has_interface(derivation, interface, *number)
+        }
+        (Pattern::Sum(left, right), Pattern::Sum(other_left, other_right))
+        | (Pattern::Prod(left, right), Pattern::Prod(other_left, other_right)) => {
+            are_same_and_formed(program, derivation, interface, left, other_left)
+                && are_same_and_formed(program, derivation, interface, right, other_right)
+        }
+        (Pattern::Star(part), Pattern::Star(other_part)) => {
+            are_same_and_formed(program, derivation, interface, part, other_part)
+        }
+        _ => false,
     }
 }

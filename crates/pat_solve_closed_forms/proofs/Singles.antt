@@ -1,8 +1,9 @@
 -- A pattern of a single word has a closed form of a single set, unless it is too large.
-use Rattle.std.proofs.Common.{◌≡◌, ℕ, true, false, ◌&&◌, [], ◌∷◌, refl, ap, ap₂}
+use Rattle.std.proofs.Common.{◌≡◌, ℕ, Bool, true, false, ◌&&◌, [], ◌∷◌, refl, ap, ap₂, subst}
 use Rattle.std.proofs.lemmas.Bool.{and_parts, and_from}
-use Rattle.pat_words_spec.specs.Patterns.{Pat, One, Tag, Prod, Zero, Sum, Star, Var}
+use Rattle.pat_words_spec.specs.Patterns.{Pat, One, Tag, Prod, Zero, Sum, Star, Var, pat_eq}
 use Rattle.pat_words_spec.specs.Words.{one}
+use Rattle.pat_words_laws.proofs.PatternLaws.{pat_eq_same}
 use Rattle.pat_inclusion_spec.specs.LinearSets.{LinearSet, linear_set}
 use Rattle.pat_inclusion_spec.specs.Counts.{most_tags}
 use Rattle.pat_inclusion_spec.specs.ClosedForms.{only_empty, set_product, products, sets_of, is_short, lists_are_short}
@@ -36,5 +37,20 @@ one_set n (Sum e f) h = let clash : false ≡ true = h in cc
 one_set n (Star e) h = let clash : false ≡ true = h in cc
 one_set n (Var k) h = let clash : false ≡ true = h in cc
 
-pub single_same : (e : Pat) → is_single e ≡ true → ComparesParts e e SameWithForm
-single_same e h = (refl, (one_set most_tags e h).short)
+-- ---- two patterns at once
+
+pub in_pairs : (a b c d : Bool) → ((a && b) && (c && d)) ≡ ((a && c) && (b && d))
+in_pairs false b c d = refl
+in_pairs true true c d = refl
+in_pairs true false true d = refl
+in_pairs true false false d = refl
+
+pub not_both : (b : Bool) → false ≡ (b && false)
+not_both true = refl
+not_both false = refl
+
+pub single_same : (e f : Pat) → (pat_eq e f && is_single e) ≡ true → ComparesParts e f SameWithForm
+single_same e f h =
+    let both = and_parts (pat_eq e f) (is_single e) h in
+    let same = pat_eq_same e f both.0 in
+    (same, subst (λ x. lists_are_short most_tags x ≡ true) same (one_set most_tags e both.1).short)
