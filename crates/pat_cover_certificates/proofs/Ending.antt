@@ -14,7 +14,7 @@ use Rattle.pat_limits.specs.Limits.{most_number, number_count}
 
 -- ---- the first numbers
 
-not_before : (a b : Bool) → (a ≡ true → ⊥) → (b ≡ true → ⊥) → (a || b) ≡ false
+pub not_before : (a b : Bool) → (a ≡ true → ⊥) → (b ≡ true → ⊥) → (a || b) ≡ false
 not_before true b p q = absurd (p refl)
 not_before false true p q = absurd (q refl)
 not_before false false p q = refl
@@ -23,7 +23,7 @@ none_before_none : (ds : List ℕ) → length ds ≡ 0 → comes_before ds [] �
 none_before_none [] e = refl
 none_before_none (d ∷ ds) e = absurd (omega arith)
 
-both_true : (a b : Bool) → (a && b) ≡ true → (a ≡ true) × (b ≡ true)
+pub both_true : (a b : Bool) → (a && b) ≡ true → (a ≡ true) × (b ≡ true)
 both_true true b h = (refl, h)
 both_true false b h = cc
 

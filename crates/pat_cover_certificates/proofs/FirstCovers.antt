@@ -17,7 +17,7 @@ use Rattle.pat_linear.proofs.Exact.{direct_cover}
 use Rattle.pat_linear.specs.declared.set.LinearSet.{LinearSet as CodeSet}
 use Rattle.pat_linear.specs.Views.{words_of, set_view, sets_view}
 use Rattle.pat_cover_certificates.specs.coefficients.Numbers.{MakesFirst, NoNumbers, FindsNumbers}
-use Rattle.pat_cover_certificates.proofs.Making.{made, makes_by, same_each}
+use Rattle.pat_cover_certificates.proofs.Making.{made, makes_by, same_each, differ}
 use Rattle.pat_cover_certificates.specs.declared.cover.CoverEntry.{CoverEntry as CodeEntry}
 use Rattle.pat_cover_certificates.specs.Views.{entry_view, entries_view, cover_if}
 use Rattle.pat_cover_certificates.specs.Firsts.{MakeEachFirst, IsOutside, IsFirstEntry, IsFirstCover, FindsFrom, FindsEach, FindsCover}
@@ -57,6 +57,17 @@ from_none base ps w few out cs m =
     (λ l. let x = same_counts most_tags w (plus base (combined cs ps)) both.1 t l in omega arith)
     (λ g. let none = few t g in omega arith)
     (cases_lt t most_tags))
+
+-- without periods only the base is made
+pub base_alone : (n : ℕ) (base : Word) (ps : List Word) (w : Word) → length ps ≡ 0 → same_below n w base ≡ false → FindsFrom n base ps w None
+base_alone n base (p ∷ ps) w none other cs m = absurd (omega arith)
+base_alone n base [] w none other cs m =
+    let both = and_parts (nat_eq (length cs) 0) (same_below n w (plus base (combined cs []))) m in
+    differ (same_below n w base) (same_each n w base (λ t l. at cs t (same_counts n w (plus base (combined cs [])) both.1 t l))) other
+  where
+    at : (cs : List ℕ) (t : ℕ) → w t ≡ plus base (combined cs []) t → w t ≡ base t
+    at [] t h = omega arith
+    at (c ∷ cs) t h = omega arith
 
 -- ---- for each word
 

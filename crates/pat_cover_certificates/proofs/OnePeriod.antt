@@ -1,34 +1,64 @@
--- A search over one period alone.
-use Rattle.std.proofs.Common.{◌≡◌, ℕ, ◌+◌, ◌*◌, ◌<◌, ◌^◌, true, false, [], ◌∷◌, Some, None, refl, arith}
+-- How often one period alone makes a word.
+use Rattle.std.proofs.Common.{◌≡◌, ℕ, ◌+◌, ◌*◌, ◌/◌, ◌<◌, ◌≤◌, true, false, ◌&&◌, nat_eq, List, [], ◌∷◌, refl, sym, ap, ◌∙◌, subst, arith, mul-zero}
+use Rattle.std.specs.Prelude.{nat_lt}
+use Rattle.std.proofs.lemmas.Nat.{div-mul-add}
+use Rattle.std.proofs.lemmas.Bool.{ltb-true}
 use Rattle.pat_words_spec.specs.Words.{Word}
-use Rattle.pat_bags.specs.Views.{word_of}
 use Rattle.pat_inclusion_spec.specs.Counts.{most_tags}
-use Rattle.pat_cover_certificates.specs.declared.coefficients.frames.Frame.{Frame}
-use Rattle.pat_cover_certificates.specs.coefficients.Numbers.{NoNumbers, MakesFirst, tags_occur}
-use Rattle.pat_cover_certificates.specs.coefficients.Frames.{Stands, TakesOne}
-use Rattle.pat_cover_certificates.proofs.Making.{none_made, nothing_left}
-use Rattle.pat_cover_certificates.proofs.Standing.{push_stands, last_within, next_stands, ends_here}
-use Rattle.pat_cover_certificates.proofs.Ending.{first_numbers}
+use Rattle.pat_inclusion_spec.specs.Covers.{makes}
+use Rattle.pat_inclusion_spec.specs.Points.{comes_before}
+use Rattle.pat_linear.proofs.Exact.{tags_are}
+use Rattle.pat_cover_certificates.specs.coefficients.Numbers.{NoNumbers, MakesFirst, IsLeastTimes}
+use Rattle.pat_cover_certificates.proofs.Making.{made, makes_by, differ}
+use Rattle.pat_cover_certificates.proofs.Ending.{not_before, both_true}
 
-pub single_begun : (n : ℕ) (p w : Word) (f : Frame) → f.number ≡ 0 → word_of f.left ≡ w → word_of f.before ≡ w → Stands n (p ∷ []) w (f ∷ [])
-single_begun n p w f none left before = push_stands n (p ∷ []) w [] f tt (omega arith) none left before
+-- no tag is the period's
+pub none_taken : (p w : Word) → ((t : ℕ) → t < 32 → p t ≡ 0) → IsLeastTimes p w 0
+none_taken p w none c h = (omega arith, makes_by most_tags (p ∷ []) (0 ∷ []) w refl each)
+  where
+    each : (t : ℕ) → t < most_tags → w t ≡ 0 * p t + 0
+    each t l =
+        let x = (made most_tags (p ∷ []) (c ∷ []) w h).1 t l in
+        let z : c * p t ≡ 0 = ap (λ k. c * k) (none t (subst (λ n. t < n) tags_are l)) ∙ mul-zero c in
+        omega arith
 
--- so much fits
-pub single_fits : (n : ℕ) (p w : Word) (f : Frame) → Stands n (p ∷ []) w (f ∷ []) → ((t : ℕ) → w t < 2 ^ 32) → (t : ℕ) → word_of f.left t + f.number * p t < 2 ^ 32
-single_fits n p w f stands fit t =
-    let lies = last_within n (p ∷ []) w [] f p stands refl t in let whole = fit t in omega arith
+-- the numbers that make the word are one
+one_number : (p w : Word) (cs : List ℕ) → makes most_tags (p ∷ []) cs w ≡ true → (c : ℕ) × (cs ≡ c ∷ [])
+one_number p w [] h = let l = (made most_tags (p ∷ []) [] w h).0 in absurd (omega arith)
+one_number p w (c ∷ []) h = (c, refl)
+one_number p w (c ∷ d ∷ cs) h = let l = (made most_tags (p ∷ []) (c ∷ d ∷ cs) w h).0 in absurd (omega arith)
 
--- something is left, and one more is taken
-pub single_next : (n : ℕ) (p w : Word) (f g : Frame) → Stands n (p ∷ []) w (f ∷ []) → tags_occur n [] (word_of f.left) ≡ false → TakesOne f p (Some g) → Stands n (p ∷ []) w (g ∷ [])
-single_next n p w f g stands some taken =
-    next_stands n (p ∷ []) w [] f g p stands refl taken.0 taken.2 taken.3 (none_made n [] (word_of f.left) some)
+-- a tag of the period tells how often
+pub taken_at : (p w : Word) (t own k m : ℕ) → t < 32 → own ≡ p t → k ≡ w t → 0 < own → m ≡ k / own → IsLeastTimes p w m
+taken_at p w t own k m l eo ek some is c h =
+    subst (λ x. (x ≤ c) × (makes most_tags (p ∷ []) (x ∷ []) w ≡ true)) (sym same) (omega arith, h)
+  where
+    whole : k ≡ c * own + 0
+    whole =
+        let x = (made most_tags (p ∷ []) (c ∷ []) w h).1 t (subst (λ n. t < n) (sym tags_are) l) in
+        let y : c * own ≡ c * p t = ap (λ o. c * o) eo in
+        omega arith
 
--- something is left, and no more can be taken
-pub single_fails : (p w : Word) (f : Frame) → Stands most_tags (p ∷ []) w (f ∷ []) → tags_occur most_tags [] (word_of f.left) ≡ false → TakesOne f p None → NoNumbers most_tags (p ∷ []) w
-single_fails p w f stands some ends =
-    ends_here most_tags (p ∷ []) w [] f p stands refl ends (none_made most_tags [] (word_of f.left) some)
+    same : m ≡ c
+    same = is ∙ ap (λ x. x / own) whole ∙ div-mul-add c own 0 some
 
--- nothing is left
-pub single_ends : (n : ℕ) (p w : Word) (f : Frame) → Stands n (p ∷ []) w (f ∷ []) → tags_occur n [] (word_of f.left) ≡ true → MakesFirst n (p ∷ []) (f.number ∷ []) w
-single_ends n p w f stands none =
-    first_numbers n (p ∷ []) w (f ∷ []) stands refl (nothing_left n (word_of f.left) none)
+-- that number makes the word
+pub times_found : (p w : Word) (m : ℕ) → IsLeastTimes p w m → makes most_tags (p ∷ []) (m ∷ []) w ≡ true → MakesFirst most_tags (p ∷ []) (m ∷ []) w
+times_found p w m least h = (
+  h,
+  λ ds k. let one = one_number p w ds k in
+      subst (λ cs. comes_before cs (m ∷ []) ≡ false) (sym one.1)
+      (later one.0 (least one.0 (subst (λ cs. makes most_tags (p ∷ []) cs w ≡ true) one.1 k)).0),
+)
+  where
+    later : (c : ℕ) → m ≤ c → comes_before (c ∷ []) (m ∷ []) ≡ false
+    later c l =
+        not_before (nat_lt c m) (nat_eq c m && comes_before [] [])
+        (λ y. let less = ltb-true c m y in absurd (omega arith))
+        (λ y. let both = both_true (nat_eq c m) (comes_before [] []) y in cc)
+
+-- it doesn't, and then no number does
+pub times_not : (p w : Word) (m : ℕ) → IsLeastTimes p w m → makes most_tags (p ∷ []) (m ∷ []) w ≡ false → NoNumbers most_tags (p ∷ []) w
+times_not p w m least h cs k =
+    let one = one_number p w cs k in
+    differ (makes most_tags (p ∷ []) (m ∷ []) w) (least one.0 (subst (λ x. makes most_tags (p ∷ []) x w ≡ true) one.1 k)).1 h

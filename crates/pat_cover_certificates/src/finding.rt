@@ -1,5 +1,5 @@
 // The search for a direct cover.
-ghost use Rattle.std.specs.Prelude.{◌≡◌, ◌↔◌, true, ◌<◌, ◌^◌, length, IfOk, IfSome, IsSome};
+ghost use Rattle.std.specs.Prelude.{◌≡◌, ◌↔◌, true, ◌<◌, ◌^◌, None, length, IfOk, IfSome, IsSome, IsTrue};
 ghost use Rattle.pat_bags.specs.Views.{word_of};
 ghost use Rattle.pat_inclusion_spec.specs.Counts.{most_tags};
 ghost use Rattle.pat_inclusion_spec.specs.Covers.{is_cover, IsDirectlyCovered};
@@ -11,7 +11,7 @@ use crate::coefficients::{find_numbers, tags_are_few};
 use crate::cover::CoverEntry;
 use crate::few_tags::sets_are_few;
 use pat_bags::Bag;
-use pat_linear::LinearSet;
+use pat_linear::{LinearSet, same_counts};
 use pat_sequences::Sequence;
 use std::alloc::{AllocError, Global};
 
@@ -95,6 +95,17 @@ fn entry_in(
     }
 }
 
+/// Whether there are no periods, and the word isn't the base.
+fn is_apart(base: &Bag, periods: &[Bag], word: &Bag) -> bool
+    ensures { IsTrue result → FindsFrom most_tags (word_of base.now) (words_of periods.now) (word_of word.now) None }
+{
+    if periods.is_empty() {
+        !same_counts(word, base)
+    } else {
+        false
+    }
+}
+
 /// The first numbers by which the periods make the word from the base, if there are any.
 fn numbers_from(
     alloc: Global,
@@ -105,6 +116,9 @@ fn numbers_from(
     ensures { IfOk result (λ found. FindsFrom most_tags (word_of base.now) (words_of periods.now) (word_of word.now) found) }
 {
     tags_are_few(base);
+    if is_apart(base, periods, word) {
+        return Ok(None);
+    }
     match word.sub(base) {
         None => Ok(None),
         Some(rest) => find_numbers(alloc, periods, &rest),

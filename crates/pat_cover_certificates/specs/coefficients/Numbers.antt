@@ -1,7 +1,8 @@
 -- Numbers by which periods make a word: the first list of them in the order of lists.
-use Rattle.std.specs.Prelude.{◌≡◌, ℕ, zero, suc, Bool, true, false, ◌&&◌, ◌||◌, nat_eq, nat_lt, List, Option, Some, None, IsTrue}
+use Rattle.std.specs.Prelude.{◌≡◌, ℕ, zero, suc, Bool, true, false, ◌&&◌, ◌||◌, nat_eq, nat_lt, ◌≤◌, List, [], ◌∷◌, Option, Some, None, IsTrue}
 use Rattle.std.specs.List.{list_any}
 use Rattle.pat_words_spec.specs.Words.{Word}
+use Rattle.pat_inclusion_spec.specs.Counts.{most_tags}
 use Rattle.pat_inclusion_spec.specs.Covers.{makes}
 use Rattle.pat_inclusion_spec.specs.Points.{comes_before}
 
@@ -18,6 +19,11 @@ NoNumbers n ps w = (cs : List ℕ) → IsTrue (makes n ps cs w) → ⊥
 abbrev pub FindsNumbers : ℕ → List Word → Word → Option (List ℕ) → Type 0
 FindsNumbers n ps w (Some cs) = MakesFirst n ps cs w
 FindsNumbers n ps w None = NoNumbers n ps w
+
+-- where the one period makes the word, it does so by this number, and by no lower one
+abbrev pub IsLeastTimes : Word → Word → ℕ → Type 0
+IsLeastTimes p w m =
+    (c : ℕ) → IsTrue (makes most_tags (p ∷ []) (c ∷ []) w) → (m ≤ c) × IsTrue (makes most_tags (p ∷ []) (m ∷ []) w)
 
 -- one of the periods has the tag
 abbrev pub occurs : ℕ → List Word → Bool

@@ -2,31 +2,36 @@
 ghost use Rattle.std.specs.Prelude.{[], ◌∷◌, option_map, IfOk};
 ghost use Rattle.pat_bags.specs.Views.{word_of};
 ghost use Rattle.pat_inclusion_spec.specs.Counts.{most_tags};
-ghost use Rattle.pat_cover_certificates.specs.coefficients.Numbers.{FindsNumbers};
+ghost use Rattle.pat_cover_certificates.specs.coefficients.Numbers.{FindsNumbers, IsLeastTimes};
 
-use crate::coefficients::frames::{Frame, with_one_more};
-use crate::coefficients::tags::{counts_fit, tags_occur};
+use crate::combining::makes;
 use pat_bags::Bag;
 use pat_sequences::Sequence;
 use std::alloc::{AllocError, Global};
+
+/// How often the period is to be taken, if it makes the word at all: a tag that it has tells.
+fn quotient(period: &Bag, word: &Bag) -> u32
+    ensures { IsLeastTimes (word_of period.now) (word_of word.now) result }
+{
+    for t in 0..32u8 {
+        let own = period.get(t);
+        if own > 0 {
+            return word.get(t) / own;
+        }
+    }
+    0
+}
 
 /// How often the one period is to be taken to make the word, if it can make it.
 fn times(period: &Bag, word: &Bag) -> Option<u32>
     ensures { FindsNumbers most_tags (word_of period.now ∷ []) (word_of word.now) (option_map (λ number. number ∷ []) result) }
 {
-    counts_fit(word);
-    let mut frame = Frame {
-        number: 0,
-        before: *word,
-        left: *word,
-    };
-    while !tags_occur(&[], &frame.left) {
-        match with_one_more(&frame, period) {
-            None => return None,
-            Some(next) => frame = next,
-        }
+    let number = quotient(period, word);
+    if makes(&[*period], &[number], word) {
+        Some(number)
+    } else {
+        None
     }
-    Some(frame.number)
 }
 
 /// The list of that number alone.
