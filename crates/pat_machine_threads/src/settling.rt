@@ -94,8 +94,8 @@ fn begin(
     ensures { IfOk result (IsBegun (program_view code.now.program) allowance (thread_view kept.now)) }
 {
     match (&kept.control, kept.frames.top()) {
-        (Control::Returned(_), Some(frame)) if allowance > 1 && leads_to_call(code, frame) => {
-            match called(alloc, code, frame.body, frame.env.as_slice())? {
+        (Control::Returned(_), Some(frame)) if allowance > 1 && leads_on(code, frame) => {
+            match first_step(alloc, code, frame.body, frame.env.as_slice())? {
                 Some(end) => Ok(Settled {
                     end,
                     gone: 1,
@@ -134,12 +134,16 @@ fn unmoved(alloc: Global, kept: &ThreadState) -> Result<Settled, AllocError>
     })
 }
 
-// Whether the frame goes on at a call with the values that it has, none of them left out, and with no name for the one that it waits for.
-fn leads_to_call(code: &Executable, frame: &Frame) -> bool
+// Whether the frame goes on at a let or a call with the values that it has, none of them left out, and with no name for the one that it
+// waits for.
+fn leads_on(code: &Executable, frame: &Frame) -> bool
     ensures { IsTrue result → (v : ValueOf) → at_node (program_view code.now.program) frame.now.body (bind_name (frame_view frame.now).env (frame_view frame.now).var v) ≡ Running frame.now.body (env_view frame.now.env) }
 {
     frame.var.is_none()
-        && matches!(core_of(code, frame.body), Some(Core::Call { .. }))
+        && matches!(
+            core_of(code, frame.body),
+            Some(Core::Let { .. } | Core::Call { .. })
+        )
         && are_free(code, frame.body, frame.env.as_slice())
 }
 
