@@ -67,46 +67,57 @@ fn read<T>(text: &[u8], table: &Table, then: impl FnOnce(&[Declaration], Program
         Ok(text) => text,
         Err(error) => return Err(lexer::refused_before(&text[..error.valid_up_to()])),
     };
-    let tokens = lexer::tokens(text)?;
-    let tree = parser::parse(&tokens)?;
-    let program = resolver::resolve(&tree, text.len() as u32, table)?;
-    Ok(then(&tree, program))
+    let tokens = kept(lexer::tokens(text)?);
+    let tree = kept(parser::parse(tokens)?);
+    let program = resolver::resolve(tree, text.len() as u32, table)?;
+    Ok(then(tree, program))
+}
+
+/// A value that stays until the program ends: taking large ones apart just before that would be needless work.
+fn kept<'a, T: 'a>(value: T) -> &'a T {
+    Box::leak(Box::new(value))
 }
 
 fn print(text: &[u8]) -> Result<(i32, String)> {
-    Ok((0, read(text, &Table::new(), |tree, _| print::print(tree, text.len()))?))
+    let printed = |tree: &[Declaration], program| {
+        kept(program);
+        print::print(tree, text.len())
+    };
+    Ok((0, read(text, kept(Table::new()), printed)?))
 }
 
 /// The derivation of a program, which has been judged.
-fn derived(program: &Program, table: &Table) -> Result<(Derivation, Vec<Signature>)> {
+fn derived<'a>(program: &Program, table: &'a Table) -> Result<(&'a Derivation, &'a [Signature])> {
     let mut forms = Forms::new(table);
     let problem = infer::infer(program, table)?;
     let solution = solve::solve(program, table, &problem, &mut forms)?;
     let (derivation, signatures) = judge::derivation_of(program, table, &mut forms, problem, solution)?;
-    judge::judge(program, table, &mut forms, &signatures, &derivation)?;
+    let (derivation, signatures) = (kept(derivation), kept(signatures));
+    judge::judge(program, table, &mut forms, signatures, derivation)?;
+    std::mem::forget(forms);
     Ok((derivation, signatures))
 }
 
 fn check(text: &[u8]) -> Result<(i32, String)> {
-    let table = Table::new();
-    derived(&resolved(text, &table)?, &table)?;
+    let table = kept(Table::new());
+    derived(kept(resolved(text, table)?), table)?;
     Ok((0, "accepted\n".to_string()))
 }
 
 fn derive(text: &[u8]) -> Result<(i32, String)> {
-    let table = Table::new();
-    let program = resolved(text, &table)?;
-    let (derivation, _) = derived(&program, &table)?;
-    Ok((0, derivation::write(&program, &table, &derivation)))
+    let table = kept(Table::new());
+    let program = kept(resolved(text, table)?);
+    let (derivation, _) = derived(program, table)?;
+    Ok((0, derivation::write(program, table, derivation)))
 }
 
 fn verify(text: &[u8]) -> Result<(i32, String)> {
-    let table = Table::new();
+    let table = kept(Table::new());
     let (program, offset, lines) = split(text, "%%derivation")?;
-    let program = resolved(program, &table)?;
-    let derivation = derivation::read(&program, &table, lines, offset)?;
-    let (signatures, _) = types::signatures(&program, &table);
-    judge::judge(&program, &table, &mut Forms::new(&table), &signatures, &derivation)?;
+    let program = kept(resolved(program, table)?);
+    let derivation = kept(derivation::read(program, table, lines, offset)?);
+    let (signatures, _) = types::signatures(program, table);
+    judge::judge(program, table, &mut Forms::new(table), &signatures, derivation)?;
     Ok((0, "accepted\n".to_string()))
 }
 
@@ -128,11 +139,11 @@ fn order(text: &[u8]) -> Result<(i32, String)> {
 
 /// The entries of the history behind a program, and what a replay of them prints, with its end.
 fn replayed(text: &[u8]) -> Result<(Vec<Entry>, String)> {
-    let table = Table::new();
+    let table = kept(Table::new());
     let (program, offset, lines) = split(text, "%%history")?;
-    let program = resolved(program, &table)?;
+    let program = kept(resolved(program, table)?);
     let lines = place_of_line(lines, "%%output").map_or(lines, |at| &lines[..at]);
-    replay::replay(&Executable::new(&program), lines, offset)
+    replay::replay(kept(Executable::new(program)), lines, offset)
 }
 
 fn run(text: &[u8], steps: u32, messages: u32) -> Result<(i32, String)> {
@@ -141,10 +152,10 @@ fn run(text: &[u8], steps: u32, messages: u32) -> Result<(i32, String)> {
 }
 
 fn told(text: &[u8], steps: u32, messages: u32) -> Result<run::Told> {
-    let table = Table::new();
-    let program = resolved(text, &table)?;
-    derived(&program, &table)?;
-    Ok(run::run(&Executable::new(&program), steps, messages))
+    let table = kept(Table::new());
+    let program = kept(resolved(text, table)?);
+    derived(program, table)?;
+    Ok(run::run(kept(Executable::new(program)), steps, messages))
 }
 
 fn load(count: u32, steps: u32, messages: u32) -> Result<(i32, String)> {
