@@ -213,6 +213,32 @@ def change(random, text, others):
     return text
 
 
+SEND = re.compile(rb"\w+ ! \w+\([^()]*\); ")
+PATTERN = re.compile(rb"(?<=[?!:.(+*]) ?\*?\w+(?= \{|[,):.]| \+)")
+
+
+def nudge(random, text):
+    """The text with one small change after which it is a program still, more often than not: a send is taken out or doubled, a tag is
+    another one, a part of a pattern is starred or not, a number is another one; or any change."""
+    pick = random.randrange(6)
+    places = list((SEND, SEND, re.compile(rb"(?<= ! )\w+"), PATTERN, re.compile(rb"\b\d+\b"), TOKEN)[pick].finditer(text))
+    if not places or pick == 5:
+        return change(random, text, [])
+    place = random.choice(places)
+    piece = place.group()
+    if pick == 0:
+        piece = b""
+    elif pick == 1:
+        piece += piece
+    elif pick == 2:
+        piece = random.choice(places).group()
+    elif pick == 3:
+        piece = piece.replace(b"*", b"") if b"*" in piece else b"*" + piece.strip()
+    else:
+        piece = random.choice([b"0", b"1", b"2", b"7", random.choice(places).group()])
+    return text[:place.start()] + piece + text[place.end():]
+
+
 # What a piece of a derivation or history may be changed to: pieces of its own sort, and for numbers others now and then.
 SMALL = [b"0", b"1", b"2", b"3"]
 LARGE = [b"00", b"255", b"256", b"257", b"65536", b"4294967295", b"4294967296", b"99999999999999999999"]

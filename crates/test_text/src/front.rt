@@ -1,4 +1,4 @@
 // Whole texts from text to tree and back. Tests only.
 
 mod programs;
-mod tests;
+pub mod tests;

@@ -6,7 +6,7 @@ ghost use Rattle.pat_lexer.specs.Lexed.{HasRead};
 ghost use Rattle.pat_lexer.specs.Explains.{Explains};
 
 #[cfg(test)]
-mod tests;
+pub mod tests;
 
 use pat_lexer::{LexError, Lexer};
 use pat_syntax::Token;

@@ -1,4 +1,4 @@
-//! Texts to tokens and trees, and back.
+//! Ports, and texts to tokens and trees, and back.
 #![tactic(auto)]
 
 #[cfg(test)]
@@ -7,6 +7,10 @@ mod checking;
 mod front;
 mod lexer;
 mod parser;
+#[cfg(test)]
+mod ports;
+#[cfg(test)]
+mod tests;
 
 pub use lexer::{lexer_behind, tokens_of};
 pub use parser::{CELL, append, grow, outcome};

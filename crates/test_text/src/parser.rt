@@ -1,7 +1,7 @@
 // Texts of programs, through the lexer and the parser.
 
 #[cfg(test)]
-mod tests;
+pub mod tests;
 
 use crate::lexer::tokens_of;
 use pat_parser::{ParseError, parse};

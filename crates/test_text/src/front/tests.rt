@@ -129,9 +129,8 @@ fn check_corners(rt: &impl Abort, alloc: Global, rows: &[(&str, &str)]) -> Resul
     Ok(())
 }
 
-#[test]
-fn canonical_texts(rt: HostRuntime) -> Result<(), Fail> {
-    check_programs(&rt, rt.alloc(), PROGRAMS)?;
-    check_corners(&rt, rt.alloc(), CORNERS)?;
+pub fn canonical_texts(rt: &impl Abort, alloc: Global) -> Result<(), Fail> {
+    check_programs(rt, alloc, PROGRAMS)?;
+    check_corners(rt, alloc, CORNERS)?;
     Ok(())
 }

@@ -110,9 +110,11 @@ fn check_held(
     Ok(())
 }
 
-#[test]
-fn cuts_change_nothing_and_the_unfinished_piece_is_held(rt: HostRuntime) -> Result<(), Fail> {
-    check_texts(&rt, rt.alloc(), TEXTS)?;
-    check_held(&rt, rt.alloc(), HELD)?;
+pub fn cuts_change_nothing_and_the_unfinished_piece_is_held(
+    rt: &impl Abort,
+    alloc: Global,
+) -> Result<(), Fail> {
+    check_texts(rt, alloc, TEXTS)?;
+    check_held(rt, alloc, HELD)?;
     Ok(())
 }

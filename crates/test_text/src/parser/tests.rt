@@ -121,8 +121,7 @@ fn check_cuts(rt: &impl Abort, alloc: Global, whole: &[u8]) -> Result<(), Fail> 
     Ok(())
 }
 
-#[test]
-fn texts_and_refusals(rt: HostRuntime) -> Result<(), Fail> {
-    check_texts(&rt, rt.alloc(), TEXTS)?;
-    check_cuts(&rt, rt.alloc(), WHOLE.as_bytes())
+pub fn texts_and_refusals(rt: &impl Abort, alloc: Global) -> Result<(), Fail> {
+    check_texts(rt, alloc, TEXTS)?;
+    check_cuts(rt, alloc, WHOLE.as_bytes())
 }

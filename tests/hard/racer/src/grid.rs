@@ -142,6 +142,10 @@ impl Rounds {
                 let all = space.union(before, &self.parts[&left].fresh);
                 space.union(&all, &self.parts[&right].fresh)
             }
+            Form::Product(left, right) if left == right => {
+                let part = &self.parts[&left];
+                space.with_sums(before, &part.fresh, &part.all)
+            }
             Form::Product(left, right) => {
                 let (left, right) = (&self.parts[&left], &self.parts[&right]);
                 let all = space.with_sums(before, &left.fresh, &right.all);

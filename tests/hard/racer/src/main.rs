@@ -1,4 +1,4 @@
-//! `racer`: programs of actors with mailbox types, checked, derived, run and replayed by one worker, as a plain program does it.
+//! `racer`: programs of actors with mailbox types, printed, checked, derived, run, replayed and put in order by one worker, as a plain program does it.
 //!
 //! It answers as `pat` does, by the best algorithms that are known for each part. Want of memory ends the program, and the walks
 //! recurse on a large stack.
@@ -18,9 +18,11 @@ mod lexer;
 mod linear;
 mod machine;
 mod numbers;
+mod order;
 mod parser;
 mod pattern;
 mod points;
+mod print;
 mod program;
 mod refusal;
 mod replay;
@@ -38,7 +40,9 @@ use linear::Forms;
 use pattern::Table;
 use program::Program;
 use refusal::{Refusal, Result};
+use replay::Entry;
 use std::io::{Read, Write};
+use tree::Declaration;
 use types::Signature;
 
 const MOST_BYTES: usize = 1_048_576;
@@ -51,6 +55,11 @@ const STACK: usize = 512 << 20;
 
 /// The program of a text.
 fn resolved(text: &[u8], table: &Table) -> Result<Program> {
+    read(text, table, |_, program| program)
+}
+
+/// What comes of the tree and the program of a text.
+fn read<T>(text: &[u8], table: &Table, then: impl FnOnce(&[Declaration], Program) -> T) -> Result<T> {
     if text.len() > MOST_BYTES {
         return Err(Refusal::new("too long".to_string()));
     }
@@ -58,50 +67,83 @@ fn resolved(text: &[u8], table: &Table) -> Result<Program> {
         Ok(text) => text,
         Err(error) => return Err(lexer::refused_before(&text[..error.valid_up_to()])),
     };
-    let tokens = lexer::tokens(text)?;
-    let tree = parser::parse(&tokens)?;
-    resolver::resolve(&tree, text.len() as u32, table)
+    let tokens = kept(lexer::tokens(text)?);
+    let tree = kept(parser::parse(tokens)?);
+    let program = resolver::resolve(tree, text.len() as u32, table)?;
+    Ok(then(tree, program))
+}
+
+/// A value that stays until the program ends: taking large ones apart just before that would be needless work.
+fn kept<'a, T: 'a>(value: T) -> &'a T {
+    Box::leak(Box::new(value))
+}
+
+fn print(text: &[u8]) -> Result<(i32, String)> {
+    let printed = |tree: &[Declaration], program| {
+        kept(program);
+        print::print(tree, text.len())
+    };
+    Ok((0, read(text, kept(Table::new()), printed)?))
 }
 
 /// The derivation of a program, which has been judged.
-fn derived(program: &Program, table: &Table) -> Result<(Derivation, Vec<Signature>)> {
+fn derived<'a>(program: &Program, table: &'a Table) -> Result<(&'a Derivation, &'a [Signature])> {
     let mut forms = Forms::new(table);
     let problem = infer::infer(program, table)?;
     let solution = solve::solve(program, table, &problem, &mut forms)?;
     let (derivation, signatures) = judge::derivation_of(program, table, &mut forms, problem, solution)?;
-    judge::judge(program, table, &mut forms, &signatures, &derivation)?;
+    let (derivation, signatures) = (kept(derivation), kept(signatures));
+    judge::judge(program, table, &mut forms, signatures, derivation)?;
+    std::mem::forget(forms);
     Ok((derivation, signatures))
 }
 
 fn check(text: &[u8]) -> Result<(i32, String)> {
-    let table = Table::new();
-    derived(&resolved(text, &table)?, &table)?;
+    let table = kept(Table::new());
+    derived(kept(resolved(text, table)?), table)?;
     Ok((0, "accepted\n".to_string()))
 }
 
 fn derive(text: &[u8]) -> Result<(i32, String)> {
-    let table = Table::new();
-    let program = resolved(text, &table)?;
-    let (derivation, _) = derived(&program, &table)?;
-    Ok((0, derivation::write(&program, &table, &derivation)))
+    let table = kept(Table::new());
+    let program = kept(resolved(text, table)?);
+    let (derivation, _) = derived(program, table)?;
+    Ok((0, derivation::write(program, table, derivation)))
 }
 
 fn verify(text: &[u8]) -> Result<(i32, String)> {
-    let table = Table::new();
+    let table = kept(Table::new());
     let (program, offset, lines) = split(text, "%%derivation")?;
-    let program = resolved(program, &table)?;
-    let derivation = derivation::read(&program, &table, lines, offset)?;
-    let (signatures, _) = types::signatures(&program, &table);
-    judge::judge(&program, &table, &mut Forms::new(&table), &signatures, &derivation)?;
+    let program = kept(resolved(program, table)?);
+    let derivation = kept(derivation::read(program, table, lines, offset)?);
+    let (signatures, _) = types::signatures(program, table);
+    judge::judge(program, table, &mut Forms::new(table), &signatures, derivation)?;
     Ok((0, "accepted\n".to_string()))
 }
 
 fn replay(text: &[u8]) -> Result<(i32, String)> {
-    let table = Table::new();
+    Ok((0, replayed(text)?.1))
+}
+
+fn order(text: &[u8]) -> Result<(i32, String)> {
+    let (entries, printed) = replayed(text)?;
+    if entries.len() > order::MOST_ENTRIES {
+        return Err(Refusal::new("too many entries".to_string()));
+    }
+    let mut text = "%%history\n".to_string();
+    for Entry { worker, thread, local, act } in order::in_order(entries) {
+        run::push_entry(&mut text, worker, thread, local, act);
+    }
+    Ok((0, text + "%%output\n" + &printed))
+}
+
+/// The entries of the history behind a program, and what a replay of them prints, with its end.
+fn replayed(text: &[u8]) -> Result<(Vec<Entry>, String)> {
+    let table = kept(Table::new());
     let (program, offset, lines) = split(text, "%%history")?;
-    let program = resolved(program, &table)?;
+    let program = kept(resolved(program, table)?);
     let lines = place_of_line(lines, "%%output").map_or(lines, |at| &lines[..at]);
-    Ok((0, replay::replay(&Executable::new(&program), lines, offset)?))
+    replay::replay(kept(Executable::new(program)), lines, offset)
 }
 
 fn run(text: &[u8], steps: u32, messages: u32) -> Result<(i32, String)> {
@@ -110,10 +152,10 @@ fn run(text: &[u8], steps: u32, messages: u32) -> Result<(i32, String)> {
 }
 
 fn told(text: &[u8], steps: u32, messages: u32) -> Result<run::Told> {
-    let table = Table::new();
-    let program = resolved(text, &table)?;
-    derived(&program, &table)?;
-    Ok(run::run(&Executable::new(&program), steps, messages))
+    let table = kept(Table::new());
+    let program = kept(resolved(text, table)?);
+    derived(program, table)?;
+    Ok(run::run(kept(Executable::new(program)), steps, messages))
 }
 
 fn load(count: u32, steps: u32, messages: u32) -> Result<(i32, String)> {
@@ -164,10 +206,12 @@ fn place_of_line(text: &[u8], mark: &str) -> Option<usize> {
 fn answer(words: &[String], text: &[u8]) -> (i32, String) {
     let words: Vec<&str> = words.iter().map(String::as_str).collect();
     let result = match words.as_slice() {
+        ["print"] => print(text),
         ["check"] => check(text),
         ["derive"] => derive(text),
         ["verify"] => verify(text),
         ["replay"] => replay(text),
+        ["order"] => order(text),
         ["load", count, options @ ..] => match (count.parse(), options_of(options)) {
             (Ok(count @ 1..=1000), Some((steps, messages))) => load(count, steps, messages),
             _ => return usage(),
@@ -200,7 +244,7 @@ fn options_of(words: &[&str]) -> Option<(u32, u32)> {
 }
 
 fn usage() -> (i32, String) {
-    (2, "usage: racer check | derive | verify | run [--steps N] [--messages N] | replay | load N\n".to_string())
+    (2, "usage: racer print | check | derive | verify | run [--steps N] [--messages N] | replay | order | load N\n".to_string())
 }
 
 fn call() -> i32 {

@@ -93,6 +93,11 @@ impl Space {
         self.points / self.cells * self.row
     }
 
+    /// A row of one word with all its points.
+    fn full(&self) -> u64 {
+        u64::MAX >> (WORD - self.cells)
+    }
+
     fn place(&self, point: u32) -> (usize, u64) {
         let (row, cell) = (point as usize / self.cells, point as usize % self.cells);
         (row * self.row + cell / WORD, 1 << (cell % WORD))
@@ -268,34 +273,45 @@ impl Space {
             }
             _ => {
                 let mut bits = self.bits(set);
-                self.add(self.high_tags, &mut bits, &self.bits(left), &self.bits(right));
+                let mut room = vec![0; self.words()];
+                self.add(self.high_tags, &mut bits, &self.bits(left), &self.bits(right), &mut room);
                 self.packed(bits)
             }
         }
     }
 
     /// Adds the sums of points of two blocks to a third, the first so many tags being left: what is at the bound there is added at once.
-    fn add(&self, tags: usize, sums: &mut [u64], left: &[u64], right: &[u64]) {
+    /// There is room for as many words as a block has.
+    fn add(&self, tags: usize, sums: &mut [u64], left: &[u64], right: &[u64], room: &mut [u64]) {
         if tags == 0 {
             return self.add_rows(sums, left, right);
         }
+        if self.row == 1 && sums.iter().all(|word| *word == self.full()) {
+            return;
+        }
         let size = left.len() / self.base;
         let at = |block: usize| block * size..(block + 1) * size;
-        let firsts: Vec<usize> = (0..self.base).filter(|block| has_any(&left[at(*block)])).collect();
-        let seconds: Vec<usize> = (0..self.base).filter(|block| has_any(&right[at(*block)])).collect();
-        let mut behind = vec![0; size];
-        let mut open = seconds.as_slice();
+        let (behind, room) = room.split_at_mut(size);
+        behind.fill(0);
         // From the first block's count on, ever more of the second set's blocks come to the bound.
-        for first in firsts {
-            while let Some((second, before)) = open.split_last().filter(|it| first + *it.0 >= self.bound) {
-                behind.iter_mut().zip(&right[at(*second)]).for_each(|(word, more)| *word |= more);
-                open = before;
+        let mut open = self.base;
+        for first in 0..self.base {
+            let own = &left[at(first)];
+            if !has_any(own) {
+                continue;
             }
-            for second in open {
-                self.add(tags - 1, &mut sums[at(first + second)], &left[at(first)], &right[at(*second)]);
+            while open > 0 && first + open > self.bound {
+                open -= 1;
+                behind.iter_mut().zip(&right[at(open)]).for_each(|(word, more)| *word |= more);
             }
-            if has_any(&behind) {
-                self.add(tags - 1, &mut sums[at(self.bound)], &left[at(first)], &behind);
+            for second in 0..open {
+                let other = &right[at(second)];
+                if has_any(other) {
+                    self.add(tags - 1, &mut sums[at(first + second)], own, other, room);
+                }
+            }
+            if has_any(behind) {
+                self.add(tags - 1, &mut sums[at(self.bound)], own, behind, room);
             }
         }
     }
@@ -337,8 +353,7 @@ impl Space {
 
     /// The sums of points of two words, unless all points are there already.
     fn word_sum(&self, left: u64, right: u64, there: u64) -> u64 {
-        let all = u64::MAX >> (WORD - self.cells);
-        if there == all || left == 0 || right == 0 {
+        if there == self.full() || left == 0 || right == 0 {
             return there;
         }
         let mixed = (left ^ right.rotate_left(29)).wrapping_mul(0x9e37_79b9_7f4a_7c15);
@@ -380,12 +395,15 @@ impl Space {
             if self.has(&all, point) {
                 return;
             }
-            let step = Points::one(point);
-            let mut fresh = all.clone();
-            while !fresh.is_empty() {
-                let next = self.with_sums(&all, &fresh, &step);
-                fresh = self.less(&next, &all);
+            // Once it may be added less than so often, it may be added twice as often.
+            let mut step = point;
+            loop {
+                let next = self.with_sums(&all, &all, &Points::one(step));
+                if next == all {
+                    return;
+                }
                 all = next;
+                step = self.sum_of(step, step);
             }
         });
         all

@@ -5,14 +5,15 @@ use crate::machine::{Act, Config};
 use crate::refusal::{Refusal, Result};
 use crate::run::end_line;
 
-struct Entry {
-    thread: u32,
-    local: u32,
-    act: Option<Act>,
+pub struct Entry {
+    pub worker: u32,
+    pub thread: u32,
+    pub local: u32,
+    pub act: Option<Act>,
 }
 
-/// The text of a replay of the history's lines, which stand at an offset in the input.
-pub fn replay(code: &Executable, lines: &[u8], offset: usize) -> Result<String> {
+/// The entries of the history's lines, which stand at an offset in the input, and what a replay of them prints, with its end.
+pub fn replay(code: &Executable, lines: &[u8], offset: usize) -> Result<(Vec<Entry>, String)> {
     let entries = entries_of(lines, offset)?;
     let mut config = Config::new(code);
     let mut steps = 0u32;
@@ -31,7 +32,7 @@ pub fn replay(code: &Executable, lines: &[u8], offset: usize) -> Result<String> 
         ("waiting", true)
     };
     let end = end_line(&config, word, steps, names_threads);
-    Ok(config.output + &end)
+    Ok((entries, config.output + &end))
 }
 
 fn take(config: &mut Config, entry: &Entry) -> Option<()> {
@@ -75,7 +76,7 @@ fn entries_of(text: &[u8], offset: usize) -> Result<Vec<Entry>> {
 
 fn entry_of(line: &[u8]) -> Option<Entry> {
     let mut words = line.split(|it| *it == b' ');
-    number_of(words.next()?)?;
+    let worker = number_of(words.next()?)?;
     let thread = number_of(words.next()?)?;
     let local = number_of(words.next()?)?;
     let act = match words.next()? {
@@ -89,7 +90,7 @@ fn entry_of(line: &[u8]) -> Option<Entry> {
         b"receive" => Some(Act::Receive(number_of(words.next()?)?)),
         _ => return None,
     };
-    words.next().is_none().then_some(Entry { thread, local, act })
+    words.next().is_none().then_some(Entry { worker, thread, local, act })
 }
 
 /// A number of 32 bits in decimal, without a zero in front.

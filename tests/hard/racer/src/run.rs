@@ -165,22 +165,27 @@ impl Run<'_> {
     }
 
     fn note(&mut self, thread: u32, local: u32, act: Option<Act>) {
-        let history = &mut self.history;
-        history.push_str("0 ");
-        push_number(history, thread);
-        history.push(' ');
-        push_number(history, local);
-        history.push(' ');
-        match act {
-            None => history.push('-'),
-            Some(Act::Receive(message)) => {
-                history.push_str("receive ");
-                push_number(history, message);
-            }
-            Some(act) => history.push_str(word_of(act)),
-        }
-        history.push('\n');
+        push_entry(&mut self.history, 0, thread, local, act);
     }
+}
+
+/// Appends the line of an entry.
+pub fn push_entry(history: &mut String, worker: u32, thread: u32, local: u32, act: Option<Act>) {
+    push_number(history, worker);
+    history.push(' ');
+    push_number(history, thread);
+    history.push(' ');
+    push_number(history, local);
+    history.push(' ');
+    match act {
+        None => history.push('-'),
+        Some(Act::Receive(message)) => {
+            history.push_str("receive ");
+            push_number(history, message);
+        }
+        Some(act) => history.push_str(word_of(act)),
+    }
+    history.push('\n');
 }
 
 pub fn push_number(text: &mut String, number: u32) {

@@ -1,5 +1,5 @@
 use crate::checking::check;
-use crate::writers::{BrokenReader, ShortWriter};
+use crate::ports::writers::{BrokenReader, ShortWriter};
 use pat_ports::{
     Failed, Gate, MemSink, MemSource, OpenGate, Sink, Source, StdSink, StdSource, SureSink,
     SureSource,
@@ -35,26 +35,25 @@ fn ports_in_memory_fail_where_told(rt: &impl Abort, alloc: Global) -> Result<(),
     Ok(())
 }
 
-#[test]
-fn ports(rt: HostRuntime) -> Result<(), Fail> {
+pub fn given_and_taken(rt: &(impl Abort + Input + Print), alloc: Global) -> Result<(), Fail> {
     let mut buf = [0u8; 4];
     let mut input = StdSource::new(rt.reader());
-    check(&rt, input.read(&mut buf[..0]) == Ok(0));
+    check(rt, input.read(&mut buf[..0]) == Ok(0));
     let mut source = StdSource::new(b"abcde".as_slice());
     for want in [4, 1, 0] {
-        check(&rt, source.read(&mut buf) == Ok(want));
+        check(rt, source.read(&mut buf) == Ok(want));
     }
-    let mut output = StdSink::new(io::writer(&rt));
-    check(&rt, output.write(b"to standard output\n") == Ok(19));
+    let mut output = StdSink::new(io::writer(rt));
+    check(rt, output.write(b"to standard output\n") == Ok(19));
     let mut none = [0u8; 2];
     let mut sink = StdSink::new(none.as_mut_slice());
-    check(&rt, sink.write(b"abc") == Ok(2));
-    check(&rt, sink.write(b"c") == Err(Failed));
-    check(&rt, sink.write(b"") == Ok(0));
-    ports_in_memory_fail_where_told(&rt, rt.alloc())?;
+    check(rt, sink.write(b"abc") == Ok(2));
+    check(rt, sink.write(b"c") == Err(Failed));
+    check(rt, sink.write(b"") == Ok(0));
+    ports_in_memory_fail_where_told(rt, alloc)?;
     for kind in [io::ErrorKind::Other, io::ErrorKind::Interrupted] {
-        a_broken_reader_fails(&rt, kind);
-        a_short_writer_is_flushed(&rt, rt.alloc(), kind)?;
+        a_broken_reader_fails(rt, kind);
+        a_short_writer_is_flushed(rt, alloc, kind)?;
     }
     Ok(())
 }
