@@ -11,6 +11,7 @@ import { parse, Source } from '../../companion/parse.js';
 import { Front } from './front.js';
 import { USAGE, options } from './options.js';
 import { OTP, pat } from './pat.js';
+import { Problem, STATUS, withFile } from './problem.js';
 import { Record, Text } from './record.js';
 import { Translation } from './translate.js';
 import { Nodes, areLoopback, hostNodes, localNodes } from './nodes.js';
@@ -20,9 +21,7 @@ import { certificates } from './tls.js';
 const LOGGER = '{kernel, [{logger, [{handler, default, logger_std_h, #{config => #{type => standard_error}}}]}]}';
 /** The module that the nodes run, below their folder. */
 const PROGRAM = 'program.erl';
-const STATUS = { done: 0, refused: 1, usage: 2, unread: 3, unwritten: 4, machine: 5, budget: 6, waiting: 7, full: 8, lost: 10 };
 
-class Problem extends Error { constructor(status, message) { super(message); this.status = status; } }
 const say = text => process.stderr.write(`pat-otp: ${text}\n`);
 
 /** The folder of the compiled runtime, which is made where a source is newer. (Tests name another one.) */
@@ -37,9 +36,9 @@ function runtime() {
   const fresh = mkdtempSync(join(ebin, 'new-'));
   const done = spawnSync('erlc', ['+debug_info', '-I', 'include', '-o', fresh, ...sources.filter(name => name.endsWith('.erl'))],
     { cwd: OTP, stdio: ['ignore', 2, 2] });
-  if (done.status !== 0) throw new Problem(STATUS.machine, 'the runtime in otp/src can\'t be compiled');
-  for (const name of readdirSync(fresh)) renameSync(join(fresh, name), join(ebin, name));
+  if (done.status === 0) for (const name of readdirSync(fresh)) renameSync(join(fresh, name), join(ebin, name));
   rmSync(fresh, { recursive: true });
+  if (done.status !== 0) throw new Problem(STATUS.machine, 'the runtime in otp/src can\'t be compiled');
   writeFileSync(application, readFileSync(join(OTP, 'src/pat_otp.app.src')));
   return ebin;
 }
@@ -117,10 +116,9 @@ function conclude({ ending, outcome }, record) {
 
 async function main(words) {
   const given = options(words);
-  if (!given) throw new Problem(STATUS.usage, USAGE);
-  const source = new Source(read(given.file));
+  const source = new Source(withFile(STATUS.unread, given.file, () => new Uint8Array(readFileSync(given.file))));
   const checked = await pat(['check'], [source.bytes]);
-  if (checked.status !== 0) { process.stdout.write(checked.text); return checked.status; }
+  if (checked.status !== 0) return refuse(given.file, checked);
   const nodes = given.hosts ? await hostNodes(given.hosts) : await localNodes(given.nodes);
   const tls = given.tls ?? !areLoopback(nodes);
   const folder = mkdtempSync(join(tmpdir(), 'pat-otp-'));
@@ -130,7 +128,7 @@ async function main(words) {
   const program = parse(source);
   prepare(folder, program, { ...given, nodes });
   if (tls) certificates(folder, nodes);
-  const text = given.out ? writing(() => new Text(given.out, folder)) : null;
+  const text = given.out ? withFile(STATUS.unwritten, given.out, () => new Text(given.out, folder)) : null;
   // (the head and one node alone: no run goes on without that node)
   const front = nodes.length > 2 ? new Front(program) : null;
   const record = new Record({ folder, program: source.bytes, front, text });
@@ -146,15 +144,14 @@ async function finish(run, record, given) {
   if (given.times) say(`${run.took} microseconds; milliseconds of a processor, of the head and each node: ${run.times}`);
   return end.status;
 }
-function read(file) {
-  try { return new Uint8Array(readFileSync(file)); } catch (problem) { throw new Problem(STATUS.unread, problem.message); }
-}
-function writing(write) {
-  try { return write(); } catch (problem) { throw new Problem(STATUS.unwritten, problem.message); }
+function refuse(file, { status, text }) {
+  process.stdout.write(text);
+  if (status === STATUS.refused) say(`the program isn't accepted: \`./pat-companion explain ${file}\` says why`);
+  return status;
 }
 
 try { process.exitCode = await main(process.argv.slice(2)); } catch (problem) {
-  if (problem.status === STATUS.usage) process.stderr.write(problem.message);
-  else say(problem.status ? problem.message : problem.stack);
+  say(problem.status ? problem.message : problem.stack);
+  if (problem.status === STATUS.usage) process.stderr.write(USAGE);
   process.exitCode = problem.status ?? STATUS.machine;
 }

@@ -4,6 +4,7 @@ import { createServer } from 'node:net';
 import { createInterface } from 'node:readline';
 import { cpus } from 'node:os';
 import { existsSync, readFileSync, writeFileSync } from 'node:fs';
+import { Problem, STATUS, withFile } from './problem.js';
 
 /** Beyond these a node that says nothing is taken for lost, in seconds. */
 const TICK_TIME = 8;
@@ -23,7 +24,7 @@ async function freePort(host, nodes) {
     const port = PORTS.from + Math.floor(Math.random() * (PORTS.to - PORTS.from));
     if (!nodes.some(node => node.port === port) && await isFree(host, port)) return port;
   }
-  throw new Error(`${host}: no port is free`);
+  throw new Problem(STATUS.machine, `${host}: no port is free`);
 }
 const isFree = (host, port) => new Promise(done => {
   const server = createServer();
@@ -46,17 +47,19 @@ async function node(nodes, host, port, command) {
 
 /** Lines `HOST PORT [COMMAND]`, the head's first; `#` begins a comment. PORT may be `-` where the node is started here. */
 export async function hostNodes(file) {
-  const lines = readFileSync(file, 'utf8').split('\n').map(line => line.replace(/#.*/, '').trim()).filter(line => line !== '');
+  const text = withFile(STATUS.unread, file, () => readFileSync(file, 'utf8'));
+  const lines = text.split('\n').map(line => line.replace(/#.*/, '').trim()).filter(line => line !== '');
   const nodes = [];
   for (const line of lines) {
     const found = /^(\S+)\s+(\d+|-)(?:\s+(.*))?$/.exec(line);
-    if (!found || (found[2] === '-' && found[3])) throw new Error(`${file}: no line \`HOST PORT [COMMAND]\`: ${line}`);
+    if (!found || (found[2] === '-' && found[3])) throw wrong(`${file}: no line \`HOST PORT [COMMAND]\`: ${line}`);
     nodes.push(await node(nodes, found[1], found[2] === '-' ? null : Number(found[2]), found[3] ?? null));
   }
-  if (nodes.length < 2) throw new Error(`${file}: the head and one node at least have to be named`);
-  if (nodes[0].command) throw new Error(`${file}: the head is started here, without a command`);
+  if (nodes.length < 2) throw wrong(`${file}: the head and one node at least have to be named`);
+  if (nodes[0].command) throw wrong(`${file}: the head is started here, without a command`);
   return nodes;
 }
+const wrong = what => new Problem(STATUS.usage, what);
 
 export const areLoopback = nodes => nodes.every(({ host }) => isLoopback(host));
 

@@ -1,5 +1,6 @@
 // The words that pat-otp is given.
 import { LONGEST_PIECE, PIECE } from './pieces.js';
+import { Problem, STATUS } from './problem.js';
 
 export const USAGE = `usage: pat-otp [--nodes N | --hosts FILE] [--steps N] [--messages N] [--piece N] [--out HISTORY] FILE
   --nodes N      so many nodes on this machine, from 1 to 63; else 1
@@ -16,28 +17,30 @@ PAT names the program pat, else it is the one of this checkout.
 `;
 const MOST_NODES = 63, MOST_MESSAGES = 1_000_000, MOST_STEPS = 10 ** 12, MOST_SCHEDULERS = 1024;
 
-/** What they say; null where they are none of these. */
+/** What they say; a problem names a word that is none of these. */
 export function options(words) {
   const given = { nodes: 1, steps: 1_000_000, messages: MOST_MESSAGES, piece: PIECE, spread: 'main' }, files = [];
+  const of = (least, most) => ({ take: word => number(word, least, most), needs: `a whole number from ${least} to ${most}` });
+  const file = { take: word => word ?? null, needs: 'the name of a file' };
   const known = {
-    '--nodes': word => { given.nodes = number(word, 1, MOST_NODES); },
-    '--steps': word => { given.steps = number(word, 0, MOST_STEPS); },
-    '--piece': word => { given.piece = number(word, 1, LONGEST_PIECE); },
-    '--messages': word => { given.messages = number(word, 1, MOST_MESSAGES); },
-    '--schedulers': word => { given.schedulers = number(word, 1, MOST_SCHEDULERS); },
-    '--hosts': word => { given.hosts = word ?? null; },
-    '--out': word => { given.out = word ?? null; },
-    '--spread': word => { given.spread = word === 'all' || word === 'main' ? word : null; },
+    nodes: of(1, MOST_NODES), steps: of(0, MOST_STEPS), piece: of(1, LONGEST_PIECE), messages: of(1, MOST_MESSAGES),
+    schedulers: of(1, MOST_SCHEDULERS), hosts: file, out: file,
+    spread: { take: word => word === 'all' || word === 'main' ? word : null, needs: 'to be all or main' },
   };
   for (let at = 0; at < words.length; at++) {
-    if (Object.hasOwn(known, words[at])) known[words[at]](words[++at]);
-    else if (words[at] === '--times') given.times = true;
-    else if (words[at] === '--tls' || words[at] === '--no-tls') given.tls = words[at] === '--tls';
-    else files.push(words[at]);
+    const word = words[at], name = word.replace(/^--/, '');
+    if (!word.startsWith('--')) files.push(word);
+    else if (Object.hasOwn(known, name)) {
+      given[name] = known[name].take(words[++at]);
+      if (given[name] === null) throw wrong(`${word} needs ${known[name].needs}${words[at] === undefined ? '' : `: ${words[at]}`}`);
+    } else if (word === '--times') given.times = true;
+    else if (word === '--tls' || word === '--no-tls') given.tls = word === '--tls';
+    else throw wrong(`there is no ${word}`);
   }
-  const isWrong = Object.values(given).includes(null) || files.length !== 1 || files[0].startsWith('--');
-  return isWrong ? null : { ...given, file: files[0] };
+  if (files.length !== 1) throw wrong(files.length ? `one FILE can be run: ${files.join(' ')}` : 'no FILE is named');
+  return { ...given, file: files[0] };
 }
+const wrong = what => new Problem(STATUS.usage, what);
 /** A word as a number of this range; else null. */
 export function number(word, least, most) {
   const isOne = /^\d{1,13}$/.test(word ?? '') && Number(word) >= least && Number(word) <= most;

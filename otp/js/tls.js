@@ -2,6 +2,7 @@
 import { spawnSync } from 'node:child_process';
 import { mkdirSync, rmSync, writeFileSync } from 'node:fs';
 import { join } from 'node:path';
+import { Problem, STATUS } from './problem.js';
 
 const KEY = ['-newkey', 'ec', '-pkeyopt', 'ec_paramgen_curve:P-256', '-nodes'];
 /** A run that goes on for longer needs certificates made anew. */
@@ -11,8 +12,8 @@ const isAddress = host => /^[\d.]+$|:/.test(host);
 
 function openssl(folder, words) {
   const done = spawnSync('openssl', words, { cwd: folder, encoding: 'utf8' });
-  if (done.error) throw new Error(`openssl: ${done.error.message}: the package is \`openssl\``);
-  if (done.status !== 0) throw new Error(`openssl ${words[0]}: ${done.stderr}`);
+  if (done.error) throw new Problem(STATUS.machine, 'openssl isn\'t on the path: install the package openssl');
+  if (done.status !== 0) throw new Problem(STATUS.machine, `openssl ${words[0]}: ${done.stderr}`);
 }
 
 /** In `tls/`: the authority's certificate, and a key and certificate that all nodes of the run have, with their hosts in it. */

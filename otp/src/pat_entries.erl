@@ -1,37 +1,26 @@
 %% What a thread notes of its acts. An entry has a Lamport stamp; entries stay with the thread until the log's turn changes or
-%% the thread waits for long, and then go to the node's log together (pat_log), packed as one list of numbers, which is quick to copy.
+%% the thread waits for long, and then go to the node's log together (pat_log), as one binary, which nobody copies on its way to the
+%% history.
 %%
 %% Of a turn the thread opens its part before the first entry and closes it when its entries are on their way; so the log knows
 %% when all entries of a turn have come. Kept in the process dictionary: `thread`, and as one term `noted`, since it changes with
 %% each act.
 -module(pat_entries).
--export([begin_thread/2, spend/1, note/3, note_steps/0, close/0, clock/0, newest/1, unpacked/1]).
--export_type([stamp/0, thread/0, act/0, entry/0, packed/0]).
+-export([begin_thread/2, spend/1, note/3, note_steps/0, close/0, clock/0, unpacked/1, bound/1]).
+-export_type([stamp/0, thread/0, act/0, run/0, words/0]).
 -include("pat_otp.hrl").
+-include("pat_entries.hrl").
 
 -type stamp() :: non_neg_integer().
 -type thread() :: non_neg_integer().
 -type act() :: none | new | send | free | 'end' | {spawn, thread()} | {print, binary()} | {'receive', thread(), non_neg_integer()}.
--type entry() :: {stamp(), thread(), non_neg_integer(), act()}.
-%% A thread, and its entries, the newest first: each is a number of its stamp, steps and act, and behind it what the act has besides.
--type packed() :: [thread() | non_neg_integer() | binary(), ...].
-
-%% Where a packed entry has its steps and its stamp; what it has below is the act.
--define(STEPS, 3).
--define(STAMP, 12).
--define(NONE, 0).
--define(NEW, 1).
--define(SEND, 2).
--define(FREE, 3).
--define(END, 4).
--define(SPAWN, 5).
--define(PRINT, 6).
--define(RECEIVE, 7).
+%% A thread, and some of its entries that are one behind another.
+-type run() :: {thread(), binary()}.
+-type words() :: [non_neg_integer() | binary()].
 
 %% `turn` is the one in which the thread has its part open (there is one entry at least then); `steps` are local ones since the last
-%% entry, which has the stamp `clock`.
--record(noted, {turn = none :: none | non_neg_integer(), clock :: stamp(), steps = 0 :: non_neg_integer(),
-                entries = [] :: [non_neg_integer() | binary()]}).
+%% entry, which has the stamp `clock`. The entries are packed, the last one's last word first.
+-record(noted, {turn = none :: none | non_neg_integer(), clock :: stamp(), steps = 0 :: non_neg_integer(), entries = [] :: words()}).
 
 -spec begin_thread(thread(), stamp()) -> ok.
 begin_thread(Thread, Stamp) ->
@@ -112,8 +101,8 @@ close() ->
     end.
 
 closed(#noted{turn = none} = Noted) -> Noted;
-closed(#noted{turn = Turn, entries = Entries} = Noted) ->
-    pat_log ! {entries, [get(thread) | Entries]},
+closed(#noted{turn = Turn, clock = Clock, entries = Entries} = Noted) ->
+    pat_log ! {entries, {get(thread), term_to_binary(Entries)}, Clock},
     atomics:sub(pat_cells:kept(), ?OPEN(Turn), 1),
     Noted#noted{turn = none, entries = []}.
 
@@ -123,34 +112,19 @@ packed(Stamp, Steps, Act, Rest) ->
     Front = Stamp bsl ?STAMP bor (Steps bsl ?STEPS),
     case Act of
         send -> [Front bor ?SEND | Rest];
-        {'receive', From, Number} -> [Front bor ?RECEIVE, From, Number | Rest];
+        {'receive', From, Number} -> [Number, From, Front bor ?RECEIVE | Rest];
         none -> [Front bor ?NONE | Rest];
         new -> [Front bor ?NEW | Rest];
         free -> [Front bor ?FREE | Rest];
-        {spawn, Thread} -> [Front bor ?SPAWN, Thread | Rest];
-        {print, Text} -> [Front bor ?PRINT, Text | Rest];
+        {spawn, Thread} -> [Thread, Front bor ?SPAWN | Rest];
+        {print, Text} -> [Text, Front bor ?PRINT | Rest];
         'end' -> [Front bor ?END | Rest]
     end.
 
-%% The greatest stamp.
--spec newest(packed()) -> stamp().
-newest([_, Word | _]) -> Word bsr ?STAMP.
+%% The first entry's first word first.
+-spec unpacked(binary()) -> words().
+unpacked(Binary) -> lists:reverse(binary_to_term(Binary)).
 
-%% The entries by their stamps.
--spec unpacked(packed()) -> [entry()].
-unpacked([Thread | Words]) -> unpacked(Words, Thread, []).
-
-unpacked([], _, Entries) -> Entries;
-unpacked([Word | Words], Thread, Entries) ->
-    {Act, Rest} = act(Word band (1 bsl ?STEPS - 1), Words),
-    Steps = (Word bsr ?STEPS) band (1 bsl (?STAMP - ?STEPS) - 1),
-    unpacked(Rest, Thread, [{Word bsr ?STAMP, Thread, Steps, Act} | Entries]).
-
-act(?SEND, Rest) -> {send, Rest};
-act(?RECEIVE, [From, Number | Rest]) -> {{'receive', From, Number}, Rest};
-act(?NONE, Rest) -> {none, Rest};
-act(?NEW, Rest) -> {new, Rest};
-act(?FREE, Rest) -> {free, Rest};
-act(?SPAWN, [Thread | Rest]) -> {{spawn, Thread}, Rest};
-act(?PRINT, [Text | Rest]) -> {{print, Text}, Rest};
-act(?END, Rest) -> {'end', Rest}.
+%% The first words of all entries up to this stamp are less.
+-spec bound(stamp()) -> non_neg_integer().
+bound(Stamp) -> (Stamp + 1) bsl ?STAMP.

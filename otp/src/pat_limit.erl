@@ -1,6 +1,7 @@
 %% The limit on pending messages, kept at the head. A send takes a credit. There are as many as messages may be pending, and one
-%% more for each receive that is final: so a send that such a credit allows has a greater stamp than that receive, and at each
-%% entry of the history no more messages are pending than may be. Nodes ask for credits when they have none left (pat_credit).
+%% more for each receive that is written: a send that such a credit allows has a stamp beyond what was final then, so it is written
+%% later, and at each entry of the history no more messages are pending than may be. Nodes ask for credits when they have none left
+%% (pat_credit).
 -module(pat_limit).
 -behaviour(gen_server).
 -export([start_link/2, received/1, is_short/0]).
@@ -14,7 +15,7 @@
 -spec start_link([node()], integer()) -> {ok, pid()} | ignore | {error, term()}.
 start_link(Nodes, Messages) -> gen_server:start_link({local, ?MODULE}, ?MODULE, {Nodes, Messages}, []).
 
-%% So many receives have become final.
+%% So many receives were written.
 -spec received(non_neg_integer()) -> ok.
 received(0) -> ok;
 received(Count) -> gen_server:cast(?MODULE, {received, Count}).

@@ -9,18 +9,18 @@
 -export([init/1, handle_call/3, handle_cast/2, handle_info/2]).
 -include("pat_otp.hrl").
 
-%% Milliseconds from a turn's end to the next one's beginning, longer where the last one had so many words of entries (an entry has
-%% one to three), and from a look at those that have entries at hand to the next.
+%% Milliseconds from a turn's end to the next one's beginning, longer where the last one had so many bytes of entries (an entry has
+%% five to twenty, but for a line's text), and from a look at those that have entries at hand to the next.
 -define(PAUSE, 2).
 -define(LONG_PAUSE, 8).
--define(MANY, 2000).
+-define(MANY, 10000).
 -define(LOOK, 1).
-%% So many words may be reported and not yet be written; then the threads are held back.
--define(AHEAD, 1000000).
+%% So many bytes may be reported and not yet be written; then the threads are held back.
+-define(AHEAD, 5000000).
 
 -record(state, {epoch :: pat_cells:epoch(), turn = 0 :: non_neg_integer(), floor :: pat_entries:stamp(),
                 closing = no :: no | {Turn :: non_neg_integer(), pat_entries:stamp()}, waits = false :: boolean(),
-                runs = [] :: [pat_entries:packed()], count = 0 :: non_neg_integer(), pause = ?PAUSE :: pos_integer(),
+                runs = [] :: [pat_entries:run()], size = 0 :: non_neg_integer(), pause = ?PAUSE :: pos_integer(),
                 newest :: pat_entries:stamp(), wanted = 0 :: pat_entries:stamp(), reports = 0 :: non_neg_integer(),
                 unwritten = queue:new() :: queue:queue({pat_entries:stamp(), non_neg_integer()}),
                 ahead = 0 :: non_neg_integer()}).
@@ -48,9 +48,9 @@ handle_call(sync, _, #state{floor = Floor} = State) ->
 handle_cast({reach, Stamp}, #state{wanted = Wanted} = State) -> {noreply, rouse(State#state{wanted = max(Stamp, Wanted)})};
 handle_cast({written, Stamp}, State) -> {noreply, hold(written(Stamp, State))}.
 
--spec handle_info({entries, pat_entries:packed()} | turn | look | {closed, pat_entries:stamp()}, #state{}) -> {noreply, #state{}}.
-handle_info({entries, Run}, #state{runs = Runs, count = Count, newest = Newest} = State) ->
-    {noreply, rouse(State#state{runs = [Run | Runs], count = Count + length(Run), newest = max(pat_entries:newest(Run), Newest)})};
+-spec handle_info({entries, pat_entries:run(), pat_entries:stamp()} | turn | look | {closed, pat_entries:stamp()}, #state{}) -> {noreply, #state{}}.
+handle_info({entries, {_, Entries} = Run, Last}, #state{runs = Runs, size = Size, newest = Newest} = State) ->
+    {noreply, rouse(State#state{runs = [Run | Runs], size = Size + byte_size(Entries), newest = max(Last, Newest)})};
 handle_info(turn, State) -> {noreply, look(begin_turn(State#state{waits = false}))};
 handle_info(look, State) -> {noreply, look(State)};
 handle_info({closed, Floor}, State) -> {noreply, rouse(report(Floor, State#state{closing = no}))}.
@@ -79,19 +79,20 @@ look(#state{closing = {Turn, Floor}} = State) ->
     end,
     State.
 
-report(Floor, #state{epoch = Epoch, runs = Runs, count = Count, reports = Reports, unwritten = Unwritten, ahead = Ahead} = State) ->
+report(Floor, #state{epoch = Epoch, runs = Runs, size = Size, newest = Newest, reports = Reports, unwritten = Unwritten,
+                     ahead = Ahead} = State) ->
     #{head := Head, place := Place} = pat_cells:run(),
-    gen_server:cast({pat_merge, Head}, {report, Epoch, Place, Floor, Runs}),
-    Pause = if Count > ?MANY -> ?LONG_PAUSE; true -> ?PAUSE end,
-    hold(State#state{floor = Floor, runs = [], count = 0, pause = Pause, reports = Reports + 1,
-                     unwritten = queue:in({Floor, Count}, Unwritten), ahead = Ahead + Count}).
+    gen_server:cast({pat_merge, Head}, {report, Epoch, Place, Floor, Newest, lists:reverse(Runs)}),
+    Pause = if Size > ?MANY -> ?LONG_PAUSE; true -> ?PAUSE end,
+    hold(State#state{floor = Floor, runs = [], size = 0, pause = Pause, reports = Reports + 1,
+                     unwritten = queue:in({Floor, Size}, Unwritten), ahead = Ahead + Size}).
 
 %% ---- the writer that can't keep up
 
 written(Stamp, #state{unwritten = Unwritten, ahead = Ahead} = State) ->
     case queue:peek(Unwritten) of
-        {value, {Floor, Count}} when Floor =< Stamp ->
-            written(Stamp, State#state{unwritten = queue:drop(Unwritten), ahead = Ahead - Count});
+        {value, {Floor, Size}} when Floor =< Stamp ->
+            written(Stamp, State#state{unwritten = queue:drop(Unwritten), ahead = Ahead - Size});
         _ -> State
     end.
 

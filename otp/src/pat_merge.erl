@@ -1,7 +1,7 @@
-%% The merger: orders the entries of all nodes by their stamps, and hands on those that are final. An entry is final when each
-%% node has promised that it will never report one with a stamp as low (pat_log). A cause's stamp is lower than its effect's, so
-%% whatever is cut off at a stamp lacks no cause: the final entries are the front of a run at any time, whichever node is lost. It
-%% merges one epoch; the next one has a merger of its own, which begins at the cut.
+%% The merger: takes the entries of all nodes, and says up to which stamp they are final. An entry is final when each node has
+%% promised that it will never report one with a stamp as low (pat_log). A cause's stamp is lower than its effect's, so whatever is
+%% cut off at a stamp lacks no cause: the final entries are the front of a run at any time, whichever node is lost. It merges one
+%% epoch; the next one has a merger of its own, which begins at the cut.
 -module(pat_merge).
 -behaviour(gen_server).
 -export([start_link/2, finish/1, stop/0]).
@@ -9,7 +9,7 @@
 
 -record(node, {floor :: pat_entries:stamp(), asked :: pat_entries:stamp(), reports = 0 :: non_neg_integer()}).
 -record(state, {epoch :: over | pat_cells:epoch(), nodes :: #{pat_place:place() => #node{}},
-                names :: #{pat_place:place() => node()}, runs = [] :: [[pat_entries:entry()]],
+                names :: #{pat_place:place() => node()}, runs = [] :: [[pat_entries:run()]],
                 cut :: pat_entries:stamp(), newest :: pat_entries:stamp(),
                 finish = no :: no | {gen_server:from(), [non_neg_integer()]}}).
 
@@ -38,33 +38,22 @@ handle_call(stop, _, #state{cut = Cut} = State) ->
     {reply, Cut, State#state{epoch = over}};
 handle_call({finish, Reports}, From, State) -> {noreply, finished(State#state{finish = {From, Reports}})}.
 
--spec handle_cast({report, pat_cells:epoch(), pat_place:place(), pat_entries:stamp(), [pat_entries:packed()]}, #state{}) ->
-          {noreply, #state{}}.
-handle_cast({report, Epoch, Place, Floor, Reported}, #state{epoch = Epoch, nodes = Nodes, runs = Runs, newest = Newest} = State) ->
+-spec handle_cast({report, pat_cells:epoch(), pat_place:place(), pat_entries:stamp(), pat_entries:stamp(), [pat_entries:run()]},
+                  #state{}) -> {noreply, #state{}}.
+handle_cast({report, Epoch, Place, Floor, Last, Reported},
+            #state{epoch = Epoch, nodes = Nodes, runs = Runs, newest = Newest} = State) ->
     #{Place := #node{reports = Reports} = Node} = Nodes,
-    {Latest, More} = lists:foldl(
-        fun(Run, {Most, All}) -> {max(pat_entries:newest(Run), Most), [pat_entries:unpacked(Run) | All]} end, {Newest, Runs}, Reported),
     {noreply, finished(chase(advance(State#state{nodes = Nodes#{Place := Node#node{floor = Floor, reports = Reports + 1}},
-                                                 runs = More, newest = Latest})))};
-handle_cast({report, _, _, _, _}, State) -> {noreply, State}.
+                                                 runs = [Reported | Runs], newest = max(Last, Newest)})))};
+handle_cast({report, _, _, _, _, _}, State) -> {noreply, State}.
 
-%% Hands on what has become final.
+%% Where more has become final, the history gets all that is there by now.
 advance(#state{nodes = Nodes, runs = Runs, cut = Cut} = State) ->
     case lists:min([Floor || #node{floor = Floor} <- maps:values(Nodes)]) of
         Cut -> State;
         Floor ->
-            {Final, Rest} = split(Runs, Floor, [], []),
-            pat_history:write(Floor, lists:merge(Final)),
-            State#state{runs = Rest, cut = Floor}
-    end.
-
-%% Each run is in order; what is up to the floor, and what is beyond.
-split([], _, Final, Rest) -> {Final, Rest};
-split([Run | Runs], Floor, Final, Rest) ->
-    case lists:splitwith(fun({Stamp, _, _, _}) -> Stamp =< Floor end, Run) of
-        {[], Later} -> split(Runs, Floor, Final, [Later | Rest]);
-        {Sooner, []} -> split(Runs, Floor, [Sooner | Final], Rest);
-        {Sooner, Later} -> split(Runs, Floor, [Sooner | Final], [Later | Rest])
+            pat_history:write(Floor, lists:append(lists:reverse(Runs))),
+            State#state{runs = [], cut = Floor}
     end.
 
 %% Nodes with little to do are asked for floors that let the others' entries become final.

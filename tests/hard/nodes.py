@@ -19,12 +19,16 @@ TRIES_AGAIN = 2
 
 HELD = "erlang:spawn(fun() -> receive after rand:uniform(4) - 1 -> {} ! Message end end)"
 # Each message is held back by itself for some milliseconds, so that none keeps its place among the others; and a mailbox's weight
-# is 3, so that it has to be split further all the time. Threads are held back as soon as 50 of their entries aren't written.
+# is 3, so that it has to be split further all the time. Threads are held back as soon as 50 of their entries aren't written. And what
+# is final is written stamp by stamp, so that a loss might have cut it off at each: then each entry has to be behind its causes.
 DELAYS = [
     ("pat_post.erl", "    To ! Message,\n", f"    {HELD.format('To')},\n"),
     ("pat_host.erl", "    Thread ! Message,\n", f"    {HELD.format('Thread')},\n"),
     ("pat_weight.erl", "(1 bsl 56)", "3"),
-    ("pat_log.erl", "-define(AHEAD, 1000000).", "-define(AHEAD, 100)."),
+    ("pat_log.erl", "-define(AHEAD, 5000000).", "-define(AHEAD, 500)."),
+    ("pat_merge.erl", "pat_history:write(Floor, lists:append(lists:reverse(Runs))),\n",
+     "pat_history:write(Cut + 1, lists:append(lists:reverse(Runs))),\n"
+     "            [pat_history:write(Stamp, []) || Stamp <- lists:seq(Cut + 2, Floor)],\n"),
 ]
 
 # Runtimes with one thing wrong in each. `pat replay`, or what is compared with it, has to find that out.
@@ -51,7 +55,7 @@ WRONG = {
     "a local step too few": [
         ("pat_entries.erl", "(Steps bsl ?STEPS)", "(max(0, Steps - 1) bsl ?STEPS)")],
     "lines in another order": [
-        ("pat_history.erl", "file:write(user, lists:reverse(Shown))", "file:write(user, Shown)")],
+        ("pat_order.erl", "{How, {Received, lists:reverse(Shown)}, ", "{How, {Received, Shown}, ")],
     "a promise before all entries are there": [
         ("pat_log.erl", "        0 -> self() ! {closed, Floor};\n        _ -> erlang:send_after(?LOOK, self(), look)",
          "        _ -> self() ! {closed, Floor}")],
@@ -115,11 +119,11 @@ WRONG_AFTER_LOSS = {
         ("pat_configuration.erl", "{Part, Rest} = pat_weight:share(maps:get(Mailbox, Homes))",
          "{Part, _} = pat_weight:share(maps:get(Mailbox, Homes)), Rest = maps:get(Mailbox, Homes)")],
     "lines are shown twice": [
-        ("pat_history.erl", "    ok = file:write(user, lists:reverse(Shown)),\n",
-         "    ok = file:write(user, lists:reverse(Shown)),\n    put(last, Shown ++ case get(last) of undefined -> []; L -> L end),\n"),
-        ("pat_history.erl", "handle_call({begin_epoch, Nodes, Threads, Messages}, _, State) ->\n",
-         "handle_call({begin_epoch, Nodes, Threads, Messages}, _, State) ->\n    "
-         "ok = file:write(user, lists:reverse(case get(last) of undefined -> []; Last -> Last end)),\n")],
+        ("pat_history.erl", "    ok = file:write(user, Shown),\n",
+         "    ok = file:write(user, Shown),\n    put(last, [case get(last) of undefined -> []; Last -> Last end, Shown]),\n"),
+        ("pat_history.erl", "handle_call({begin_epoch, Nodes, Threads, Messages}, _, #state{order = Order} = State) ->\n",
+         "handle_call({begin_epoch, Nodes, Threads, Messages}, _, #state{order = Order} = State) ->\n    "
+         "ok = file:write(user, case get(last) of undefined -> []; Last -> Last end),\n")],
     "frames are forgotten": [
         ("pat_thread.erl", "go_on(_, [], Value) -> Value;", "go_on(_, Frames, Value) when is_list(Frames) -> Value;")],
     "threads of the epoch before go on": [
@@ -127,7 +131,7 @@ WRONG_AFTER_LOSS = {
         ("pat_resume.erl", "    lists:foreach(fun(_) -> receive {'DOWN', _, process, _, _} -> ok end end, Ours).", "    ok.")],
     "entries behind the cut are kept": [
         ("pat_merge.erl", "    {reply, Cut, State#state{epoch = over}};",
-         "    pat_history:write(Cut, lists:merge([lists:reverse(Run) || Run <- State#state.runs])),\n"
+         "    pat_history:write(State#state.newest, lists:append(lists:reverse(State#state.runs))),\n"
          "    {reply, Cut, State#state{epoch = over}};")],
 }
 
