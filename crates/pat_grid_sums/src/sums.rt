@@ -4,7 +4,7 @@ ghost use Rattle.std.specs.Prelude.{◌≡◌, ◌<◌, ◌≤◌, ◌/◌, ℕ,
 ghost use Rattle.pat_inclusion_spec.specs.Points.{grid_fits};
 ghost use Rattle.pat_inclusion_spec.specs.bounds.Numbers.{points_in};
 ghost use Rattle.pat_grid_sums.specs.Sets.{In, Puts, AnyBefore, AtNumber, IsJoined, IsAdded};
-ghost use Rattle.pat_grid_sums.specs.Shapes.{IsShape, Has, IsGathered, IsRowSum, AreSums};
+ghost use Rattle.pat_grid_sums.specs.Shapes.{IsShape, IsRow, Has, IsGathered, IsRowSum, AreSums};
 
 use crate::bits::{has, join, list_all, no_bits, put_all};
 use crate::moving::moved_by_each;
@@ -74,8 +74,18 @@ fn sums_of(
         bits: 0,
         words: nothing,
     };
+    let still = row_of(alloc, 0, shape.k, shape.high)?;
     for word in 0..ones.len() {
-        gathered = add_row(alloc, ones, word, moved, shape, gathered, &mut sums)?;
+        gathered = add_row(
+            alloc,
+            ones,
+            word,
+            moved,
+            still.as_slice(),
+            shape,
+            gathered,
+            &mut sums,
+        )?;
     }
     Ok(sums)
 }
@@ -86,6 +96,7 @@ fn add_row(
     ones: &[u64],
     word: usize,
     moved: &[Sequence<u64>],
+    still: &[usize],
     shape: Shape,
     last: Gathered,
     sums: &mut Sequence<u64>,
@@ -95,6 +106,7 @@ fn add_row(
     requires few { length moved.now ≤ 64 }
     requires moved { (l : ℕ) → l < length moved.now → length (get_or moved.now l []) ≡ shape.words }
     requires long { length sums.old ≡ shape.words }
+    requires still { IsRow shape.k shape.high 0 still.now }
     requires last { IsGathered moved.now shape last.bits last.words }
     ensures sums { OnOk result (Puts (IsRowSum ones.now moved.now shape word) sums.old sums.new) }
     ensures gathered { IfOk result (λ g. IsGathered moved.now shape g.bits g.words) }
@@ -102,18 +114,20 @@ fn add_row(
     if ones[word] == 0 {
         return Ok(last);
     }
-    let gathered = gather(alloc, ones, word, moved, shape, last)?;
+    let gathered = gather(alloc, ones, word, moved, still, shape, last)?;
     let row = row_of(alloc, word, shape.k, shape.high)?;
     add_moved(gathered.words.as_slice(), row.as_slice(), sums);
     Ok(gathered)
 }
 
-/// Puts together what was moved by the places of the word, if that isn't what was gathered last.
+/// Puts together what was moved by the places of the word, if that isn't what was gathered last; `still` is the row of no
+/// point.
 fn gather(
     alloc: Global,
     ones: &[u64],
     word: usize,
     moved: &[Sequence<u64>],
+    still: &[usize],
     shape: Shape,
     last: Gathered,
 ) -> Result<Gathered, AllocError>
@@ -121,6 +135,7 @@ fn gather(
     requires word { word < length ones.now }
     requires few { length moved.now ≤ 64 }
     requires moved { (l : ℕ) → l < length moved.now → length (get_or moved.now l []) ≡ shape.words }
+    requires still { IsRow shape.k shape.high 0 still.now }
     requires last { IsGathered moved.now shape last.bits last.words }
     ensures bits { IfOk result (λ g. g.bits ≡ get_or ones.now word 0) }
     ensures words { IfOk result (λ g. IsGathered moved.now shape (get_or ones.now word 0) g.words) }
@@ -129,8 +144,7 @@ fn gather(
         return Ok(last);
     }
     let mut words = no_bits(alloc, shape.words)?;
-    let row = row_of(alloc, 0, shape.k, shape.high)?;
-    add_word(ones, word, moved, row.as_slice(), &mut words);
+    add_word(ones, word, moved, still, &mut words);
     Ok(Gathered {
         bits: ones[word],
         words,
