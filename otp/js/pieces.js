@@ -28,6 +28,12 @@ function taken({ text }) {
   return { lines: text.subarray(0, cut), word, steps: Number(steps), rest };
 }
 
+/** What a promise came to, by which others were waited for as well. */
+function valueOf({ status, value, reason }) {
+  if (status === 'rejected') throw reason;
+  return value;
+}
+
 export class Pieces {
   /** `front` is what stands before the history: a program, or a program and what a piece begins with. */
   constructor(front) {
@@ -46,7 +52,9 @@ export class Pieces {
 
   /** Judges a piece behind which others come: {lines, left}, what it prints, and the entries that are left for the next one. */
   async next(entries) {
-    const whole = this.accepted(await this.ask('replay', entries)), leads = await this.leadsTo(entries);
+    // (both at once; a refusal is said first)
+    const asked = [this.ask('replay', entries), this.leadsTo(entries)];
+    const [answer, led] = await Promise.allSettled(asked), whole = this.accepted(valueOf(answer)), leads = valueOf(led);
     const { size, text } = leads.status === 0 ? { size: entries.length, text: leads.text } : await this.sooner(entries, leads);
     if (size === 0) return { lines: NOTHING, left: entries };
     const piece = entries.subarray(0, size);
