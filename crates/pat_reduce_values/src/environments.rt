@@ -36,6 +36,9 @@ pub fn kept_but(
 {
     let free = code.free_in(node);
     let mut own = Sequence::new(alloc);
+    // No more than is kept, since a frame that waits may stay for long.
+    let named = usize::from(var.is_some());
+    own.items.reserve(free.listed.len().saturating_sub(named))?;
     for entry in env {
         if free.contains(entry.0) && var != Some(entry.0) {
             push_copy(alloc, &mut own, entry)?;
@@ -44,6 +47,7 @@ pub fn kept_but(
     Ok(own)
 }
 
+#[inline(always)]
 fn push_copy(
     alloc: Global,
     own: &mut Sequence<(u32, Value)>,
@@ -51,8 +55,19 @@ fn push_copy(
 ) -> Result<(), AllocError>
     ensures { OnOk result (env_view own.new ≡ env_view own.old ++ (entry.now.0, value_view entry.now.1) ∷ []) }
 {
-    let value = entry.1.copy(alloc)?;
     own.items.reserve(1)?;
+    // Most are integers and mailboxes, which take no text along.
+    let value = match &entry.1 {
+        Value::Int(n) => {
+            own.items.push_reserved((entry.0, Value::Int(*n)));
+            return Ok(());
+        }
+        Value::Mailbox(mailbox) => {
+            own.items.push_reserved((entry.0, Value::Mailbox(*mailbox)));
+            return Ok(());
+        }
+        value => value.copy(alloc)?,
+    };
     own.items.push_reserved((entry.0, value));
     Ok(())
 }
@@ -61,12 +76,12 @@ fn push_copy(
 pub fn copied(alloc: Global, env: &[(u32, Value)]) -> Result<Sequence<(u32, Value)>, AllocError>
     ensures { IfOk result (λ r. env_view r ≡ env_view env.now) }
 {
-    let mut own = Vec::new(alloc);
-    own.reserve(env.len())?;
+    let mut own = Sequence::new(alloc);
+    own.items.reserve(env.len())?;
     for entry in env {
-        own.push_reserved((entry.0, entry.1.copy(alloc)?));
+        push_copy(alloc, &mut own, entry)?;
     }
-    Ok(Sequence::from_vec(own))
+    Ok(own)
 }
 
 /// Leaves the values of just the node's free variables. It takes no memory.

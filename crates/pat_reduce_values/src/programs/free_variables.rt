@@ -47,8 +47,9 @@ fn add_term(own: &mut Variables, free: &Sequence<Variables>, core: &Core) -> Res
         Core::Value(e) => add_variables(own, e),
         Core::Print(e) => add_variables(own, e),
         Core::Let { var, bound, body } => {
-            add_all(own, free, *bound, &[], None)?;
-            add_all(own, free, *body, &[], *var)
+            // The body has more of them, which come one behind the other while the list is empty.
+            add_all(own, free, *body, &[], *var)?;
+            add_all(own, free, *bound, &[], None)
         }
         Core::Call { args, .. } => add_arguments(own, args.as_slice()),
         Core::If { test, yes, no } => {

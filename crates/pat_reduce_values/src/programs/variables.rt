@@ -105,10 +105,21 @@ fn place_of(listed: &[u32], variable: u32) -> Result<usize, usize>
     ensures found { IfOk result (StandsAt listed.now variable) }
     ensures absent { IfErr result (FitsAt listed.now variable) }
 {
+    if exceeds_all(listed, variable) {
+        return Err(listed.len());
+    }
     match listed.binary_search(&variable) {
         Ok(place) => Ok(place),
         Err(place) => Err(place),
     }
+}
+
+// Whether the variable belongs behind all that are listed.
+fn exceeds_all(listed: &[u32], variable: u32) -> bool
+    requires { Ascends listed.now }
+    ensures { IsTrue result → FitsAt listed.now variable (length listed.now) }
+{
+    listed.is_empty() || listed[listed.len() - 1] < variable
 }
 
 // Puts a variable at a place; those from there on move down. An error changes nothing.
