@@ -28,7 +28,8 @@ const say = text => process.stderr.write(`pat-otp: ${text}\n`);
 function runtime() {
   if (process.env.PAT_OTP_RUNTIME) return resolve(process.env.PAT_OTP_RUNTIME);
   const ebin = join(OTP, 'ebin'), application = join(ebin, 'pat_otp.app');
-  const sources = readdirSync(join(OTP, 'src')).map(name => join('src', name)), made = [...sources, 'include/pat_otp.hrl'];
+  const files = folder => readdirSync(join(OTP, folder)).map(name => join(folder, name));
+  const sources = files('src'), made = [...sources, ...files('include')];
   const newest = Math.max(...made.map(name => statSync(join(OTP, name)).mtimeMs));
   if (existsSync(application) && statSync(application).mtimeMs > newest) return ebin;
   mkdirSync(ebin, { recursive: true });

@@ -25,7 +25,7 @@
 local(Steps) ->
     case pat_entries:spend(Steps) of
         counted -> ok;
-        noted -> release()
+        noted -> release_noted()
     end.
 
 %% One name of the mailbox more, and one less: in a local step, or right behind a shared act, as a part of it.
@@ -118,7 +118,8 @@ release() ->
         _ -> lists:foreach(fun({Name, Weight}) -> give_back(Name, Weight) end, pat_names:gone())
     end.
 
-%% A guard may be where the thread waits for whoever waits for these weights: so an entry is made first.
+%% A guard may be where the thread waits for whoever waits for these weights, and behind an entry for a portion steps may be left
+%% in which names went: so an entry is made first.
 release_noted() ->
     case get(gone) of
         [] -> ok;
