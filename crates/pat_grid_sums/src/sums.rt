@@ -21,8 +21,8 @@ struct Gathered {
     words: Sequence<u64>,
 }
 
-/// The numbers of the sums of a point of the one list with one of the other. Both are sets as words of bits,
-/// and it takes time in proportion to the square of the words; where `k` is 64 or more a word has one point alone.
+/// The numbers of the sums of a point of the one list with one of the other. Both become sets, as words of bits of all points, and it
+/// takes time in proportion to the square of these words at most; where `k` is 64 or more a word has one point alone.
 pub fn list_sums(
     alloc: Global,
     firsts: &[usize],
@@ -90,7 +90,7 @@ fn sums_of(
     Ok(sums)
 }
 
-/// Adds those of the points of one word, and answers what was gathered for it; many words are the same as the last one.
+/// Adds those of the points of one word, and answers what was gathered last; many words are the same as the one before.
 fn add_row(
     alloc: Global,
     ones: &[u64],

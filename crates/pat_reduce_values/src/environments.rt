@@ -37,8 +37,12 @@ pub fn kept_but(
     let free = code.free_in(node);
     let mut own = Sequence::new(alloc);
     // No more than is kept, since a frame that waits may stay for long.
-    let named = usize::from(var.is_some());
-    own.items.reserve(free.listed.len().saturating_sub(named))?;
+    let left_out = match var {
+        Some(variable) => usize::from(free.contains(variable)),
+        None => 0,
+    };
+    own.items
+        .reserve(free.listed.len().saturating_sub(left_out))?;
     for entry in env {
         if free.contains(entry.0) && var != Some(entry.0) {
             push_copy(alloc, &mut own, entry)?;
@@ -56,7 +60,7 @@ fn push_copy(
     ensures { OnOk result (env_view own.new ≡ env_view own.old ++ (entry.now.0, value_view entry.now.1) ∷ []) }
 {
     own.items.reserve(1)?;
-    // Most are integers and mailboxes, which take no text along.
+    // Most are integers and mailboxes: these are put in place at once, with no result between that may be an error.
     let value = match &entry.1 {
         Value::Int(n) => {
             own.items.push_reserved((entry.0, Value::Int(*n)));

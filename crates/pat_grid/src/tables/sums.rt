@@ -18,7 +18,7 @@ use pat_sequences::Sequence;
 use std::alloc::{AllocError, Global};
 
 // As many pairs for each point of the grid cost about what its sums of sets do.
-pub const PAIRS_A_POINT: usize = 16;
+const PAIRS_A_POINT: usize = 16;
 
 /// Lowers the entries of symbol `s` to what its parts give at each number of the one list with each of the other.
 pub fn relax_either(
@@ -83,8 +83,14 @@ fn is_apart(parts: (usize, usize), s: usize) -> bool
 }
 
 /// Whether there are so many pairs that sums of sets are quicker.
-pub fn are_many(board: &Board, firsts: usize, seconds: usize) -> bool {
+fn are_many(board: &Board, firsts: usize, seconds: usize) -> bool {
     firsts.saturating_mul(seconds) / PAIRS_A_POINT > board.points
+}
+
+/// Whether all numbers of a star's part are better joined with the star's at once than one after another, which grows it quicker: where
+/// the part has many of them, or pairs are more than points.
+pub fn goes_at_once(board: &Board, firsts: usize, seconds: usize) -> bool {
+    firsts.saturating_mul(seconds) > board.points || are_many(board, firsts, board.points)
 }
 
 /// So where there are many pairs, of other symbols.
@@ -221,6 +227,7 @@ fn relax_within(
         (RowsWithin g s parts.0 parts.1 firsts.now seconds.now (length firsts.now)) sizes.old changed.old sizes.new changed.new) }
 {
     if board.limit == 0 {
+        // No two trees have so few nodes together.
         return Ok(());
     }
     let ones = kept_below(alloc, board, &sizes.entries, parts.0, board.limit, firsts)?;

@@ -13,7 +13,7 @@ use crate::tables::entries::lower;
 use crate::tables::listing::known;
 use crate::tables::sizes::{Scratch, Sizes};
 use crate::tables::steps::{relax_part, relax_row};
-use crate::tables::sums::{PAIRS_A_POINT, are_many, relax_either, relax_round};
+use crate::tables::sums::{goes_at_once, relax_either, relax_round};
 use pat_bags::Bag;
 use pat_grid_points::{SparseList, Symbol, next_held, number_of, take};
 use pat_sequences::Sequence;
@@ -187,12 +187,7 @@ fn relax_star(
     let firsts = listed.as_slice();
     lower(board, sizes, s, 0, 1, changed)?;
     known(board, sizes, s, 0, seconds)?;
-    // Once the star has most of its points, all are gone along at once; before, one after another grows it quicker, if they are few.
-    let reach = seconds
-        .len()
-        .saturating_mul(PAIRS_A_POINT)
-        .max(board.points);
-    if are_many(board, firsts.len(), reach) {
+    if goes_at_once(board, firsts.len(), seconds.len()) {
         return relax_round(alloc, board, sizes, seconds, s, part, firsts, changed);
     }
     for first in firsts {

@@ -47,7 +47,7 @@ fn add_term(own: &mut Variables, free: &Sequence<Variables>, core: &Core) -> Res
         Core::Value(e) => add_variables(own, e),
         Core::Print(e) => add_variables(own, e),
         Core::Let { var, bound, body } => {
-            // The body has more of them, which come one behind the other while the list is empty.
+            // The body first: it mostly has more, and into an empty list they go one behind another.
             add_all(own, free, *body, &[], *var)?;
             add_all(own, free, *bound, &[], None)
         }

@@ -62,8 +62,8 @@ relax_round-requires-clause-firsts c =
     star_takes b c.requires.board c.args.s c.args.sizes.now c.args.changed.now c.args.part c.as_slice-firsts.result.now c.requires.symbol
     (subst (Lists (λ i. IsKnown g.limit (entry_at g c.args.sizes.now.entries c.args.part i)) 1 b.points) (sym c.as_slice-firsts.ensures) c.in_ok-known.ensures)
 
-pub returns-then-are_many : goal.returns-then-are_many
-returns-then-are_many c =
+pub returns-then-goes_at_once : goal.returns-then-goes_at_once
+returns-then-goes_at_once c =
     let b = c.args.board.now in
     let g = setting_of b in
     let firsts = c.as_slice-firsts.result.now in
