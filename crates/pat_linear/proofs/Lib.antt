@@ -11,3 +11,5 @@ mod ListsOn
 mod StarOfWords
 mod FormOfParts
 mod Multiplied
+mod Together
+mod Walked
