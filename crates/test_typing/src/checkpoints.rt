@@ -1,4 +1,4 @@
 // Texts of checkpoints, read and examined: each rule broken once, and bad lines. Tests only.
 
 mod looked;
-mod tests;
+pub mod tests;

@@ -1,3 +1,3 @@
 // Texts of programs, with what `check` and `derive` answer: each kind of refusal, and derivations in both forms. Tests only.
 
-mod tests;
+pub mod tests;

@@ -1,4 +1,4 @@
 // Texts of derivations, read and judged: each rule broken once, bad lines, and the fronts of a text. Tests only.
 
 mod judged;
-mod tests;
+pub mod tests;

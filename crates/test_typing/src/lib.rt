@@ -1,4 +1,4 @@
-//! What `check`, `derive` and `verify` answer on whole inputs, and derivations and checkpoints judged.
+//! Inference of whole texts, what `check`, `derive` and `verify` answer on whole inputs, and derivations and checkpoints judged.
 #![tactic(auto)]
 
 #[cfg(test)]
@@ -10,4 +10,11 @@ mod checks;
 #[cfg(test)]
 mod derivations;
 #[cfg(test)]
+mod inference;
+mod programs;
+#[cfg(test)]
+mod tests;
+#[cfg(test)]
 mod verify;
+
+pub use programs::program_of_text;

@@ -1,3 +1,3 @@
 // `verify` on whole inputs.
 
-mod rows;
+pub mod rows;

@@ -1,12 +1,12 @@
 use crate::checking::check;
 use crate::checkpoints::looked::answer;
+use crate::programs::program_of_text;
 use pat_core::Program;
 use pat_deriv::read;
 use pat_derivations::Derivation;
 use std::alloc::{AllocError, Global};
 use std::process::Abort;
 use std::test::Fail;
-use test_inference::program_of_text;
 
 // A program that sends itself a message, and its derivation.
 const SENDS: &str =
@@ -123,7 +123,10 @@ fn derivation_of(rt: &impl Abort, alloc: Global, program: &Program, text: &[u8])
     }
 }
 
-fn try_rows(rt: &impl Abort, alloc: Global) -> Result<(), AllocError> {
+pub fn checkpoints_are_read_and_looked_at(
+    rt: &impl Abort,
+    alloc: Global,
+) -> Result<(), AllocError> {
     let Some(program) = program_of_text(alloc, SENDS.as_bytes().to_vec(alloc)?) else {
         panic!(rt; "no program");
     };
@@ -132,11 +135,5 @@ fn try_rows(rt: &impl Abort, alloc: Global) -> Result<(), AllocError> {
         let came = answer(rt, alloc, &program, &derivation, text.as_bytes())?;
         check(rt, came.as_str() == *wanted);
     }
-    Ok(())
-}
-
-#[test]
-fn checkpoints_are_read_and_looked_at(rt: HostRuntime) -> Result<(), Fail> {
-    try_rows(&rt, rt.alloc())?;
     Ok(())
 }

@@ -1,9 +1,9 @@
 use crate::checking::check;
 use crate::derivations::judged::answer;
+use crate::programs::program_of_text;
 use std::alloc::{AllocError, Global};
 use std::process::Abort;
 use std::test::Fail;
-use test_inference::program_of_text;
 
 const ONE: &str =
     "interface I { m() } def main(): Unit { let a = new[I] in a ! m(); guard a : m { receive m() from b -> free(b) } }";
@@ -333,8 +333,7 @@ fn check_rows(
     Ok(())
 }
 
-#[test]
-fn texts_come_to_their_answers(rt: HostRuntime) -> Result<(), Fail> {
-    check_rows(&rt, rt.alloc(), DERIVATIONS)?;
+pub fn texts_come_to_their_answers(rt: &impl Abort, alloc: Global) -> Result<(), Fail> {
+    check_rows(rt, alloc, DERIVATIONS)?;
     Ok(())
 }

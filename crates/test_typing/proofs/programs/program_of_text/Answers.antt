@@ -1,4 +1,4 @@
-use Rattle.test_inference.proofs.programs.program_of_text.Goals as goal
+use Rattle.test_typing.proofs.programs.program_of_text.Goals as goal
 
 pub program_of-requires : goal.program_of-requires
 program_of-requires c =

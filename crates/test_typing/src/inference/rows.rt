@@ -1,6 +1,6 @@
 use crate::checking::check;
+use crate::inference::written::written;
 use crate::programs::program_of_text;
-use crate::written::written;
 use pat_infer::constraints;
 use pat_infer_problems::{InferError, Rule};
 use std::alloc::{AllocError, Global};
@@ -379,9 +379,8 @@ fn joined(alloc: Global, lines: &[&str]) -> Result<String, AllocError> {
     Ok(all)
 }
 
-#[test]
-fn texts_are_inferred(rt: HostRuntime) -> Result<(), Fail> {
-    check_broken(&rt, rt.alloc())?;
-    check_solved(&rt, rt.alloc())?;
+pub fn texts_are_inferred(rt: &impl Abort, alloc: Global) -> Result<(), Fail> {
+    check_broken(rt, alloc)?;
+    check_solved(rt, alloc)?;
     Ok(())
 }
