@@ -1,3 +1,3 @@
 // Grids on worked rows, with answers by hand, and at the greatest number of points.
 
-mod worked;
+pub mod worked;

@@ -1,7 +1,5 @@
-// Closed forms, covers and refutations on rows worked by hand, and on small random patterns.
+// Closed forms, covers and refutations on rows worked by hand.
 
-mod covers;
-mod forms;
-mod random;
-mod refutations;
-mod table;
+pub mod covers;
+pub mod forms;
+pub mod refutations;

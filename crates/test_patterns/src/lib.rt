@@ -13,3 +13,5 @@ mod patterns;
 mod searches;
 #[cfg(test)]
 mod spelling;
+#[cfg(test)]
+mod tests;

@@ -1,3 +1,3 @@
 // Patterns on worked rows, with answers by hand.
 
-mod worked;
+pub mod worked;

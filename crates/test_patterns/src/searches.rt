@@ -1,3 +1,3 @@
 // Searches for refutations on rows worked by hand, and where the least tree is as large as it may be.
 
-mod worked;
+pub mod worked;

@@ -21,7 +21,7 @@ pub fn pattern(alloc: Global, text: &str) -> Result<Pattern, AllocError> {
 }
 
 /// Puts the pattern of the letter on the stack, in the place of its parts.
-pub fn push_letter(alloc: Global, letter: u8, done: &mut Vec<Pattern>) -> Result<(), AllocError> {
+fn push_letter(alloc: Global, letter: u8, done: &mut Vec<Pattern>) -> Result<(), AllocError> {
     let right = match letter {
         b'+' | b'.' => take(done),
         _ => Pattern::Zero,
@@ -41,7 +41,7 @@ pub fn push_letter(alloc: Global, letter: u8, done: &mut Vec<Pattern>) -> Result
 }
 
 /// Takes the pattern on top, or 0.
-pub fn take(done: &mut Vec<Pattern>) -> Pattern {
+fn take(done: &mut Vec<Pattern>) -> Pattern {
     done.pop().unwrap_or(Pattern::Zero)
 }
 

@@ -131,39 +131,37 @@ fn shows(
     Ok(())
 }
 
-#[test]
-fn grids_by_hand(rt: HostRuntime) -> Result<(), Fail> {
-    let alloc = rt.alloc();
-    evaluates(&rt, alloc, "mn*.", 2, 2, &[(1, 0), (1, 1), (1, 2)])?;
-    evaluates(&rt, alloc, "0", 2, 2, &[])?;
-    evaluates(&rt, alloc, "1", 1, 1, &[(0, 0)])?;
-    evaluates(&rt, alloc, "mm.", 1, 1, &[(1, 0)])?;
-    evaluates(&rt, alloc, "mn.*", 2, 2, &[(0, 0), (1, 1), (2, 2)])?;
-    evaluates(&rt, alloc, "mn+", 3, 2, &[(0, 1), (1, 0)])?;
-    evaluates(&rt, alloc, "mm.*", 3, 1, &[(0, 0), (2, 0), (3, 0)])?;
-    derives(&rt, alloc, "m$.1+", 2, 1, &[(0, 0), (1, 0), (2, 0)])?;
-    derives(&rt, alloc, "m$.", 2, 1, &[])?;
-    derives(&rt, alloc, "mn.$.m+", 2, 2, &[(1, 0), (2, 1), (2, 2)])?;
-    shows(&rt, alloc, "mm.", "m*", 1, 1, true)?;
-    shows(&rt, alloc, "mm.", "m", 2, 1, false)?;
-    shows(&rt, alloc, "m*", "1mm*.+", 2, 1, true)?;
-    shows(&rt, alloc, "m*", "1mm*.+", 1, 1, false)?;
-    shows(&rt, alloc, "mm.*", "mm.*", 3, 1, false)?;
-    shows(&rt, alloc, "mn.*", "mn+*", 1, 2, true)?;
-    shows(&rt, alloc, "mn+*", "m*n.1+", 2, 2, false)?;
-    shows(&rt, alloc, "0", "0", 1, 1, true)?;
+pub fn grids_by_hand(rt: &impl Abort, alloc: Global) -> Result<(), Fail> {
+    evaluates(rt, alloc, "mn*.", 2, 2, &[(1, 0), (1, 1), (1, 2)])?;
+    evaluates(rt, alloc, "0", 2, 2, &[])?;
+    evaluates(rt, alloc, "1", 1, 1, &[(0, 0)])?;
+    evaluates(rt, alloc, "mm.", 1, 1, &[(1, 0)])?;
+    evaluates(rt, alloc, "mn.*", 2, 2, &[(0, 0), (1, 1), (2, 2)])?;
+    evaluates(rt, alloc, "mn+", 3, 2, &[(0, 1), (1, 0)])?;
+    evaluates(rt, alloc, "mm.*", 3, 1, &[(0, 0), (2, 0), (3, 0)])?;
+    derives(rt, alloc, "m$.1+", 2, 1, &[(0, 0), (1, 0), (2, 0)])?;
+    derives(rt, alloc, "m$.", 2, 1, &[])?;
+    derives(rt, alloc, "mn.$.m+", 2, 2, &[(1, 0), (2, 1), (2, 2)])?;
+    shows(rt, alloc, "mm.", "m*", 1, 1, true)?;
+    shows(rt, alloc, "mm.", "m", 2, 1, false)?;
+    shows(rt, alloc, "m*", "1mm*.+", 2, 1, true)?;
+    shows(rt, alloc, "m*", "1mm*.+", 1, 1, false)?;
+    shows(rt, alloc, "mm.*", "mm.*", 3, 1, false)?;
+    shows(rt, alloc, "mn.*", "mn+*", 1, 2, true)?;
+    shows(rt, alloc, "mn+*", "m*n.1+", 2, 2, false)?;
+    shows(rt, alloc, "0", "0", 1, 1, true)?;
     // With a count of at most 4 for each of seven tags there would be 78,125 points.
     check(
-        &rt,
+        rt,
         is_grid(1, 16) && is_grid(65535, 1) && is_grid(3, 8) && is_grid(4, 6),
     );
     check(
-        &rt,
+        rt,
         !is_grid(1, 17) && !is_grid(65536, 1) && !is_grid(4, 7) && !is_grid(0, 1),
     );
-    counts_spelled(&rt, alloc, "m*", 65535, 1, 65536)?;
-    counts(&rt, alloc, &sixteen_tags(alloc)?, 1, 16, 65536)?;
-    counts_spelled(&rt, alloc, "mn+o+p+q+r+s+t+*", 3, 8, 65536)?;
-    counts_spelled(&rt, alloc, "mn+o+p+q+r+*", 4, 6, 15625)?;
+    counts_spelled(rt, alloc, "m*", 65535, 1, 65536)?;
+    counts(rt, alloc, &sixteen_tags(alloc)?, 1, 16, 65536)?;
+    counts_spelled(rt, alloc, "mn+o+p+q+r+s+t+*", 3, 8, 65536)?;
+    counts_spelled(rt, alloc, "mn+o+p+q+r+*", 4, 6, 15625)?;
     Ok(())
 }

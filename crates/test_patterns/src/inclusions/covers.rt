@@ -16,7 +16,7 @@ fn form_of(rt: &impl Abort, alloc: Global, text: &str) -> Result<Sequence<Linear
 }
 
 /// A cover of the left sets by the right ones, if there is one, of fewer sets than numbers go.
-pub fn cover_of(
+fn cover_of(
     rt: &impl Abort,
     alloc: Global,
     left: &[LinearSet],

@@ -203,25 +203,23 @@ const FACTS: &[(&str, Facts)] = &[
     ),
 ];
 
-#[test]
-fn answers_the_worked_rows(rt: HostRuntime) -> Result<(), Fail> {
-    let alloc = rt.alloc();
+pub fn answers_the_worked_rows(rt: &impl Abort, alloc: Global) -> Result<(), Fail> {
     for (text, tag, rest) in RESIDUALS {
-        leaves(&rt, alloc, text, *tag, rest)?;
+        leaves(rt, alloc, text, *tag, rest)?;
     }
     for (text, m, n, want) in MEMBERS {
-        has(&rt, alloc, text, &bag(*m, *n), *want)?;
+        has(rt, alloc, text, &bag(*m, *n), *want)?;
     }
     for (text, received, free, want) in COVERS {
-        covered(&rt, alloc, text, *received, *free, *want)?;
+        covered(rt, alloc, text, *received, *free, *want)?;
     }
     for (text, value, want) in VALUES {
-        becomes(&rt, alloc, text, value, want)?;
+        becomes(rt, alloc, text, value, want)?;
     }
     for (text, facts) in FACTS {
-        reads(&rt, alloc, text, facts)?;
+        reads(rt, alloc, text, facts)?;
     }
-    counts_messages(&rt)
+    counts_messages(rt)
 }
 
 /// What the calls on bags say of a few counts.

@@ -121,33 +121,22 @@ fn row(
     finds(rt, alloc, lower, left, &f, k, tags, want)
 }
 
-#[test]
-fn searches_by_hand(rt: HostRuntime) -> Result<(), Fail> {
-    let alloc = rt.alloc();
-    row(&rt, alloc, "0", "mm.", "m", 2, 1, Want::Word(2, 0))?;
-    row(&rt, alloc, "0", "mm.", "mm.", 3, 1, Want::Inside)?;
-    row(&rt, alloc, "0", "m*", "1", 1, 1, Want::Word(1, 0))?;
-    row(&rt, alloc, "0", "1", "m", 2, 1, Want::Word(0, 0))?;
-    row(&rt, alloc, "0", "mn+", "m", 2, 2, Want::Word(0, 1))?;
-    row(&rt, alloc, "0", "mn+*", "m*n*.", 1, 2, Want::Inside)?;
-    row(&rt, alloc, "0", "mn.*", "m*", 1, 2, Want::Word(1, 1))?;
-    row(&rt, alloc, "m$.1+", "$", "1", 1, 1, Want::Word(1, 0))?;
-    row(&rt, alloc, "m$.1+", "$", "1m+", 2, 1, Want::Word(2, 0))?;
-    row(&rt, alloc, "m$.1+", "$", "m*", 1, 1, Want::Inside)?;
-    row(&rt, alloc, "m$.", "$", "0", 1, 1, Want::Inside)?;
+pub fn searches_by_hand(rt: &impl Abort, alloc: Global) -> Result<(), Fail> {
+    row(rt, alloc, "0", "mm.", "m", 2, 1, Want::Word(2, 0))?;
+    row(rt, alloc, "0", "mm.", "mm.", 3, 1, Want::Inside)?;
+    row(rt, alloc, "0", "m*", "1", 1, 1, Want::Word(1, 0))?;
+    row(rt, alloc, "0", "1", "m", 2, 1, Want::Word(0, 0))?;
+    row(rt, alloc, "0", "mn+", "m", 2, 2, Want::Word(0, 1))?;
+    row(rt, alloc, "0", "mn+*", "m*n*.", 1, 2, Want::Inside)?;
+    row(rt, alloc, "0", "mn.*", "m*", 1, 2, Want::Word(1, 1))?;
+    row(rt, alloc, "m$.1+", "$", "1", 1, 1, Want::Word(1, 0))?;
+    row(rt, alloc, "m$.1+", "$", "1m+", 2, 1, Want::Word(2, 0))?;
+    row(rt, alloc, "m$.1+", "$", "m*", 1, 1, Want::Inside)?;
+    row(rt, alloc, "m$.", "$", "0", 1, 1, Want::Inside)?;
     // The word of 2,047 messages has a tree of 4,095 nodes as a star.
     let right = at_most(alloc, 2046)?;
-    finds(&rt, alloc, "0", "m*", &right, 2047, 1, Want::Word(2047, 0))?;
-    finds(
-        &rt,
-        alloc,
-        "0",
-        "m*0+",
-        &right,
-        2047,
-        1,
-        Want::Word(2047, 0),
-    )?;
-    finds(&rt, alloc, "0", "m*1.", &right, 2047, 1, Want::Large)?;
+    finds(rt, alloc, "0", "m*", &right, 2047, 1, Want::Word(2047, 0))?;
+    finds(rt, alloc, "0", "m*0+", &right, 2047, 1, Want::Word(2047, 0))?;
+    finds(rt, alloc, "0", "m*1.", &right, 2047, 1, Want::Large)?;
     Ok(())
 }
