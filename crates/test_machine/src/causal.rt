@@ -1,5 +1,4 @@
 // Independent commits, with answers by hand.
 
-mod histories;
-mod pairs;
-mod tests;
+pub mod histories;
+pub mod pairs;

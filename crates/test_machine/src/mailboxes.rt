@@ -1,4 +1,3 @@
 // Mailboxes called in a row, with answers by hand.
 
-mod mailboxes;
-mod tests;
+pub mod mailboxes;
