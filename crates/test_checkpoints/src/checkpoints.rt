@@ -13,11 +13,11 @@ use std::test::Fail;
 use std::thread::Threads;
 
 // A program that sends itself a message.
-const SENDS: &[u8] =
+pub const SENDS: &[u8] =
     b"interface I { m() }\ndef main(): Unit { let a = new[I] in a ! m(); guard a : m { receive m() from b -> free(b) } }\n";
 
 // Its derivation.
-const DERIVED: &[u8] =
+pub const DERIVED: &[u8] =
     b"%%derivation\nvar 1 I 1\nnode 0 Unit {}\nnode 1 I?$1 {}\nnode 2 Unit {v0: I?$1 ret}\nnode 3 Unit {v0: I!m sec}\nnode 4 Unit {v0: I?m ret}\nnode 5 Unit {v1: I?1 ret}\nnode 6 Unit {}\n";
 
 // Where five steps of it lead: the message is sent, and the guard is next.

@@ -8,4 +8,6 @@ mod checking;
 #[cfg(test)]
 mod checkpoints;
 #[cfg(test)]
+mod pieces;
+#[cfg(test)]
 mod tests;
