@@ -40,7 +40,7 @@ pub struct Piece {
     pub interfaces: Sequence<u32>,
 }
 
-// Where a history leads, and the interface of each mailbox that is live there.
+/// Where a history leads, and the interface of each mailbox that is live there.
 #[derive(Drop)]
 pub struct Led {
     pub replayed: Replayed,
