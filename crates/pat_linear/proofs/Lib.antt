@@ -11,3 +11,6 @@ mod ListsOn
 mod StarOfWords
 mod FormOfParts
 mod Multiplied
+mod Together
+mod Walked
+mod Turns

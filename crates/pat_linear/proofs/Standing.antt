@@ -72,7 +72,7 @@ short_down n = record {
 }
 
 -- size and levels of a small pattern
-sizes : (e : Pat) → is_small e ≡ true → (size_of e ≤ most_nodes) × (levels_of e ≤ most_levels)
+pub sizes : (e : Pat) → is_small e ≡ true → (size_of e ≤ most_nodes) × (levels_of e ≤ most_levels)
 sizes e h =
     let p = and_parts _ _ h in
     (leb-true (size_of e) most_nodes p.0, leb-true (levels_of e) most_levels p.1)

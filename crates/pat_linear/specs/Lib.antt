@@ -3,3 +3,4 @@ pub mod Rooms
 pub mod Forms
 pub mod Flat
 pub mod WordSets
+pub mod Along

@@ -15,6 +15,7 @@ ghost use Rattle.pat_linear.specs.Flat.{top_of};
 ghost use Rattle.pat_linear.specs.WordSets.{IsWord};
 ghost use Rattle.pat_linear.specs.Forms.{GivesForm, GivesSets, GivesTop, Joins, CanJoin};
 
+use crate::along::form_along;
 use crate::error::FormError;
 use crate::flat::Lists;
 use crate::products::products;
@@ -51,6 +52,9 @@ fn is_small(p: &Pattern, nodes: u32) -> bool
 // The sets for which there is room at first: most patterns need no more.
 const FEW: usize = 6;
 
+// The form of a pattern with more nodes is made along its right parts.
+const FEW_NODES: usize = 64;
+
 // So many levels of a pattern are walked down by calls. What is deeper is made along a list of heads.
 const MOST_CALLS: u32 = 64;
 
@@ -60,7 +64,19 @@ fn form_of(alloc: Global, p: &Pattern, nodes: usize) -> Result<Sequence<LinearSe
     requires tags { IsTrue (tags_below most_tags (pattern_view p.now)) }
     ensures { GivesSets result (lists_are_short most_tags (pattern_view p.now)) (sets_of most_tags (pattern_view p.now)) }
 {
-    let mut done = Lists::with_room(alloc, nodes.min(FEW))?;
+    if nodes > FEW_NODES {
+        return form_along(alloc, p);
+    }
+    part_form(alloc, p, nodes.min(FEW))
+}
+
+/// The closed form of a small pattern, made of those of its parts, with room for so many sets at first.
+pub fn part_form(alloc: Global, p: &Pattern, room: usize) -> Result<Sequence<LinearSet>, FormError>
+    requires small { IsTrue (is_small_of (pattern_view p.now)) }
+    requires tags { IsTrue (tags_below most_tags (pattern_view p.now)) }
+    ensures { GivesSets result (lists_are_short most_tags (pattern_view p.now)) (sets_of most_tags (pattern_view p.now)) }
+{
+    let mut done = Lists::with_room(alloc, room)?;
     put_form(alloc, p, MOST_CALLS, &mut done)?;
     Ok(done.into_sets())
 }

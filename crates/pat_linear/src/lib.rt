@@ -1,6 +1,7 @@
 //! Linear sets of words, and the closed form of a pattern: linear sets that together have its words.
 #![tactic(auto)]
 
+mod along;
 mod comparing;
 mod error;
 mod flat;

@@ -79,7 +79,7 @@ fn one_product(
 }
 
 /// Appends the products of a set with each of the others.
-fn push_row(
+pub fn push_row(
     alloc: Global,
     a: &LinearSet,
     bs: &[LinearSet],
