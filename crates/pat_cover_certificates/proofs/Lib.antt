@@ -4,3 +4,4 @@ mod Making
 mod Standing
 mod Ending
 mod OnePeriod
+mod Indexing

@@ -14,7 +14,8 @@ use Rattle.pat_linear.specs.Views.{words_of}
 use Rattle.pat_cover_certificates.specs.declared.coefficients.failed.Note.{Note}
 use Rattle.pat_cover_certificates.specs.declared.coefficients.frames.Frame.{Frame}
 use Rattle.pat_cover_certificates.specs.coefficients.Numbers.{NoNumbers, tags_occur}
-use Rattle.pat_cover_certificates.specs.coefficients.Frames.{left_of, to_come, Stands, CameToNothing}
+use Rattle.pat_cover_certificates.specs.coefficients.Frames.{left_of, to_come, Stands, CameToNothing, GoesOn}
+use Rattle.pat_limits.specs.Limits.{number_count}
 use Rattle.pat_cover_certificates.proofs.Making.{made, makes_by, take_first}
 
 -- there are no more frames than periods
@@ -109,7 +110,27 @@ above n a m q ps cs v w e l h t b =
     split : (a m : ℕ) → a < m → m ≡ (m - suc a) + suc a
     split a m l = omega arith
 
-pub ends_here : (n : ℕ) (ps : List Word) (w : Word) (fs : List Frame) (f : Frame) (p : Word) → Stands n ps w (fs ++ f ∷ []) → slice_get ps (length fs) ≡ Some p → (p ≡ no_word) ⊎ (((t : ℕ) → t < n → p t ≤ word_of f.left t) → ⊥) → NoNumbers n (to_come ps (fs ++ f ∷ [])) (left_of w (fs ++ f ∷ [])) → NoNumbers n (to_come ps fs) (left_of w fs)
+-- what is left once one more is taken isn't made from there on
+taken_more : (n a m : ℕ) (q : Word) (ps : List Word) (cs : List ℕ) (u v w : Word) → plus v (scaled a q) ≡ w → plus u q ≡ v → a < m → makes n (q ∷ ps) (m ∷ cs) w ≡ true → NoNumbers n (q ∷ ps) u → ⊥
+taken_more n a m q ps cs u v w e one l h none =
+    let made_by = made n (q ∷ ps) (m ∷ cs) w h in
+    let many = made_by.0 in
+    none ((m - suc a) ∷ cs) (makes_by n (q ∷ ps) ((m - suc a) ∷ cs) u (omega arith) (λ t b.
+    let x = made_by.1 t b in
+    let y = count_eq (plus v (scaled a q)) w e t in
+    let o = count_eq (plus u q) v one t in
+    let z : m * q t ≡ (m - suc a) * q t + (a * q t + q t) = ap (λ c. c * q t) (split a m l) ∙ add-mul (m - suc a) (suc a) (q t) ∙ ap (λ c. (m - suc a) * q t + c) (suc-mul a (q t)) in
+    omega arith))
+  where
+    split : (a m : ℕ) → a < m → m ≡ (m - suc a) + suc a
+    split a m l = omega arith
+
+-- one more can't be taken, or comes to nothing
+abbrev pub Ends : ℕ → List Word → Frame → Word → Type 0
+Ends n coming f p =
+    ((p ≡ no_word) ⊎ (((t : ℕ) → t < n → p t ≤ word_of f.left t) → ⊥)) ⊎ ((v : Word) × (plus v p ≡ word_of f.left) × NoNumbers n coming v)
+
+pub ends_here : (n : ℕ) (ps : List Word) (w : Word) (fs : List Frame) (f : Frame) (p : Word) → Stands n ps w (fs ++ f ∷ []) → slice_get ps (length fs) ≡ Some p → Ends n (to_come ps fs) f p → NoNumbers n (to_come ps (fs ++ f ∷ [])) (left_of w (fs ++ f ∷ [])) → NoNumbers n (to_come ps fs) (left_of w fs)
 ends_here n [] w [] f p s at e none cs k = absurd s
 ends_here n [] w (g ∷ fs) f p s at e none cs k = absurd s
 ends_here n (q ∷ ps) w [] f p s at e none [] k = let l = (made n (q ∷ ps) [] w k).0 in absurd (omega arith)
@@ -119,8 +140,11 @@ ends_here n (q ∷ ps) w [] f p s at e none (m ∷ cs) k =
     (λ (l : m < f.number). s.1 m l cs k)
     (λ r. ⊎_elim
     (λ (l : f.number < m). ⊎_elim
+    (λ a. ⊎_elim
     (λ z. none cs (empty (sym same ∙ z)))
     (λ o. o (subst (λ (x : Word). (t : ℕ) → t < n → x t ≤ word_of f.left t) (sym same) (above n f.number m q ps cs (word_of f.left) w s.0 l k)))
+    a)
+    (λ r. taken_more n f.number m q ps cs r.0 (word_of f.left) w s.0 (subst (λ (x : Word). plus r.0 x ≡ word_of f.left) same r.1) l k r.2)
     e)
     (λ b. let here : m ≡ f.number = omega arith in
     none cs (take_first n f.number q ps cs (word_of f.left) w s.0 (subst (λ c. makes n (q ∷ ps) (c ∷ cs) w ≡ true) here k)))
@@ -166,6 +190,52 @@ last_before n [] w [] f s = absurd s
 last_before n [] w (g ∷ fs) f s = absurd s
 last_before n (p ∷ ps) w [] f s = s.3
 last_before n (p ∷ ps) w (g ∷ fs) f s = last_before n ps (word_of g.left) fs f s.2
+
+-- what it takes and leaves is what was left before
+pub last_whole : (n : ℕ) (ps : List Word) (w : Word) (fs : List Frame) (f : Frame) (p : Word) → Stands n ps w (fs ++ f ∷ []) → slice_get ps (length fs) ≡ Some p → plus (word_of f.left) (scaled f.number p) ≡ word_of f.before
+last_whole n [] w [] f p s at = absurd s
+last_whole n [] w (g ∷ fs) f p s at = absurd s
+last_whole n (q ∷ ps) w [] f p s at =
+    let same : q ≡ p = cc in
+    subst (λ (r : Word). plus (word_of f.left) (scaled f.number r) ≡ word_of f.before) same (s.0 ∙ sym s.3)
+last_whole n (q ∷ ps) w (g ∷ fs) f p s at = last_whole n ps (word_of g.left) fs f p s.2 at
+
+-- what is not made with more of a period isn't made with less
+pub lower : (n : ℕ) (ps : List Word) (i k : ℕ) (p v w : Word) → slice_get ps i ≡ Some p → plus v (scaled k p) ≡ w → NoNumbers n (drop i ps) w → NoNumbers n (drop i ps) v
+lower n [] i k p v w at e none cs h = absurd (cc)
+lower n (q ∷ ps) zero k p v w at e none [] h = let l = (made n (q ∷ ps) [] v h).0 in absurd (omega arith)
+lower n (q ∷ ps) zero k p v w at e none (c ∷ cs) h =
+    let same : p ≡ q = cc in
+    let m = made n (q ∷ ps) (c ∷ cs) v h in
+    let many = m.0 in
+    let whole : plus v (scaled k q) ≡ w = subst (λ (r : Word). plus v (scaled k r) ≡ w) same e in
+    none ((c + k) ∷ cs) (makes_by n (q ∷ ps) ((c + k) ∷ cs) w (omega arith) (λ t b.
+    let x = m.1 t b in
+    let y = count_eq (plus v (scaled k q)) w whole t in
+    let z = add-mul c k (q t) in
+    omega arith))
+lower n (q ∷ ps) (suc i) k p v w at e none cs h = lower n ps i k p v w at e none cs h
+
+-- with one more of a period there is one fewer of them to come
+one_fewer : (k : ℕ) (p : Word) (t : ℕ) → 0 < k → k * p t ≡ (k - 1) * p t + p t
+one_fewer k p t l = ap (λ c. c * p t) (split k l) ∙ suc-mul (k - 1) (p t)
+  where
+    split : (k : ℕ) → 0 < k → k ≡ suc (k - 1)
+    split k l = omega arith
+
+pub fewer : (k : ℕ) (p u v w : Word) → 0 < k → plus v (scaled k p) ≡ w → u ≡ plus v p → plus u (scaled (k - 1) p) ≡ w
+fewer k p u v w l e one =
+    word_ext (plus u (scaled (k - 1) p)) w (λ t.
+    let x = count_eq (plus v (scaled k p)) w e t in
+    let y = count_eq u (plus v p) one t in
+    let z = one_fewer k p t l in
+    omega arith)
+
+pub fits_more : (k : ℕ) (p v w : Word) (t : ℕ) → 0 < k → plus v (scaled k p) ≡ w → w t < number_count → v t + p t < number_count
+fits_more k p v w t l e b =
+    let x = count_eq (plus v (scaled k p)) w e t in
+    let z = one_fewer k p t l in
+    omega arith
 
 -- ---- what came to nothing
 
@@ -232,3 +302,11 @@ nothing_at_all n bs (f ∷ fs) w e h = absurd (omega arith)
 -- the test of the periods from a place on
 pub test_says : (n : ℕ) (bs : List Bag) (i : ℕ) (left : Word) (test : Bool) → test ≡ tags_occur n (words_of (take (length bs - i) (drop i bs))) left → test ≡ tags_occur n (words_of (drop i bs)) left
 test_says n bs i left test h = h ∙ ap (λ l. tags_occur n (words_of l) left) (take_rest bs i)
+
+-- one more of the last frame's period can't be taken, or comes to nothing
+pub goes_ends : (bs : List Bag) (fs : List Frame) (f : Frame) (p : Word) (i : ℕ) → i ≡ length fs → GoesOn most_tags (words_of bs) i f p None → Ends most_tags (to_come (words_of bs) fs) f p
+goes_ends bs fs f p i here e =
+    ⊎_elim
+    (λ (a : (p ≡ no_word) ⊎ (((t : ℕ) → t < most_tags → p t ≤ word_of f.left t) → ⊥)). inl a)
+    (λ (r : (v : Word) × (plus v p ≡ word_of f.left) × NoNumbers most_tags (drop i (words_of bs)) v). inr (r.0, r.1, subst (λ l. NoNumbers most_tags l r.0) (from_here bs fs i here) r.2))
+    e

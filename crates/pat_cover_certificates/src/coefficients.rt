@@ -7,4 +7,4 @@ mod single;
 mod tags;
 
 pub use numbers::find_numbers;
-pub use tags::tags_are_few;
+pub use tags::{counts_are_all, tags_are_few};

@@ -1,15 +1,17 @@
 // The search for a direct cover.
-ghost use Rattle.std.specs.Prelude.{◌≡◌, ◌↔◌, true, ◌<◌, ◌^◌, None, length, IfOk, IfSome, IsSome, IsTrue};
+ghost use Rattle.std.specs.Prelude.{◌≡◌, ◌↔◌, true, ◌<◌, ◌^◌, Some, None, length, IfOk, IfSome, IsSome, IsTrue};
 ghost use Rattle.pat_bags.specs.Views.{word_of};
 ghost use Rattle.pat_inclusion_spec.specs.Counts.{most_tags};
 ghost use Rattle.pat_inclusion_spec.specs.Covers.{is_cover, IsDirectlyCovered};
 ghost use Rattle.pat_linear.specs.Views.{words_of, set_view, sets_view};
 ghost use Rattle.pat_cover_certificates.specs.Views.{entries_view, entry_if, cover_if};
+ghost use Rattle.pat_cover_certificates.specs.Indexes.{place_of, Indexes, AreRising, FindsAmong};
 ghost use Rattle.pat_cover_certificates.specs.Firsts.{FindsFrom, FindsEach, FindsEntryIn, FindsEntry, FindsCover};
 
-use crate::coefficients::{find_numbers, tags_are_few};
+use crate::coefficients::{counts_are_all, find_numbers, tags_are_few};
 use crate::cover::CoverEntry;
 use crate::few_tags::sets_are_few;
+use crate::set_index::{SetIndex, index_of};
 use pat_bags::Bag;
 use pat_linear::{LinearSet, same_counts};
 use pat_sequences::Sequence;
@@ -30,7 +32,8 @@ pub fn find_cover(
 {
     sets_are_few(left);
     sets_are_few(right);
-    entries_for(alloc, left, right)
+    let index = index_of(alloc, right)?;
+    entries_for(alloc, left, right, &index)
 }
 
 /// For each set of the left its first entry, if there are any.
@@ -38,13 +41,15 @@ fn entries_for(
     alloc: Global,
     left: &[LinearSet],
     right: &[LinearSet],
+    index: &SetIndex,
 ) -> Result<Option<Sequence<CoverEntry>>, AllocError>
-    requires { length right.now < 2 ^ 32 }
+    requires few { length right.now < 2 ^ 32 }
+    requires index { Indexes right.now (length right.now) index.now.by_base.entries index.now.others }
     ensures { IfOk result (λ found. FindsCover most_tags (sets_view left.now) (sets_view right.now) (cover_if found)) }
 {
     let mut cover = Sequence::new(alloc);
     for set in left {
-        match entry_for(alloc, set, right)? {
+        match entry_for(alloc, set, right, index)? {
             None => return Ok(None),
             Some(entry) => cover.push(entry)?,
         }
@@ -52,19 +57,65 @@ fn entries_for(
     Ok(Some(cover))
 }
 
-/// The first entry that shows that the set lies in one of the others, if there is one.
+/// The first entry that shows that the set lies in one of the right ones, if there is one.
 fn entry_for(
     alloc: Global,
     set: &LinearSet,
     right: &[LinearSet],
+    index: &SetIndex,
 ) -> Result<Option<CoverEntry>, AllocError>
-    requires { length right.now < 2 ^ 32 }
+    requires few { length right.now < 2 ^ 32 }
+    requires index { Indexes right.now (length right.now) index.now.by_base.entries index.now.others }
     ensures { IfOk result (λ found. FindsEntry most_tags (set_view set.now) (sets_view right.now) (entry_if found)) }
 {
-    let mut place = 0;
-    for other in right {
-        match entry_in(alloc, set, other, place)? {
-            None => place += 1,
+    counts_are_all(&set.base);
+    match index.by_base.get(set.base.counts.as_slice()) {
+        None => entry_among(alloc, set, right, index.others.as_slice(), right.len()),
+        Some(place) => entry_up_to(alloc, set, right, index, *place),
+    }
+}
+
+/// The same where the first set that holds just the set's base stands at this place.
+fn entry_up_to(
+    alloc: Global,
+    set: &LinearSet,
+    right: &[LinearSet],
+    index: &SetIndex,
+    place: u32,
+) -> Result<Option<CoverEntry>, AllocError>
+    requires index { Indexes right.now (length right.now) index.now.by_base.entries index.now.others }
+    requires place { place_of index.now.by_base.entries set.now.base.counts ≡ Some place }
+    requires counts { length set.now.base.counts ≡ 32 }
+    ensures { IfOk result (λ found. FindsEntry most_tags (set_view set.now) (sets_view right.now) (entry_if found)) }
+{
+    let others = index.others.as_slice();
+    match entry_in(alloc, set, &right[place as usize], place)? {
+        None => entry_among(alloc, set, right, others, right.len()),
+        Some(entry) => match entry_among(alloc, set, right, others, place as usize)? {
+            None => Ok(Some(entry)),
+            Some(earlier) => Ok(Some(earlier)),
+        },
+    }
+}
+
+/// The first entry that shows that the set lies in one of those at the others' places before the end, if there is one.
+fn entry_among(
+    alloc: Global,
+    set: &LinearSet,
+    right: &[LinearSet],
+    others: &[u32],
+    end: usize,
+) -> Result<Option<CoverEntry>, AllocError>
+    requires { AreRising others.now (length right.now) }
+    ensures { IfOk result (λ found. FindsAmong most_tags set.now right.now others.now end found) }
+{
+    for place in others {
+        if *place as usize >= end {
+            return Ok(None);
+        }
+        let other = &right[*place as usize];
+        match entry_in(alloc, set, other, *place)? {
+            None => {}
             Some(entry) => return Ok(Some(entry)),
         }
     }

@@ -6,6 +6,7 @@ mod combining;
 mod cover;
 mod few_tags;
 mod finding;
+mod set_index;
 
 pub use cover::{CoverEntry, check_cover};
 pub use finding::find_cover;

@@ -48,6 +48,11 @@ TakesOne f p None = (p ≡ no_word) ⊎ (((t : ℕ) → t < most_tags → p t �
 abbrev pub CameToNothing : ℕ → List Word → List (Option Note) → Type 0
 CameToNothing n ps failed = (i : ℕ) (note : Note) → slice_get failed i ≡ Some (Some note) → NoNumbers n (drop note.place ps) (word_of note.left)
 
+-- one more of the period is taken; or that can't be, or what is left then is not made from the place on
+abbrev pub GoesOn : ℕ → List Word → ℕ → Frame → Word → Option Frame → Type 0
+GoesOn n ps place f p (Some g) = TakesOne f p (Some g)
+GoesOn n ps place f p None = TakesOne f p None ⊎ ((v : Word) × (plus v p ≡ word_of f.left) × NoNumbers n (drop place ps) v)
+
 -- ---- how much is still to be searched, at most
 
 -- the lists of at most so many numbers

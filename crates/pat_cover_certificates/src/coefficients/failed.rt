@@ -95,8 +95,10 @@ fn slot_of(place: usize, left: &Bag, slots: usize) -> usize
 {
     let mut hash = place as u64;
     for count in left.counts.as_slice() {
-        hash = (hash ^ (*count as u64)).wrapping_mul(11400714819323198485);
-        hash ^= hash >> 32;
+        hash = hash
+            .wrapping_mul(11400714819323198485)
+            .wrapping_add(*count as u64);
     }
+    hash ^= hash >> 32;
     hash as usize % slots
 }

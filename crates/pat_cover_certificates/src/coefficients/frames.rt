@@ -1,13 +1,14 @@
 // A search for numbers, as far as it has come.
-ghost use Rattle.std.specs.Prelude.{◌≡◌, ℕ, ◌+◌, ◌*◌, ◌<◌, ◌^◌, length, IfOk};
+ghost use Rattle.std.specs.Prelude.{◌≡◌, ℕ, ◌+◌, ◌*◌, ◌<◌, ◌^◌, List, length, drop, slice_get, Some, IfOk};
+ghost use Rattle.pat_words_spec.specs.Words.{Word, plus};
 ghost use Rattle.pat_bags.specs.Views.{word_of};
-ghost use Rattle.pat_inclusion_spec.specs.Counts.{most_tags};
+ghost use Rattle.pat_inclusion_spec.specs.Counts.{most_tags, scaled};
 ghost use Rattle.pat_linear.specs.Views.{words_of};
 ghost use Rattle.pat_cover_certificates.specs.coefficients.Numbers.{NoNumbers};
-ghost use Rattle.pat_cover_certificates.specs.coefficients.Frames.{numbers_of as numbers_of_frames, left_of, to_come, Stands, TakesOne, CameToNothing, Advances};
+ghost use Rattle.pat_cover_certificates.specs.coefficients.Frames.{numbers_of as numbers_of_frames, left_of, to_come, Stands, TakesOne, GoesOn, CameToNothing, Advances};
 
-use crate::coefficients::failed::{Note, note_failed};
-use crate::coefficients::tags::tags_are_few;
+use crate::coefficients::failed::{Note, has_failed, note_failed};
+use crate::coefficients::tags::{counts_fit, tags_are_few};
 use pat_bags::Bag;
 use pat_sequences::Sequence;
 use std::alloc::{AllocError, Global};
@@ -39,8 +40,24 @@ pub fn with_one_more(frame: &Frame, period: &Bag) -> Option<Frame>
     }
 }
 
+/// The same, unless it is noted that then nothing is made.
+fn goes_on(frame: &Frame, period: &Bag, place: usize, failed: &[Option<Note>]) -> Option<Frame>
+    requires { (t : ℕ) → word_of frame.now.left t + frame.now.number * word_of period.now t < 2 ^ 32 }
+    ensures { (ps : List Word) → CameToNothing most_tags ps failed.now → GoesOn most_tags ps place frame.now (word_of period.now) result }
+{
+    match with_one_more(frame, period) {
+        None => None,
+        Some(next) => {
+            if has_failed(failed, place, &next.left) {
+                return None;
+            }
+            Some(next)
+        }
+    }
+}
+
 /// Goes on to the next numbers, where those so far come to nothing: the last one that can rise is one more, and those behind it go.
-/// What was left before each period that goes has come to nothing, and is noted.
+/// What was left before each period that goes, and at each of its numbers, has come to nothing, and is noted.
 pub fn advance(
     periods: &[Bag],
     word: &Bag,
@@ -58,9 +75,9 @@ pub fn advance(
     while let Some(frame) = frames.pop() {
         let place = frames.len();
         let period = &periods[place];
-        match with_one_more(&frame, period) {
+        match goes_on(&frame, period, place, failed.as_slice()) {
             None => {
-                note_failed(failed, place, &frame.before);
+                note_each(failed, place, &frame, period);
             }
             Some(next) => {
                 frames.push(next)?;
@@ -69,6 +86,25 @@ pub fn advance(
         }
     }
     Ok(None)
+}
+
+/// Notes that the periods from the place on don't make what was left there before, nor what was left at each of the period's numbers.
+fn note_each(failed: &mut Sequence<Option<Note>>, place: usize, frame: &Frame, period: &Bag)
+    requires room { 0 < length failed.old }
+    requires whole { plus (word_of frame.now.left) (scaled frame.now.number (word_of period.now)) ≡ word_of frame.now.before }
+    ensures came { (n : ℕ) (ps : List Word) → slice_get ps place ≡ Some (word_of period.now) → CameToNothing n ps failed.old
+        → NoNumbers n (drop place ps) (word_of frame.now.before) → CameToNothing n ps failed.new }
+    ensures room { length failed.new ≡ length failed.old }
+{
+    counts_fit(&frame.before);
+    let mut left = frame.left;
+    let mut number = frame.number;
+    while number > 0 {
+        note_failed(failed, place, &left);
+        left = left.add(period);
+        number -= 1;
+    }
+    note_failed(failed, place, &left);
 }
 
 /// The numbers of the frames.

@@ -1,5 +1,5 @@
 // Which tags bags have, and how many messages.
-ghost use Rattle.std.specs.Prelude.{◌≡◌, ℕ, ◌<◌, ◌^◌};
+ghost use Rattle.std.specs.Prelude.{◌≡◌, ℕ, ◌<◌, ◌^◌, length};
 ghost use Rattle.pat_words_spec.specs.Tags.{HasTagsBelow};
 ghost use Rattle.pat_bags.specs.Views.{word_of};
 ghost use Rattle.pat_inclusion_spec.specs.Counts.{most_tags};
@@ -19,6 +19,14 @@ pub fn tags_are_few(bag: &Bag)
 #[inline(always)]
 fn counts_are_few(bag: &Bag)
     ensures { HasTagsBelow 32 (word_of bag.now) }
+{
+    let _counts = bag.counts;
+}
+
+/// A bag has a count for each tag. It does nothing.
+#[inline(always)]
+pub fn counts_are_all(bag: &Bag)
+    ensures { length bag.now.counts ≡ 32 }
 {
     let _counts = bag.counts;
 }
