@@ -5,3 +5,4 @@ mod CutsShown
 mod Numbered
 pub mod Arms
 mod Alike
+mod Notes

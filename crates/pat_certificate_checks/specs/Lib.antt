@@ -2,3 +2,4 @@ pub mod Numbering
 pub mod Views
 pub mod Plain
 pub mod Shown
+pub mod Notes

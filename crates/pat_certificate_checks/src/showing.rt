@@ -1,5 +1,5 @@
 // Inclusions that are shown in turn.
-ghost use Rattle.std.specs.Prelude.{◌≡◌, [], ◌∷◌, Some, drop, option_map, option_copied, IsTrue, IfOk};
+ghost use Rattle.std.specs.Prelude.{◌≡◌, [], ◌∷◌, Some, drop, option_map, option_copied, IsTrue, IfOk, OnOk};
 ghost use Rattle.std.specs.List.{flat_map};
 ghost use Rattle.pat_semantics_spec.specs.WellFormed.{WellFormed};
 ghost use Rattle.pat_inclusion_spec.specs.Values.{is_formed as is_formed_of, values_fit};
@@ -10,12 +10,13 @@ ghost use Rattle.pat_patterns.specs.Views.{pattern_view, patterns_view};
 ghost use Rattle.pat_core.specs.Views.{program_view};
 ghost use Rattle.pat_derivations.specs.Views.{cert_view, certs_view, derivation_view};
 ghost use Rattle.pat_obligations.specs.Views.{demand_view, demands_view};
+ghost use Rattle.pat_certificate_checks.specs.Notes.{IsNoted};
 ghost use Rattle.pat_certificate_checks.specs.Plain.{all_plain};
 ghost use Rattle.pat_certificate_checks.specs.Views.{side_view, reflexive_view};
 ghost use Rattle.pat_certificate_checks.specs.Shown.{Takes, Leaves};
 
 use crate::covers::cover_shows;
-use crate::grids::grid_shows;
+use crate::grids::{GridNote, grid_shows_noted};
 use crate::inclusions::{Inclusion, Reflexive, inclusion_of, reflexive_of};
 use crate::trivial::is_trivial;
 use pat_certificate_values::{are_same_and_formed, is_formed};
@@ -23,6 +24,7 @@ use pat_core::Program;
 use pat_derivations::{Cert, Derivation};
 use pat_obligations::Demand;
 use pat_patterns::Pattern;
+use pat_sequences::let_go;
 use std::alloc::{AllocError, Global};
 
 /// Whether the certificate shows the inclusion of patterns of the interface.
@@ -34,6 +36,7 @@ pub fn cert_shows(
     left: &Pattern,
     right: &Pattern,
     cert: &Cert,
+    noted: &mut Option<GridNote>,
 ) -> Result<bool, AllocError>
     requires well { WellFormed (program_view program.now) }
     requires values { IsTrue (values_fit (scope_of (program_view program.now) (derivation_view derivation.now))) }
@@ -41,9 +44,11 @@ pub fn cert_shows(
         (pattern_view left.now)) }
     requires right { IsTrue (is_formed_of (scope_of (program_view program.now) (derivation_view derivation.now)) interface
         (pattern_view right.now)) }
-    ensures { IfOk result (λ yes. yes
+    requires noted { IsNoted (scope_of (program_view program.now) (derivation_view derivation.now)) noted.old }
+    ensures shown { IfOk result (λ yes. yes
         ≡ cert_shows_of (scope_of (program_view program.now) (derivation_view derivation.now)) interface (pattern_view left.now)
         (pattern_view right.now) (cert_view cert.now)) }
+    ensures noted { OnOk result (IsNoted (scope_of (program_view program.now) (derivation_view derivation.now)) noted.new) }
 {
     match cert {
         Cert::Cover(entries) => cover_shows(
@@ -55,7 +60,9 @@ pub fn cert_shows(
             right,
             entries.as_slice(),
         ),
-        Cert::Grid(k) => grid_shows(alloc, program, derivation, interface, left, right, *k),
+        Cert::Grid(k) => grid_shows_noted(
+            alloc, program, derivation, interface, left, right, *k, noted,
+        ),
     }
 }
 
@@ -81,6 +88,7 @@ fn shown_in(
     left: &Pattern,
     right: &Pattern,
     certs: &[Cert],
+    noted: &mut Option<GridNote>,
 ) -> Result<Showing, AllocError>
     requires well { WellFormed (program_view program.now) }
     requires values { IsTrue (values_fit (scope_of (program_view program.now) (derivation_view derivation.now))) }
@@ -89,8 +97,10 @@ fn shown_in(
         (pattern_view left.now)) }
     requires right { IsTrue (is_formed_of (scope_of (program_view program.now) (derivation_view derivation.now)) interface
         (pattern_view right.now)) }
-    ensures { IfOk result (Takes (scope_of (program_view program.now) (derivation_view derivation.now)) (Some interface)
+    requires noted { IsNoted (scope_of (program_view program.now) (derivation_view derivation.now)) noted.old }
+    ensures taken { IfOk result (Takes (scope_of (program_view program.now) (derivation_view derivation.now)) (Some interface)
         (pattern_view left.now) (pattern_view right.now) (certs_view certs.now)) }
+    ensures noted { OnOk result (IsNoted (scope_of (program_view program.now) (derivation_view derivation.now)) noted.new) }
 {
     if is_trivial(alloc, plain, left, right)? {
         return Ok(Showing::Trivially);
@@ -98,7 +108,9 @@ fn shown_in(
     match certs.first() {
         None => Ok(Showing::NotShown),
         Some(cert) => {
-            if cert_shows(alloc, program, derivation, interface, left, right, cert)? {
+            if cert_shows(
+                alloc, program, derivation, interface, left, right, cert, noted,
+            )? {
                 Ok(Showing::ByNext)
             } else {
                 Ok(Showing::NotShown)
@@ -116,12 +128,15 @@ fn shown(
     plain: &[Pattern],
     needed: &Inclusion,
     certs: &[Cert],
+    noted: &mut Option<GridNote>,
 ) -> Result<Showing, AllocError>
     requires well { WellFormed (program_view program.now) }
     requires values { IsTrue (values_fit (scope_of (program_view program.now) (derivation_view derivation.now))) }
     requires plain { patterns_view plain.now ≡ all_plain (derivation_view derivation.now).vars }
-    ensures { IfOk result (Takes (scope_of (program_view program.now) (derivation_view derivation.now)) needed.now.interface
+    requires noted { IsNoted (scope_of (program_view program.now) (derivation_view derivation.now)) noted.old }
+    ensures taken { IfOk result (Takes (scope_of (program_view program.now) (derivation_view derivation.now)) needed.now.interface
         (side_view needed.now.left) (pattern_view needed.now.right.now) (certs_view certs.now)) }
+    ensures noted { OnOk result (IsNoted (scope_of (program_view program.now) (derivation_view derivation.now)) noted.new) }
 {
     match needed.interface {
         None => Ok(Showing::NotShown),
@@ -137,7 +152,7 @@ fn shown(
                 return Ok(Showing::NotShown);
             }
             shown_in(
-                alloc, program, derivation, plain, interface, left, right, certs,
+                alloc, program, derivation, plain, interface, left, right, certs, noted,
             )
         }
     }
@@ -153,16 +168,19 @@ fn after_inclusion<'a>(
     plain: &[Pattern],
     demand: &Demand,
     certs: &'a [Cert],
+    noted: &mut Option<GridNote>,
 ) -> Result<Option<&'a [Cert]>, AllocError>
     requires well { WellFormed (program_view program.now) }
     requires values { IsTrue (values_fit (scope_of (program_view program.now) (derivation_view derivation.now))) }
     requires plain { patterns_view plain.now ≡ all_plain (derivation_view derivation.now).vars }
-    ensures { IfOk result (λ o. Leaves (scope_of (program_view program.now) (derivation_view derivation.now))
+    requires noted { IsNoted (scope_of (program_view program.now) (derivation_view derivation.now)) noted.old }
+    ensures left { IfOk result (λ o. Leaves (scope_of (program_view program.now) (derivation_view derivation.now))
         (inclusions_of (demand_view demand.now)) (certs_view certs.now) (option_map certs_view (option_copied o))) }
+    ensures noted { OnOk result (IsNoted (scope_of (program_view program.now) (derivation_view derivation.now)) noted.new) }
 {
     match inclusion_of(alloc, demand)? {
         None => Ok(Some(certs)),
-        Some(needed) => match shown(alloc, program, derivation, plain, &needed, certs)? {
+        Some(needed) => match shown(alloc, program, derivation, plain, &needed, certs, noted)? {
             Showing::NotShown => Ok(None),
             Showing::Trivially => Ok(Some(certs)),
             Showing::ByNext => Ok(Some(but_first(certs))),
@@ -198,16 +216,19 @@ fn after<'a>(
     plain: &[Pattern],
     demand: &Demand,
     certs: &'a [Cert],
+    noted: &mut Option<GridNote>,
 ) -> Result<Option<&'a [Cert]>, AllocError>
     requires well { WellFormed (program_view program.now) }
     requires values { IsTrue (values_fit (scope_of (program_view program.now) (derivation_view derivation.now))) }
     requires plain { patterns_view plain.now ≡ all_plain (derivation_view derivation.now).vars }
-    ensures { IfOk result (λ o. Leaves (scope_of (program_view program.now) (derivation_view derivation.now))
+    requires noted { IsNoted (scope_of (program_view program.now) (derivation_view derivation.now)) noted.old }
+    ensures left { IfOk result (λ o. Leaves (scope_of (program_view program.now) (derivation_view derivation.now))
         (inclusions_of (demand_view demand.now)) (certs_view certs.now) (option_map certs_view (option_copied o))) }
+    ensures noted { OnOk result (IsNoted (scope_of (program_view program.now) (derivation_view derivation.now)) noted.new) }
 {
     match reflexive_of(demand) {
         Some(needed) => Ok(after_reflexive(program, derivation, needed, certs)),
-        None => after_inclusion(alloc, program, derivation, plain, demand, certs),
+        None => after_inclusion(alloc, program, derivation, plain, demand, certs, noted),
     }
 }
 
@@ -222,7 +243,6 @@ fn but_first(certs: &[Cert]) -> &[Cert]
 
 /// Whether the inclusions that the demands need are shown in turn, each that is not trivial by the next certificate, and none is
 /// left over. The plain values are those of the derivation, and its values are ones that their variables may have.
-#[tactic(auto, using(crate::proofs::Taken::none_left))]
 pub fn are_shown(
     alloc: Global,
     program: &Program,
@@ -238,9 +258,36 @@ pub fn are_shown(
         ≡ are_shown_of (scope_of (program_view program.now) (derivation_view derivation.now))
         (flat_map inclusions_of (demands_view demands.now)) (certs_view certs.now)) }
 {
+    let mut noted = None;
+    let shown = all_shown(
+        alloc, program, derivation, plain, demands, certs, &mut noted,
+    );
+    let_go(noted);
+    shown
+}
+
+/// So with what is noted.
+#[tactic(auto, using(crate::proofs::Taken::none_left))]
+fn all_shown(
+    alloc: Global,
+    program: &Program,
+    derivation: &Derivation,
+    plain: &[Pattern],
+    demands: &[Demand],
+    certs: &[Cert],
+    noted: &mut Option<GridNote>,
+) -> Result<bool, AllocError>
+    requires well { WellFormed (program_view program.now) }
+    requires values { IsTrue (values_fit (scope_of (program_view program.now) (derivation_view derivation.now))) }
+    requires plain { patterns_view plain.now ≡ all_plain (derivation_view derivation.now).vars }
+    requires noted { IsNoted (scope_of (program_view program.now) (derivation_view derivation.now)) noted.old }
+    ensures { IfOk result (λ yes. yes
+        ≡ are_shown_of (scope_of (program_view program.now) (derivation_view derivation.now))
+        (flat_map inclusions_of (demands_view demands.now)) (certs_view certs.now)) }
+{
     let mut rest = certs;
     for demand in demands {
-        match after(alloc, program, derivation, plain, demand, rest)? {
+        match after(alloc, program, derivation, plain, demand, rest, noted)? {
             None => return Ok(false),
             Some(more) => rest = more,
         }

@@ -46,7 +46,9 @@ pub fn included(
             if trivially {
                 return Ok(false);
             }
-            cert_shows(alloc, program, derivation, interface, left, right, cert)
+            cert_shows(
+                alloc, program, derivation, interface, left, right, cert, &mut None,
+            )
         }
     }
 }

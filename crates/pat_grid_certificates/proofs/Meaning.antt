@@ -1,12 +1,12 @@
 -- What the grids of values say of a pattern over them.
-use Rattle.std.proofs.Common.{◌≡◌, ℕ, zero, suc, ◌+◌, ◌<◌, ◌≤◌, ◌↔◌, Bool, true, List, [], ◌∷◌, ◌++◌, length, get_or, take, Some, refl, sym, ap, ◌∙◌, subst, arith}
+use Rattle.std.proofs.Common.{◌≡◌, ℕ, zero, suc, ◌+◌, ◌<◌, ◌≤◌, ◌↔◌, ⊎_elim, inl, inr, Bool, true, false, List, [], ◌∷◌, ◌++◌, length, get_or, take, Some, refl, sym, ap, ◌∙◌, subst, arith}
 use Rattle.std.specs.Prelude.{slice_get, ◌&&◌, nat_lt, Result, Ok, Err, IfOk}
 use Rattle.std.proofs.lemmas.Option.{slice_get_past}
 use Rattle.pat_grid_certificates.proofs.Points.{cut_lower, cut_higher}
 use Rattle.std.proofs.lemmas.Bool.{and_parts, ltb-true}
 use Rattle.std.proofs.lemmas.List.{take_more, map-append}
 use Rattle.pat_words_spec.specs.Words.{Word}
-use Rattle.pat_words_spec.specs.Patterns.{Pat, In, InUnder, no_values, is_closed, subst_of}
+use Rattle.pat_words_spec.specs.Patterns.{Pat, Sum, Var, In, InUnder, no_values, is_closed, subst_of}
 use Rattle.pat_words_spec.specs.Tags.{tags_below, HasTagsBelow}
 use Rattle.pat_words_spec.specs.Cuts.{cut_at, CutOf}
 use Rattle.pat_words_spec.specs.Languages.{MemberOf}
@@ -20,7 +20,7 @@ use Rattle.pat_inclusion_laws.proofs.GridLaws.{under_below}
 use Rattle.pat_grid_points.specs.declared.grid.Grid.{Grid}
 use Rattle.pat_grid_points.specs.Views.{HasPoint, points_of}
 use Rattle.pat_grid_points.proofs.Members.{member_point, point_member}
-use Rattle.pat_grid.specs.tables.Views.{given_words, AreGrids}
+use Rattle.pat_grid.specs.tables.Views.{points_in_grid, given_words, AreGrids}
 use Rattle.pat_grid_certificates.specs.declared.values.VarValue.{VarValue as CodeValue}
 use Rattle.pat_grid_certificates.specs.declared.values.Right.{Right as CodeRight}
 use Rattle.pat_grid_certificates.specs.declared.values.Right.TheVariants.{Pattern as RightPattern, Var as RightVar}
@@ -28,7 +28,7 @@ use Rattle.pat_patterns.specs.declared.pattern.Pattern.{Pattern}
 use Rattle.pat_patterns.specs.Views.{pattern_view}
 use Rattle.pat_bags.specs.declared.Bag.{Bag}
 use Rattle.pat_grid_certificates.specs.Views.{value_view, values_view, counts_view, right_view}
-use Rattle.pat_grid_certificates.specs.Shows.{patterns_of, right_of, is_large, form_in, ValuesFit, CutsLie}
+use Rattle.pat_grid_certificates.specs.Shows.{patterns_of, right_of, is_large, form_in, ValuesFit, CutsLie, WordsLie}
 use Rattle.pat_grid_certificates.specs.Cutting.{IsValueGrid, AreValueGrids, IsCutMember}
 
 -- ---- grids of values, one after another
@@ -87,13 +87,6 @@ are_grids k n (v ∷ values) (x ∷ grids) are zero g e =
     let same : x ≡ g = cc in subst (λ y. (y.k ≡ k) × (y.tags ≡ n)) same (are.0.bound, are.0.tags)
 are_grids k n (v ∷ values) (x ∷ grids) are (suc j) g e = are_grids k n values grids are.1 j g e
 
--- the words of a pattern under the grids, cut, are those that it has with the values put in, cut
-pub left_point : (k n : ℕ) (values : List VarValue) (grids : List Grid) (e : Pat) (g : Grid) → ValuesFit n values → AreValueGrids k n values grids → ((u : Word) → IsPoint k n u → HasPoint g u ↔ CutOf k (InUnder (λ j. MemberOf (given_words grids j)) e) u) → (u : Word) → IsPoint k n u → HasPoint g u ↔ CutOf k (In (subst_of (patterns_of n values) e)) u
-left_point k n values grids e g fit are has u p = (
-  λ h. eval_to k (given_words grids) (patterns_of n values) e u (given_at k n values grids fit are) ((has u p).0 h),
-  λ h. (has u p).1 (eval_from k (given_words grids) (patterns_of n values) e u (given_at k n values grids fit are) h),
-)
-
 -- the grid at a place is that of the value there
 pub grid_value : (k n : ℕ) (values : List VarValue) (grids : List Grid) (j : ℕ) (g : Grid) → AreValueGrids k n values grids → slice_get grids j ≡ Some g → (u : Word) → IsPoint k n u → HasPoint g u ↔ CutOf k (In (patterns_of n values j)) u
 grid_value k n [] [] j g are e = absurd (cc)
@@ -102,15 +95,6 @@ grid_value k n (v ∷ values) [] j g are e = absurd are
 grid_value k n (v ∷ values) (x ∷ grids) zero g are e =
     let same : x ≡ g = cc in λ u p. subst (λ y. HasPoint y u ↔ CutOf k (In (value_pattern n v)) u) same (are.0.points u p)
 grid_value k n (v ∷ values) (x ∷ grids) (suc j) g are e = grid_value k n values grids j g are.1 e
-
--- the points of the one grid are points of the other just where the cuts lie in one another
-pub points_just : (k n : ℕ) (e f : Pat) (g h : Grid) → (g.k ≡ k) × (g.tags ≡ n) → ((u : Word) → IsPoint k n u → HasPoint g u ↔ CutOf k (In e) u) → ((u : Word) → IsPoint k n u → HasPoint h u ↔ CutOf k (In f) u) → ((u : Word) → HasPoint g u → HasPoint h u) ↔ CutsLie k n e f
-points_just k n e f g h like left right = (
-  λ all u p c. (right u p).0 (all u ((left u p).1 c)),
-  λ lie u m.
-      let point : IsPoint k n u = subst (λ x. IsPoint x n u) like.0 (subst (λ x. IsPoint g.k x u) like.1 m.0) in
-      (right u point).1 (lie u point ((left u point).0 m)),
-)
 
 -- ---- values as grids
 
@@ -144,43 +128,84 @@ found [] i g l e = absurd (omega arith)
 found (x ∷ grids) zero g l e = ap Some (sym e)
 found (x ∷ grids) (suc i) g l e = found grids i g (omega arith) e
 
-pub found_like : (grids : List Grid) (i : ℕ) (g : Grid) → i < length grids → g ≡ get_or grids i g → slice_get grids i ≡ Some g
-found_like grids i g l e = found grids i g l e
+pub found_at : (grids : List Grid) (i : ℕ) (g : Grid) → i < length grids → g ≡ get_or grids i g → slice_get grids i ≡ Some g
+found_at grids i g l e = found grids i g l e
 
-pub one_just : (grid : Grid) (grids : List Grid) (i : ℕ) (g : Grid) (r : Bool) → i < length grids → g ≡ get_or grids i g → (r ≡ true) ↔ ((u : Word) → HasPoint grid u → HasPoint g u) → (r ≡ true) ↔ ((x : Grid) × (slice_get grids i ≡ Some x) × ((u : Word) → HasPoint grid u → HasPoint x u))
-one_just grid grids i g r l e h =
-    let at = found grids i g l e in (
+-- grids that are like one grid
+pub grids_like : (k n : ℕ) (grids : List Grid) (g : Grid) → AreGrids k n grids → (g.k ≡ k) × (g.tags ≡ n) → AreGrids g.k g.tags grids
+grids_like k n grids g are like j x e =
+    let a = are j x e in (a.0 ∙ sym like.0, a.1 ∙ sym like.1)
+
+pub tags_like : (n : ℕ) (e : Pat) (g : Grid) → tags_below n e ≡ true → g.tags ≡ n → tags_below g.tags e ≡ true
+tags_like n e g t like = subst (λ m. tags_below m e ≡ true) (sym like) t
+
+-- ---- words that lie in a grid
+
+module _ (env : List Grid) (other : Grid) where
+  sum_lies : (e f : Pat) → WordsLie env (Sum e f) other ↔ (WordsLie env e other × WordsLie env f other)
+  sum_lies e f = (
+    λ h. (λ u p c. h u p (c.0, inl c.1, c.2), λ u p c. h u p (c.0, inr c.1, c.2)),
+    λ both u p c. ⊎_elim (λ m. both.0 u p (c.0, m, c.2)) (λ m. both.1 u p (c.0, m, c.2)) c.1,
+  )
+
+  pub sum_refused : (e f : Pat) (r : Bool) → r ≡ false → (r ≡ true) ↔ WordsLie env e other → (false ≡ true) ↔ WordsLie env (Sum e f) other
+  sum_refused e f r refused h = (
+    λ t. cc,
+    λ lie. sym refused ∙ h.1 ((sum_lies e f).0 lie).0,
+  )
+
+  pub sum_rest : {E : Type 0} (e f : Pat) (r : Bool) (more : Result Bool E) → r ≡ true → (r ≡ true) ↔ WordsLie env e other → IfOk more (λ yes. (yes ≡ true) ↔ WordsLie env f other) → IfOk more (λ yes. (yes ≡ true) ↔ WordsLie env (Sum e f) other)
+  sum_rest e f r (Err x) shown h rest = tt
+  sum_rest e f r (Ok answer) shown h rest = (
+    λ t. (sum_lies e f).1 (h.0 shown, rest.0 t),
+    λ lie. rest.1 ((sum_lies e f).0 lie).1,
+  )
+
+  -- by the grid that is made of the pattern
+  pub made_lies : (e : Pat) (g : Grid) (r : Bool) → (g.k ≡ other.k) × (g.tags ≡ other.tags) → ((u : Word) → IsPoint other.k other.tags u → HasPoint g u ↔ CutOf other.k (InUnder (λ j. MemberOf (given_words env j)) e) u) → (r ≡ true) ↔ ((u : Word) → HasPoint g u → HasPoint other u) → (r ≡ true) ↔ WordsLie env e other
+  made_lies e g r like has h = (
+    λ t u p c. h.0 t u ((has u p).1 c),
+    λ lie. h.1 (λ u m.
+        let point : IsPoint other.k other.tags u = subst (λ x. IsPoint x other.tags u) like.0 (subst (λ x. IsPoint g.k x u) like.1 m.0) in
+        lie u point ((has u point).0 m)),
+  )
+
+  -- by the grid at the place, if there is one
+  pub value_lies : (j : ℕ) (own : Grid) (r : Bool) → AreGrids other.k other.tags env → j < length env → own ≡ get_or env j own → (r ≡ true) ↔ ((u : Word) → HasPoint own u → HasPoint other u) → (r ≡ true) ↔ WordsLie env (Var j) other
+  value_lies j own r are l e h =
+      let at = found_at env j own l e in
+      let like = are j own at in (
+        λ t u p c.
+            let has = member_point own c.0 (subst (λ o. MemberOf (points_in_grid o) c.0) at c.1) in
+            let point = has.0 in
+            let same : u ≡ c.0 = c.2 ∙ ap (λ i. cut_at i c.0) (sym like.0) ∙ sym point.1 in
+            h.0 t u (subst (HasPoint own) (sym same) has),
+        λ lie. h.1 (λ u m.
+            let point : IsPoint other.k other.tags u = subst (λ x. IsPoint x other.tags u) like.0 (subst (λ x. IsPoint own.k x u) like.1 m.0) in
+            lie u point (u, subst (λ o. MemberOf (points_in_grid o) u) (sym at) (point_member own u m), point.1)),
+      )
+
+  pub none_lies : (j : ℕ) → length env ≤ j → (true ≡ true) ↔ WordsLie env (Var j) other
+  none_lies j l = (
+    λ t u p c. absurd (subst (λ o. MemberOf (points_in_grid o) c.0) (slice_get_past env j l) c.1),
+    λ lie. refl,
+  )
+
+-- the grid at the place
+pub one_lies : {E : Type 0} (P : Grid → Type 0) (grids : List Grid) (i : ℕ) (g : Grid) (r : Result Bool E) → i < length grids → g ≡ get_or grids i g → IfOk r (λ yes. (yes ≡ true) ↔ P g) → IfOk r (λ yes. (yes ≡ true) ↔ ((x : Grid) × (slice_get grids i ≡ Some x) × P x))
+one_lies P grids i g (Err x) l e h = tt
+one_lies P grids i g (Ok yes_or_not) l e h =
+    let at = found_at grids i g l e in (
       λ t. (g, at, h.0 t),
       λ x.
           let same : x.0 ≡ g = cc in
-          h.1 (subst (λ (y : Grid). (u : Word) → HasPoint grid u → HasPoint y u) same x.2),
+          h.1 (subst P same x.2),
     )
 
-pub none_just : (grid : Grid) (grids : List Grid) (i : ℕ) → length grids ≤ i → (nat_lt i (length grids) ≡ true) ↔ ((x : Grid) × (slice_get grids i ≡ Some x) × ((u : Word) → HasPoint grid u → HasPoint x u))
-none_just grid grids i l = (
-  λ t. let less = ltb-true i (length grids) t in absurd (omega arith),
-  λ x. let past = slice_get_past grids i l in absurd (cc),
-)
+pub none_there : (P : Grid → Type 0) (grids : List Grid) (i : ℕ) → length grids ≤ i → (false ≡ true) ↔ ((x : Grid) × (slice_get grids i ≡ Some x) × P x)
+none_there P grids i l = (λ t. cc, λ x. let past = slice_get_past grids i l in absurd (cc))
 
 -- ---- the answer
-
--- points that lie in a pattern's words, cut
-pattern_lies : (k n : ℕ) (e f : Pat) (g : Grid) → (g.k ≡ k) × (g.tags ≡ n) → ((u : Word) → IsPoint k n u → HasPoint g u ↔ CutOf k (In e) u) → ((u : Word) → HasPoint g u → CutOf g.k (In f) u) ↔ CutsLie k n e f
-pattern_lies k n e f g like left = (
-  λ all u p c. subst (λ i. CutOf i (In f) u) like.0 (all u ((left u p).1 c)),
-  λ lie u m.
-      let point : IsPoint k n u = subst (λ x. IsPoint x n u) like.0 (subst (λ x. IsPoint g.k x u) like.1 m.0) in
-      subst (λ i. CutOf i (In f) u) (sym like.0) (lie u point ((left u point).0 m)),
-)
-
-pub pattern_answer : {E : Type 0} (k n : ℕ) (vs : List VarValue) (right : CodeRight) (f : Pattern) (e : Pat) (g : Grid) (r : Result Bool E) → right ≡ RightPattern f → is_large k vs (right_view right) ≡ true → (g.k ≡ k) × (g.tags ≡ n) → ((u : Word) → IsPoint k n u → HasPoint g u ↔ CutOf k (In e) u) → IfOk r (λ yes. (yes ≡ true) ↔ ((u : Word) → HasPoint g u → CutOf g.k (In (pattern_view f)) u)) → IfOk r (λ yes. (yes ≡ true) ↔ ((is_large k vs (right_view right) ≡ true) × CutsLie k n e (right_of n vs (right_view right))))
-pattern_answer k n vs right f e g (Err x) is large like left h = tt
-pattern_answer k n vs right f e g (Ok yes_or_not) is large like left h =
-    let lies = pattern_lies k n e (pattern_view f) g like left in
-    let same : pattern_view f ≡ right_of n vs (right_view right) = ap (λ x. right_of n vs (right_view x)) (sym is) in (
-      λ t. (large, subst (CutsLie k n e) same (lies.0 (h.0 t))),
-      λ p. h.1 (lies.1 (subst (CutsLie k n e) (sym same) p.1)),
-    )
 
 -- where the bound is large enough for a variable, its grid is there
 grid_there : (k n : ℕ) (values : List VarValue) (grids : List Grid) (j : ℕ) → AreValueGrids k n values grids → form_in k (slice_get values j) ≡ true → (g : Grid) × (slice_get grids j ≡ Some g)
@@ -189,17 +214,38 @@ grid_there k n (v ∷ values) [] j are h = absurd are
 grid_there k n (v ∷ values) (g ∷ grids) zero are h = (g, refl)
 grid_there k n (v ∷ values) (g ∷ grids) (suc j) are h = grid_there k n values grids j are.1 h
 
-pub one_answer : (k n j : ℕ) (vs : List VarValue) (grids : List Grid) (right : CodeRight) (e : Pat) (g : Grid) (r : Bool) → right ≡ RightVar j → is_large k vs (right_view right) ≡ true → (g.k ≡ k) × (g.tags ≡ n) → ((u : Word) → IsPoint k n u → HasPoint g u ↔ CutOf k (In e) u) → AreValueGrids k n vs grids → (r ≡ true) ↔ ((x : Grid) × (slice_get grids j ≡ Some x) × ((u : Word) → HasPoint g u → HasPoint x u)) → (r ≡ true) ↔ ((is_large k vs (right_view right) ≡ true) × CutsLie k n e (right_of n vs (right_view right)))
-one_answer k n j vs grids right e g r is large like left are h =
-    let same : patterns_of n vs j ≡ right_of n vs (right_view right) = ap (λ x. right_of n vs (right_view x)) (sym is) in (
-      λ t.
-          let x = h.0 t in
-          (large, subst (CutsLie k n e) same ((points_just k n e (patterns_of n vs j) g x.0 like left (grid_value k n vs grids j x.0 are x.1)).0 x.2)),
-      λ p.
-          let x = grid_there k n vs grids j are (subst (λ y. is_large k vs (right_view y) ≡ true) is large) in
-          h.1 (x.0, x.1, (points_just k n e (patterns_of n vs j) g x.0 like left (grid_value k n vs grids j x.0 are x.1)).1 (subst (CutsLie k n e) (sym same) p.1)),
-    )
+module _ (k n : ℕ) (vs : List VarValue) (grids : List Grid) (fit : ValuesFit n vs) (are : AreValueGrids k n vs grids) where
+  -- the words under the grids lie in the grid of the other side's words just where the cuts lie in one another
+  lies_just : (e f : Pat) (g : Grid) → (g.k ≡ k) × (g.tags ≡ n) → ((u : Word) → IsPoint k n u → HasPoint g u ↔ CutOf k (In f) u) → WordsLie grids e g ↔ CutsLie k n (subst_of (patterns_of n vs) e) f
+  lies_just e f g like right = (
+    λ lie u p c.
+        let under = eval_from k (given_words grids) (patterns_of n vs) e u (given_at k n vs grids fit are) c in
+        (right u p).0
+        (lie u (subst (λ x. IsPoint x g.tags u) (sym like.0) (subst (λ x. IsPoint k x u) (sym like.1) p))
+        (subst (λ x. CutOf x (InUnder (λ j. MemberOf (given_words grids j)) e) u) (sym like.0) under)),
+    λ cuts u p c.
+        let point : IsPoint k n u = subst (λ x. IsPoint x n u) like.0 (subst (λ x. IsPoint g.k x u) like.1 p) in
+        let under = subst (λ x. CutOf x (InUnder (λ j. MemberOf (given_words grids j)) e) u) like.0 c in
+        (right u point).1 (cuts u point (eval_to k (given_words grids) (patterns_of n vs) e u (given_at k n vs grids fit are) under)),
+  )
 
-pub like_each : (k n : ℕ) (values : List VarValue) (grids : List Grid) (g : Grid) → (g.k ≡ k) × (g.tags ≡ n) → AreValueGrids k n values grids → (j : ℕ) (x : Grid) → slice_get grids j ≡ Some x → (g.k ≡ x.k) × (g.tags ≡ x.tags)
-like_each k n values grids g like are j x e =
-    let a = are_grids k n values grids are j x e in (like.0 ∙ sym a.0, like.1 ∙ sym a.1)
+  pub pattern_answer : {E : Type 0} (right : CodeRight) (f : Pattern) (e : Pat) (g : Grid) (r : Result Bool E) → right ≡ RightPattern f → is_large k vs (right_view right) ≡ true → (g.k ≡ k) × (g.tags ≡ n) → ((u : Word) → IsPoint k n u → HasPoint g u ↔ CutOf k (In (pattern_view f)) u) → IfOk r (λ yes. (yes ≡ true) ↔ WordsLie grids e g) → IfOk r (λ yes. (yes ≡ true) ↔ ((is_large k vs (right_view right) ≡ true) × CutsLie k n (subst_of (patterns_of n vs) e) (right_of n vs (right_view right))))
+  pattern_answer right f e g (Err x) is large like has h = tt
+  pattern_answer right f e g (Ok yes_or_not) is large like has h =
+      let just = lies_just e (pattern_view f) g like has in
+      let same : pattern_view f ≡ right_of n vs (right_view right) = ap (λ x. right_of n vs (right_view x)) (sym is) in (
+        λ t. (large, subst (CutsLie k n (subst_of (patterns_of n vs) e)) same (just.0 (h.0 t))),
+        λ p. h.1 (just.1 (subst (CutsLie k n (subst_of (patterns_of n vs) e)) (sym same) p.1)),
+      )
+
+  pub one_answer : {E : Type 0} (j : ℕ) (right : CodeRight) (e : Pat) (r : Result Bool E) → right ≡ RightVar j → is_large k vs (right_view right) ≡ true → IfOk r (λ yes. (yes ≡ true) ↔ ((x : Grid) × (slice_get grids j ≡ Some x) × WordsLie grids e x)) → IfOk r (λ yes. (yes ≡ true) ↔ ((is_large k vs (right_view right) ≡ true) × CutsLie k n (subst_of (patterns_of n vs) e) (right_of n vs (right_view right))))
+  one_answer j right e (Err x) is large h = tt
+  one_answer j right e (Ok yes_or_not) is large h =
+      let same : patterns_of n vs j ≡ right_of n vs (right_view right) = ap (λ x. right_of n vs (right_view x)) (sym is) in (
+        λ t.
+            let x = h.0 t in
+            (large, subst (CutsLie k n (subst_of (patterns_of n vs) e)) same ((lies_just e (patterns_of n vs j) x.0 (are_grids k n vs grids are j x.0 x.1) (grid_value k n vs grids j x.0 are x.1)).0 x.2)),
+        λ p.
+            let x = grid_there k n vs grids j are (subst (λ y. is_large k vs (right_view y) ≡ true) is large) in
+            h.1 (x.0, x.1, (lies_just e (patterns_of n vs j) x.0 (are_grids k n vs grids are j x.0 x.1) (grid_value k n vs grids j x.0 are x.1)).1 (subst (CutsLie k n (subst_of (patterns_of n vs) e)) (sym same) p.1)),
+      )

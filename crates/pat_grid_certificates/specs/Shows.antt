@@ -2,13 +2,17 @@
 use Rattle.std.specs.Prelude.{ℕ, Bool, true, false, ◌&&◌, nat_eq, nat_lt, List, Option, Some, None, slice_get, IsTrue}
 use Rattle.std.specs.List.{AllByRecursion}
 use Rattle.pat_words_spec.specs.Words.{Word}
-use Rattle.pat_words_spec.specs.Patterns.{Pat, Zero, In}
+use Rattle.pat_words_spec.specs.Patterns.{Pat, Zero, In, InUnder}
 use Rattle.pat_words_spec.specs.Flats.{is_flat, degree_of}
 use Rattle.pat_words_spec.specs.Tags.{tags_below}
 use Rattle.pat_words_spec.specs.Cuts.{CutOf}
 use Rattle.pat_inclusion_spec.specs.Values.{VarValue, PatternForm, GridForm, value_pattern, value_fits}
 use Rattle.pat_inclusion_spec.specs.bounds.Assignments.{Right, PatternRight, VarRight}
 use Rattle.pat_inclusion_spec.specs.bounds.CutSets.{IsPoint}
+use Rattle.pat_words_spec.specs.Languages.{MemberOf}
+use Rattle.pat_grid_points.specs.declared.grid.Grid.{Grid}
+use Rattle.pat_grid_points.specs.Views.{HasPoint}
+use Rattle.pat_grid.specs.tables.Views.{given_words}
 
 -- the pattern of a value, for an interface of n tags; 0 where there is none
 abbrev pub pattern_in : ℕ → Option VarValue → Pat
@@ -50,3 +54,8 @@ right_tags n (VarRight j) = true
 -- each value is one that a variable of an interface of n tags may have
 abbrev pub ValuesFit : ℕ → List VarValue → Type 0
 ValuesFit n values = AllByRecursion (λ v. IsTrue (value_fits n v)) values
+
+-- the words of e under the grids, cut, are points of the grid
+abbrev pub WordsLie : List Grid → Pat → Grid → Type 0
+WordsLie env e g =
+    (u : Word) → IsPoint g.k g.tags u → CutOf g.k (InUnder (λ j. MemberOf (given_words env j)) e) u → HasPoint g u

@@ -1,16 +1,15 @@
 // The check of a certificate by a grid.
-ghost use Rattle.std.specs.Prelude.{◌≡◌, ◌↔◌, ℕ, Some, slice_get, IsTrue, IfOk};
+ghost use Rattle.std.specs.Prelude.{◌≡◌, ◌↔◌, Some, slice_get, IsTrue, IfOk};
 ghost use Rattle.pat_words_spec.specs.Words.{Word};
-ghost use Rattle.pat_words_spec.specs.Patterns.{In, Included, subst_of};
+ghost use Rattle.pat_words_spec.specs.Patterns.{Included, Var, subst_of};
 ghost use Rattle.pat_words_spec.specs.Tags.{tags_below};
-ghost use Rattle.pat_words_spec.specs.Cuts.{CutOf};
 ghost use Rattle.pat_patterns.specs.Views.{pattern_view};
 ghost use Rattle.pat_inclusion_spec.specs.Points.{grid_fits};
-ghost use Rattle.pat_inclusion_spec.specs.bounds.CutSets.{IsPoint};
 ghost use Rattle.pat_grid_points.specs.declared.grid.Grid.{Grid as GridValue};
 ghost use Rattle.pat_grid_points.specs.Views.{HasPoint, IsLike};
+ghost use Rattle.pat_grid.specs.tables.Views.{AreGrids};
 ghost use Rattle.pat_grid_certificates.specs.Views.{values_view, right_view};
-ghost use Rattle.pat_grid_certificates.specs.Shows.{is_large, patterns_of, right_of, right_tags, CutsLie, ValuesFit};
+ghost use Rattle.pat_grid_certificates.specs.Shows.{is_large, patterns_of, right_of, right_tags, CutsLie, ValuesFit, WordsLie};
 
 use crate::cutting::value_grids;
 use crate::large::is_large_enough;
@@ -68,28 +67,78 @@ fn cuts_show(
     }
     let env = value_grids(alloc, vars, k, tags)?;
     let grids = env.as_slice();
-    let lefts = eval(alloc, left, grids, k, tags)?;
     match right {
-        Right::Pattern(f) => lies_in_pattern(alloc, &lefts, f),
-        Right::Var(variable) => Ok(lies_in_one(&lefts, grids, *variable as usize)),
+        Right::Pattern(f) => {
+            let rights = eval(alloc, f, &[], k, tags)?;
+            words_lie_in(alloc, left, grids, &rights)
+        }
+        Right::Var(variable) => words_lie_in_one(alloc, left, grids, *variable as usize, k, tags),
     }
 }
 
-/// Whether each point of the grid is a word of the pattern, cut.
-fn lies_in_pattern(alloc: Global, grid: &Grid, f: &Pattern) -> Result<bool, AllocError>
-    requires { IsTrue (tags_below grid.now.tags (pattern_view f.now)) }
-    ensures { IfOk result (λ yes. IsTrue yes ↔ ((u : Word) → HasPoint grid.now u → CutOf grid.now.k (In (pattern_view f.now)) u)) }
+/// Whether there is a grid at the place, and the words of the pattern, cut, are points of it.
+fn words_lie_in_one(
+    alloc: Global,
+    p: &Pattern,
+    grids: &[Grid],
+    place: usize,
+    k: u32,
+    tags: u8,
+) -> Result<bool, AllocError>
+    requires tags { IsTrue (tags_below tags (pattern_view p.now)) }
+    requires grids { AreGrids k tags grids.now }
+    ensures { IfOk result (λ yes. IsTrue yes
+        ↔ ((g : GridValue) × (slice_get grids.now place ≡ Some g) × WordsLie grids.now (pattern_view p.now) g)) }
 {
-    let rights = eval(alloc, f, &[], grid.k, grid.tags)?;
-    Ok(lies_in(grid, &rights))
+    if place < grids.len() {
+        words_lie_in(alloc, p, grids, &grids[place])
+    } else {
+        Ok(false)
+    }
 }
 
-/// Whether there is a grid at the place, and each point of the first grid is one of it.
-fn lies_in_one(grid: &Grid, grids: &[Grid], place: usize) -> bool
-    requires { (j : ℕ) (g : GridValue) → slice_get grids.now j ≡ Some g → IsLike grid.now g }
-    ensures { IsTrue result ↔ ((g : GridValue) × (slice_get grids.now place ≡ Some g) × ((u : Word) → HasPoint grid.now u → HasPoint g u)) }
+/// Whether the words of the pattern, where variable n has those of the n-th grid, are points of the other grid once they are cut. Those
+/// of a sum are looked at arm by arm, and need not be put together.
+#[tactic(auto, using(crate::proofs::Meaning::sum_refused, crate::proofs::Meaning::sum_rest))]
+fn words_lie_in(alloc: Global, p: &Pattern, env: &[Grid], other: &Grid) -> Result<bool, AllocError>
+    requires tags { IsTrue (tags_below other.now.tags (pattern_view p.now)) }
+    requires grids { AreGrids other.now.k other.now.tags env.now }
+    ensures { IfOk result (λ yes. IsTrue yes ↔ WordsLie env.now (pattern_view p.now) other.now) }
 {
-    place < grids.len() && lies_in(grid, &grids[place])
+    match p {
+        Pattern::Sum(left, right) => {
+            if !words_lie_in(alloc, left, env, other)? {
+                return Ok(false);
+            }
+            words_lie_in(alloc, right, env, other)
+        }
+        Pattern::Var(variable) => Ok(value_lies_in(env, *variable as usize, other)),
+        _ => made_lies_in(alloc, p, env, other),
+    }
+}
+
+/// Whether the points of the grid at the place, if there is one, are points of the other.
+fn value_lies_in(env: &[Grid], place: usize, other: &Grid) -> bool
+    requires { AreGrids other.now.k other.now.tags env.now }
+    ensures { IsTrue result ↔ WordsLie env.now (Var place) other.now }
+{
+    if place < env.len() {
+        lies_in(&env[place], other)
+    } else {
+        true
+    }
+}
+
+/// So where the grid of the pattern is made.
+#[inline(never)]
+#[tactic(auto, using(crate::proofs::Meaning::made_lies))]
+fn made_lies_in(alloc: Global, p: &Pattern, env: &[Grid], other: &Grid) -> Result<bool, AllocError>
+    requires tags { IsTrue (tags_below other.now.tags (pattern_view p.now)) }
+    requires grids { AreGrids other.now.k other.now.tags env.now }
+    ensures { IfOk result (λ yes. IsTrue yes ↔ WordsLie env.now (pattern_view p.now) other.now) }
+{
+    let grid = eval(alloc, p, env, other.k, other.tags)?;
+    Ok(lies_in(&grid, other))
 }
 
 /// Whether each point of the one grid is one of the other.

@@ -1,44 +1,37 @@
 use Rattle.std.proofs.Common.{◌≡◌, true, sym, ◌∙◌, subst}
-use Rattle.pat_words_spec.specs.Patterns.{subst_of}
 use Rattle.pat_patterns.specs.Views.{pattern_view}
 use Rattle.pat_grid_certificates.specs.Views.{values_view, right_view}
-use Rattle.pat_grid_certificates.specs.Shows.{patterns_of, is_large}
+use Rattle.pat_grid_certificates.specs.Shows.{is_large}
 use Rattle.pat_grid_certificates.specs.Cutting.{AreValueGrids}
-use Rattle.pat_grid_certificates.proofs.Meaning.{are_grids, like_each, left_point, pattern_answer, one_answer}
+use Rattle.pat_grid_certificates.proofs.Meaning.{are_grids, grids_like, tags_like, pattern_answer, one_answer}
 use Rattle.pat_grid_certificates.proofs.check.cuts_show.Goals as goal
 
-pub eval-requires-clause-grids : goal.eval-requires-clause-grids
-eval-requires-clause-grids c =
+pub words_lie_in-requires-clause-tags : goal.words_lie_in-requires-clause-tags
+words_lie_in-requires-clause-tags c =
+    tags_like c.args.tags (pattern_view c.args.left.now) c.in_ok-rights-in-Pattern.rights c.requires.left c.in_ok-rights-in-Pattern.ensures.like.1
+
+pub words_lie_in-requires-clause-grids : goal.words_lie_in-requires-clause-grids
+words_lie_in-requires-clause-grids c =
+    let vs = values_view c.args.vars.now in
+    let are = subst (AreValueGrids c.args.k c.args.tags vs) (sym c.as_slice-grids.ensures) c.in_ok-env.ensures in
+    grids_like c.args.k c.args.tags c.as_slice-grids.result.now c.in_ok-rights-in-Pattern.rights (are_grids c.args.k c.args.tags vs c.as_slice-grids.result.now are) c.in_ok-rights-in-Pattern.ensures.like
+
+pub words_lie_in_one-requires-clause-grids : goal.words_lie_in_one-requires-clause-grids
+words_lie_in_one-requires-clause-grids c =
     let vs = values_view c.args.vars.now in
     let are = subst (AreValueGrids c.args.k c.args.tags vs) (sym c.as_slice-grids.ensures) c.in_ok-env.ensures in
     are_grids c.args.k c.args.tags vs c.as_slice-grids.result.now are
 
-pub lies_in_one-requires : goal.lies_in_one-requires
-lies_in_one-requires c =
-    let vs = values_view c.args.vars.now in
-    let are = subst (AreValueGrids c.args.k c.args.tags vs) (sym c.as_slice-grids.ensures) c.in_ok-env.ensures in
-    like_each c.args.k c.args.tags vs c.as_slice-grids.result.now c.in_ok-lefts.lefts c.in_ok-lefts.ensures.like are
-
 pub returns-in-Pattern : goal.returns-in-Pattern
 returns-in-Pattern c =
     let vs = values_view c.args.vars.now in
-    let k = c.args.k in
-    let n = c.args.tags in
-    let e = pattern_view c.args.left.now in
-    let are = subst (AreValueGrids k n vs) (sym c.as_slice-grids.ensures) c.in_ok-env.ensures in
-    let large : is_large k vs (right_view c.args.right.now) ≡ true = sym c.is_large_enough.ensures ∙ c.if-not-is_large_enough.false in
-    pattern_answer k n vs c.args.right.now c.in-Pattern.f (subst_of (patterns_of n vs) e) c.in_ok-lefts.lefts c.lies_in_pattern.result c.in-Pattern.is large c.in_ok-lefts.ensures.like
-    (left_point k n vs c.as_slice-grids.result.now e c.in_ok-lefts.lefts c.requires.values are c.in_ok-lefts.ensures.points)
-    c.lies_in_pattern.ensures
+    let are = subst (AreValueGrids c.args.k c.args.tags vs) (sym c.as_slice-grids.ensures) c.in_ok-env.ensures in
+    let large : is_large c.args.k vs (right_view c.args.right.now) ≡ true = sym c.is_large_enough.ensures ∙ c.if-not-is_large_enough.false in
+    pattern_answer c.args.k c.args.tags vs c.as_slice-grids.result.now c.requires.values are c.args.right.now c.in-Pattern.f (pattern_view c.args.left.now) c.in_ok-rights-in-Pattern.rights c.words_lie_in.result c.in-Pattern.is large c.in_ok-rights-in-Pattern.ensures.like c.in_ok-rights-in-Pattern.ensures.points c.words_lie_in.ensures
 
 pub returns : goal.returns
 returns c =
     let vs = values_view c.args.vars.now in
-    let k = c.args.k in
-    let n = c.args.tags in
-    let e = pattern_view c.args.left.now in
-    let are = subst (AreValueGrids k n vs) (sym c.as_slice-grids.ensures) c.in_ok-env.ensures in
-    let large : is_large k vs (right_view c.args.right.now) ≡ true = sym c.is_large_enough.ensures ∙ c.if-not-is_large_enough.false in
-    one_answer k n c.in-Var.variable vs c.as_slice-grids.result.now c.args.right.now (subst_of (patterns_of n vs) e) c.in_ok-lefts.lefts c.lies_in_one.result c.in-Var.is large c.in_ok-lefts.ensures.like
-    (left_point k n vs c.as_slice-grids.result.now e c.in_ok-lefts.lefts c.requires.values are c.in_ok-lefts.ensures.points)
-    are c.lies_in_one.ensures
+    let are = subst (AreValueGrids c.args.k c.args.tags vs) (sym c.as_slice-grids.ensures) c.in_ok-env.ensures in
+    let large : is_large c.args.k vs (right_view c.args.right.now) ≡ true = sym c.is_large_enough.ensures ∙ c.if-not-is_large_enough.false in
+    one_answer c.args.k c.args.tags vs c.as_slice-grids.result.now c.requires.values are c.in-Var.variable c.args.right.now (pattern_view c.args.left.now) c.words_lie_in_one.result c.in-Var.is large c.words_lie_in_one.ensures
