@@ -1,9 +1,9 @@
 -- The tests of values answer for the patterns of their variables.
-use Rattle.std.proofs.Common.{◌≡◌, ℕ, zero, suc, Bool, false, List, [], ◌∷◌, map, option_map, Some, None, Option, refl, sym, ap, ◌∙◌, subst}
+use Rattle.std.proofs.Common.{◌≡◌, ℕ, zero, suc, Bool, false, ◌&&◌, ◌||◌, List, [], ◌∷◌, map, option_map, Some, None, Option, refl, sym, ap, ap₂, ◌∙◌, subst}
 use mathlib.Core.Path.{fun_ext}
 use Rattle.std.specs.Prelude.{slice_get}
 use Rattle.std.proofs.lemmas.Option.{slice_get-map}
-use Rattle.pat_words_spec.specs.Patterns.{Pat, Zero, is_nullable, is_inhabited, subst_of}
+use Rattle.pat_words_spec.specs.Patterns.{Pat, Zero, One, Tag, Sum, Prod, Star, Var, is_nullable, is_inhabited, subst_of}
 use Rattle.pat_inclusion_spec.specs.Values.{Scope, VarLine, value_pattern, line_pattern, var_at, pattern_of}
 use Rattle.pat_inclusion_spec.specs.Under.{nullable_under, inhabited_under}
 use Rattle.pat_inclusion_laws.proofs.UnderLaws.{nullable_subst, inhabited_subst}
@@ -29,3 +29,14 @@ nullable_tested t s e h =
 pub inhabited_tested : (t : Tests) (s : Scope) (e : Pat) → IsTested s t → inhabited_under (flag_at t.inhabited) e ≡ is_inhabited (subst_of (pattern_of s) e)
 inhabited_tested t s e h =
     ap (λ f. inhabited_under f e) (flags_are is_inhabited s t.inhabited refl h.inhabited) ∙ sym (inhabited_subst (pattern_of s) e)
+
+-- without variables no flags are asked
+pub unflagged : (e : Pat) → inhabited_under (flag_at []) e ≡ is_inhabited e
+unflagged Zero = refl
+unflagged One = refl
+unflagged (Tag m) = refl
+unflagged (Sum e f) = ap₂ (λ a b. a || b) (unflagged e) (unflagged f)
+unflagged (Prod e f) = ap₂ (λ a b. a && b) (unflagged e) (unflagged f)
+unflagged (Star e) = refl
+unflagged (Var zero) = refl
+unflagged (Var (suc k)) = refl

@@ -6,4 +6,4 @@ mod Large
 mod FormTags
 mod Powers
 mod Pushed
-mod SamePatterns
+mod Symbols

@@ -7,6 +7,7 @@ ghost use Rattle.pat_derivation_spec.specs.Derivations.{scope_of, tag_count as t
 ghost use Rattle.pat_patterns.specs.Views.{pattern_view};
 ghost use Rattle.pat_core.specs.Views.{program_view};
 ghost use Rattle.pat_derivations.specs.Views.{var_view, vars_view, derivation_view};
+ghost use Rattle.pat_certificate_values.specs.Symbols.{scope_with};
 
 use pat_core::Program;
 use pat_derivations::{Derivation, VarValue};
@@ -50,10 +51,10 @@ pub fn var_of(vars: &[(u32, VarValue)], number: u32) -> Option<&(u32, VarValue)>
 }
 
 /// Whether the variable is there and has this interface.
-fn has_interface(derivation: &Derivation, interface: u32, number: u32) -> bool
-    ensures { result ≡ has_interface_of interface (var_at (derivation_view derivation.now).vars number) }
+fn has_interface(vars: &[(u32, VarValue)], interface: u32, number: u32) -> bool
+    ensures { result ≡ has_interface_of interface (var_at (vars_view vars.now) number) }
 {
-    match var_of(derivation.vars.as_slice(), number) {
+    match var_of(vars, number) {
         None => false,
         Some((own, _)) => *own == interface,
     }
@@ -61,6 +62,7 @@ fn has_interface(derivation: &Derivation, interface: u32, number: u32) -> bool
 
 /// Whether the pattern is one of the interface: its tags are, and its variables, each of which has a value. Many are 1, and nothing
 /// is looked up for these.
+#[tactic(auto, using(crate::proofs::Symbols::formed_with))]
 pub fn is_formed(
     program: &Program,
     derivation: &Derivation,
@@ -72,34 +74,36 @@ pub fn is_formed(
 {
     match pattern {
         Pattern::One => true,
-        _ => is_formed_within(program, derivation, interface, pattern),
+        _ => {
+            let tags = tag_count(program, interface);
+            is_formed_with(tags, derivation.vars.as_slice(), interface, pattern)
+        }
     }
 }
 
-/// So by its parts.
-fn is_formed_within(
-    program: &Program,
-    derivation: &Derivation,
-    interface: u32,
-    pattern: &Pattern,
-) -> bool
-    ensures { result ≡ is_formed_of (scope_of (program_view program.now) (derivation_view derivation.now)) interface
-        (pattern_view pattern.now) }
+/// So where the interface has so many tags. Left parts are mostly tags, which need no call.
+fn is_formed_with(tags: usize, vars: &[(u32, VarValue)], interface: u32, pattern: &Pattern) -> bool
+    ensures { result ≡ is_formed_of (scope_with tags (vars_view vars.now)) interface (pattern_view pattern.now) }
 {
     match pattern {
         Pattern::Zero | Pattern::One => true,
-        Pattern::Tag(tag) => (*tag as usize) < tag_count(program, interface),
-        Pattern::Var(number) => has_interface(derivation, interface, *number),
-        Pattern::Sum(left, right) | Pattern::Prod(left, right) => {
-            is_formed_within(program, derivation, interface, left)
-                && is_formed_within(program, derivation, interface, right)
-        }
-        Pattern::Star(part) => is_formed_within(program, derivation, interface, part),
+        Pattern::Tag(tag) => (*tag as usize) < tags,
+        Pattern::Var(number) => has_interface(vars, interface, *number),
+        Pattern::Sum(left, right) | Pattern::Prod(left, right) => match &**left {
+            Pattern::Tag(tag) => {
+                (*tag as usize) < tags && is_formed_with(tags, vars, interface, right)
+            }
+            _ => {
+                is_formed_with(tags, vars, interface, left)
+                    && is_formed_with(tags, vars, interface, right)
+            }
+        },
+        Pattern::Star(part) => is_formed_with(tags, vars, interface, part),
     }
 }
 
 /// Whether the patterns are the same, as they are written, and are ones of the interface.
-#[tactic(auto, using(crate::proofs::Pairs::in_pairs))]
+#[tactic(auto, using(crate::proofs::Symbols::formed_with))]
 pub fn are_same_and_formed(
     program: &Program,
     derivation: &Derivation,
@@ -110,21 +114,44 @@ pub fn are_same_and_formed(
     ensures { result ≡ (pat_eq (pattern_view left.now) (pattern_view right.now)
         && is_formed_of (scope_of (program_view program.now) (derivation_view derivation.now)) interface (pattern_view left.now)) }
 {
+    let tags = tag_count(program, interface);
+    are_same_with(tags, derivation.vars.as_slice(), interface, left, right)
+}
+
+/// So where the interface has so many tags.
+#[tactic(auto, using(crate::proofs::Pairs::in_pairs))]
+fn are_same_with(
+    tags: usize,
+    vars: &[(u32, VarValue)],
+    interface: u32,
+    left: &Pattern,
+    right: &Pattern,
+) -> bool
+    ensures { result ≡ (pat_eq (pattern_view left.now) (pattern_view right.now)
+        && is_formed_of (scope_with tags (vars_view vars.now)) interface (pattern_view left.now)) }
+{
     match (left, right) {
         (Pattern::Zero, Pattern::Zero) | (Pattern::One, Pattern::One) => true,
-        (Pattern::Tag(tag), Pattern::Tag(other)) => {
-            tag == other && (*tag as usize) < tag_count(program, interface)
-        }
+        (Pattern::Tag(tag), Pattern::Tag(other)) => tag == other && (*tag as usize) < tags,
         (Pattern::Var(number), Pattern::Var(other)) => {
-            number == other && has_interface(derivation, interface, *number)
+            number == other && has_interface(vars, interface, *number)
         }
-        (Pattern::Sum(left, right), Pattern::Sum(other_left, other_right))
-        | (Pattern::Prod(left, right), Pattern::Prod(other_left, other_right)) => {
-            are_same_and_formed(program, derivation, interface, left, other_left)
-                && are_same_and_formed(program, derivation, interface, right, other_right)
+        (Pattern::Sum(first, second), Pattern::Sum(other_first, other_second))
+        | (Pattern::Prod(first, second), Pattern::Prod(other_first, other_second)) => {
+            match (&**first, &**other_first) {
+                (Pattern::Tag(tag), Pattern::Tag(other)) => {
+                    tag == other
+                        && (*tag as usize) < tags
+                        && are_same_with(tags, vars, interface, second, other_second)
+                }
+                _ => {
+                    are_same_with(tags, vars, interface, first, other_first)
+                        && are_same_with(tags, vars, interface, second, other_second)
+                }
+            }
         }
-        (Pattern::Star(part), Pattern::Star(other_part)) => {
-            are_same_and_formed(program, derivation, interface, part, other_part)
+        (Pattern::Star(part), Pattern::Star(other)) => {
+            are_same_with(tags, vars, interface, part, other)
         }
         _ => false,
     }

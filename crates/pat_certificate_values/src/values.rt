@@ -24,9 +24,10 @@ fn is_closed_below(tags: u32, pattern: &Pattern) -> bool
         Pattern::Zero | Pattern::One => true,
         Pattern::Var(_) => false,
         Pattern::Tag(tag) => (*tag as u32) < tags,
-        Pattern::Sum(left, right) | Pattern::Prod(left, right) => {
-            is_closed_below(tags, left) && is_closed_below(tags, right)
-        }
+        Pattern::Sum(left, right) | Pattern::Prod(left, right) => match &**left {
+            Pattern::Tag(tag) => (*tag as u32) < tags && is_closed_below(tags, right),
+            _ => is_closed_below(tags, left) && is_closed_below(tags, right),
+        },
         Pattern::Star(part) => is_closed_below(tags, part),
     }
 }

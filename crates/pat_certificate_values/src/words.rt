@@ -16,7 +16,7 @@ use crate::looking::tag_count;
 use pat_bags::{Bag, TAGS};
 use pat_core::Program;
 use pat_derivations::{Derivation, VarValue};
-use pat_patterns::{Pattern, inhabited, nullable};
+use pat_patterns::{Pattern, nullable};
 use pat_sequences::Sequence;
 use std::alloc::{AllocError, Global};
 
@@ -69,14 +69,14 @@ fn value_nullable(tags: usize, value: &VarValue) -> bool
     }
 }
 
-#[tactic(auto, using(crate::proofs::Grids::grid_inhabited))]
+#[tactic(auto, using(crate::proofs::Grids::grid_inhabited, crate::proofs::Flags::unflagged))]
 fn value_inhabited(tags: usize, value: &VarValue) -> bool
     requires { IsTrue (value_fits tags (value_view value.now)) }
     ensures { result ≡ is_inhabited (value_pattern tags (value_view value.now)) }
 {
     let _ = tags;
     match value {
-        VarValue::Pattern(pattern) => inhabited(pattern),
+        VarValue::Pattern(pattern) => inhabited_by(&[], pattern),
         VarValue::Grid { k: _, points } => !points.is_empty(),
     }
 }
@@ -136,7 +136,10 @@ fn inhabited_by(flags: &[bool], pattern: &Pattern) -> bool
         Pattern::One | Pattern::Tag(_) | Pattern::Star(_) => true,
         Pattern::Var(number) => flag(flags, *number),
         Pattern::Sum(left, right) => inhabited_by(flags, left) || inhabited_by(flags, right),
-        Pattern::Prod(left, right) => inhabited_by(flags, left) && inhabited_by(flags, right),
+        Pattern::Prod(left, right) => match &**left {
+            Pattern::Tag(_) => inhabited_by(flags, right),
+            _ => inhabited_by(flags, left) && inhabited_by(flags, right),
+        },
     }
 }
 
