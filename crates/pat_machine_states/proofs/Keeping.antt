@@ -35,7 +35,7 @@ use Rattle.pat_machine_indexes.proofs.Boxed.{pending_view, live_view, is_live, n
 use Rattle.pat_machine_threads.specs.store.InPlace.{HasNone, frees_by, redex_frees, IsSent, SendsOut, IsMade, MakesOut, IsFreed, FreesOut}
 use Rattle.pat_machine_threads.specs.store.Steps.{IsTaken, StepsApart}
 use Rattle.pat_machine_states.specs.Boxes.{state_view, AreOf, IsState}
-use Rattle.pat_machine_states.specs.Stepping.{ReferToLive}
+use Rattle.pat_machine_states.specs.Stepping.{ReferToLive, SendsToLive}
 
 all_filter : {A : Type 0} (P : A → Type 0) (f : A → Bool) (xs : List A) → AllByRecursion P xs → AllByRecursion P (filter f xs)
 all_filter P f [] h = tt
@@ -242,9 +242,9 @@ module _ (p : Program) (c : Config) (latest : Option ℕ) (ms : List (Option Mai
         (send_step p single t x.thread (own_there t x.thread) ∙ ap (option_map (sent single t x.thread.frames)) x.message)
         refl
 
-    module _ (ordered : IsOrdered seen) (refer : ReferToLive seen) where
+    module _ (ordered : IsOrdered seen) (to_live : SendsToLive p seen t) where
       target_live : is_some (box_at boxes m.mailbox) ≡ true
-      target_live = sym (live_is_listed boxes m.mailbox) ∙ refer m.mailbox sends.named
+      target_live = sym (live_is_listed boxes m.mailbox) ∙ to_live x.thread (message_view m) x.there x.message
 
       pub mailbox_live : IsLive ms m.mailbox
       mailbox_live = is_live ms m.mailbox (sym (live_view ms m.mailbox) ∙ target_live)
@@ -413,6 +413,13 @@ module _ (p : Program) (c : Config) (latest : Option ℕ) (ms : List (Option Mai
               };
             },
           )
+
+-- where what threads refer to is live, so is what they send to
+pub refer_sends : (p : Program) (c : Config) (t : ℕ) → ReferToLive c → SendsToLive p c t
+refer_sends p c t refer s m there message =
+    let single : Config = alone c t s [] in
+    let leaves = send_leaves p c (sent single t s.frames m) t s m there (send_step p single t s (own_there t s) ∙ ap (option_map (sent single t s.frames)) message) refl in
+    refer m.mailbox leaves.named
 
 -- a refusal
 pub refused_as : (after : Option Config) (c d : Config) (e : StepError) → (e ≡ Disabled → after ≡ None) → d ≡ c → StepGives (λ x. x) after c d (Err e)

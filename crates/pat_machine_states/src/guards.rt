@@ -86,13 +86,15 @@ impl IndexedConfig {
         self.is_live(mailbox) && !self.has_pending(mailbox) && counted.names_alone(control, mailbox)
     }
 
-    fn is_live(&self, mailbox: u32) -> bool
+    /// Whether a mailbox is live. It takes no memory.
+    pub fn is_live(&self, mailbox: u32) -> bool
         ensures { result ≡ is_among mailbox self.now.config.live }
     {
         self.mailboxes.is_live(mailbox)
     }
 
-    fn has_pending(&self, mailbox: u32) -> bool
+    /// Whether a message is pending in a mailbox. It takes no memory.
+    pub fn has_pending(&self, mailbox: u32) -> bool
         ensures { result ≡ has_pending mailbox self.now.config.messages }
     {
         self.mailboxes.is_live(mailbox) && self.mailboxes.len(mailbox) > 0

@@ -9,7 +9,7 @@ ghost use Rattle.pat_reduce.specs.threads.ThreadViews.{message_view};
 ghost use Rattle.pat_reduce.specs.Views.{act_view, step_view};
 ghost use Rattle.pat_machine_spec.specs.Machines.{HasRoom};
 ghost use Rattle.pat_machine_threads.specs.store.Alone.{is_beside};
-ghost use Rattle.pat_machine_states.specs.Stepping.{ReferToLive};
+ghost use Rattle.pat_machine_states.specs.Stepping.{SendsToLive};
 ghost use Rattle.pat_machine_states.specs.Taking.{outcome};
 
 use crate::IndexedConfig;
@@ -19,8 +19,9 @@ use pat_reduce_values::Executable;
 use std::alloc::Global;
 
 impl IndexedConfig {
-    /// Takes a step that is enabled, and gives the message that it received. An error changes nothing.
-    pub(crate) fn step(
+    /// Takes a step, if it is enabled, and gives the message that it received. A send goes to a live mailbox, and there is a place for
+    /// its message; a free is enabled. An error changes nothing.
+    pub fn step(
         &mut self,
         alloc: Global,
         code: &Executable,
@@ -28,9 +29,10 @@ impl IndexedConfig {
     ) -> Result<Option<Message>, StepError>
         requires room { HasRoom self.old.config }
         requires ordered { IsOrdered self.old.config }
-        requires live { ReferToLive self.old.config }
-        requires enabled { IsEnabled (program_view code.now.program) self.old.config (step_view step.now) }
+        requires live { act_view step.now.act ≡ ActSend → SendsToLive (program_view code.now.program) self.old.config step.now.thread }
         requires place { act_view step.now.act ≡ ActSend → length self.old.config.messages < self.old.places }
+        requires free { act_view step.now.act ≡ ActFree
+            → IsEnabled (program_view code.now.program) self.old.config (record { thread = step.now.thread; act = ActFree }) }
         ensures step { StepGives (λ c. c) (after_step (program_view code.now.program) self.old.config
             (step_view step.now)) self.old.config self.new.config (outcome result) }
         ensures places { self.new.places ≡ self.old.places }
@@ -89,7 +91,7 @@ impl IndexedConfig {
     fn send(&mut self, alloc: Global, code: &Executable, thread: u32) -> Result<(), StepError>
         requires room { HasRoom self.old.config }
         requires ordered { IsOrdered self.old.config }
-        requires live { ReferToLive self.old.config }
+        requires live { SendsToLive (program_view code.now.program) self.old.config thread }
         requires place { length self.old.config.messages < self.old.places }
         ensures step { StepGives (λ c. c) (after_step (program_view code.now.program) self.old.config
             (record { thread = thread; act = ActSend })) self.old.config self.new.config result }

@@ -3,5 +3,6 @@ mod Entries
 mod Halves
 mod MayFree
 mod Refusing
+mod Settling
 mod Walks
 mod Makes

@@ -1,9 +1,14 @@
--- How often mailboxes are named, as a replay counts it.
-use Rattle.std.specs.Prelude.{◌≡◌, ℕ, ◌+◌, ◌≤◌, Bool, true, false, IsTrue, List, [], ◌∷◌, length, Option, Some, None}
-use Rattle.pat_semantics_spec.specs.Configs.{Frame, Thread, Config, thread_at}
-use Rattle.pat_semantics_spec.specs.Steps.{Act}
-use Rattle.pat_machine_laws.specs.refcounts.Naming.{times_in_control, times_in_env, times_in_thread, times_in}
-use Rattle.pat_machine_laws.specs.refcounts.Counting.{count_at, times_come, times_gone}
+-- How often mailboxes are named, as a replay counts it, and what it can tell by that.
+use Rattle.std.specs.Prelude.{◌≡◌, ℕ, ◌+◌, ◌<◌, Bool, IsTrue, List, [], ◌∷◌, ◌++◌, length}
+use Rattle.pat_semantics_spec.specs.Programs.{Program}
+use Rattle.pat_semantics_spec.specs.Configs.{Message, Config}
+use Rattle.pat_semantics_spec.specs.Runs.{IsShared}
+use Rattle.pat_semantics_spec.specs.Steps.{ActFree, ActSend, Step}
+use Rattle.pat_semantics_laws.specs.Laws.{IsEnabled}
+use Rattle.pat_machine_laws.specs.refcounts.Naming.{times_in}
+use Rattle.pat_machine_laws.specs.refcounts.Counting.{count_at}
+use Rattle.pat_machine_states.specs.Boxes.{Indexed}
+use Rattle.pat_machine_states.specs.Stepping.{SendsToLive}
 use Rattle.pat_replay.specs.declared.names.Change.{Change}
 use Rattle.pat_replay.specs.declared.names.Change.TheVariants.{Come, Go}
 use Rattle.pat_replay.specs.declared.counting.Names.{Names}
@@ -13,45 +18,24 @@ abbrev pub Changes : Change → List ℕ → (ℕ → ℕ) → List ℕ → Type
 Changes Come old names new = (a : ℕ) → count_at new a ≡ count_at old a + names a
 Changes Go old names new = (a : ℕ) → count_at new a + names a ≡ count_at old a
 
--- how often the frame on top names a mailbox
-abbrev pub times_in_top : ℕ → List Frame → ℕ
-times_in_top a [] = 0
-times_in_top a (f ∷ fs) = times_in_env a f.env
-
--- how often the control does, with the frame on top or without it
-abbrev pub times_on_top : (framed : Bool) → ℕ → Thread → ℕ
-times_on_top false a s = times_in_control a s.control
-times_on_top true a s = times_in_control a s.control + times_in_top a s.frames
-
--- the frames below what is looked at on top
-abbrev pub under : (framed : Bool) → List Frame → List Frame
-under false fs = fs
-under true [] = []
-under true (f ∷ fs) = fs
-
 -- each name of the configuration is counted
 abbrev pub CountsAll : List ℕ → Config → Type 0
 CountsAll ns c = (a : ℕ) → count_at ns a ≡ times_in a c
 
 -- where names are counted, all are
 abbrev pub Knows : Names → Config → Type 0
-Knows names c = IsTrue names.known → CountsAll names.times.items c
+Knows names c = IsTrue names.known → CountsAll names.counts.times.items c
 
--- all but what the thread's top names, and what the act takes out of the configuration besides
-abbrev pub CountsBut : Bool → List ℕ → Config → (t : ℕ) → Act → Type 0
-CountsBut framed ns c t act = (s : Thread) → thread_at c t ≡ Some s → (a : ℕ) → count_at ns a + (times_on_top framed a s + times_gone c (Some act) a) ≡ times_in a c
+-- the last message is the one that was sent last
+pub record IsSentLast (d : Config) : Type 0 where
+  pub before : List Message
+  pub message : Message
+  pub last : d.messages ≡ before ++ message ∷ []
+  pub next : message.number + 1 ≡ d.next_message
 
--- what isn't counted is named by no other than this thread
-abbrev pub TellsOthers : List ℕ → Config → (t : ℕ) → Type 0
-TellsOthers ns c t = (s : Thread) → thread_at c t ≡ Some s → (a : ℕ) → count_at ns a ≡ 0 → times_in a c ≤ times_in_thread a s
-
--- the top of the thread, if it is still there, is counted down to so many frames, which lie below; else there are none
-abbrev pub CountsThread : (below : ℕ) → List ℕ → Option Thread → List ℕ → Type 0
-CountsThread below old None new = (below ≡ 0) × ((a : ℕ) → count_at new a ≡ count_at old a)
-CountsThread below old (Some r) new = (framed : Bool) × (length (under framed r.frames) ≡ below) × ((a : ℕ) → count_at new a ≡ count_at old a + times_on_top framed a r)
-
--- what a step of thread t from c to d put there is counted: what the act put there, and then the top of the thread
-pub record CountsPut (below : ℕ) (old : List ℕ) (c d : Config) (t : ℕ) (act : Act) (new : List ℕ) : Type 0 where
-  pub between : List ℕ
-  pub put : Changes Come old (times_come c d (Some act)) between
-  pub thread : CountsThread below between (thread_at d t) new
+-- tables have what the step leads to, if it is enabled: it is a shared one, a send goes to a live mailbox and finds a place, and a free is enabled
+pub record CanTake (p : Program) (s : Indexed) (k : Step) : Type 0 where
+  pub shared : IsShared k.act
+  pub live : k.act ≡ ActSend → SendsToLive p s.config k.thread
+  pub place : k.act ≡ ActSend → length s.config.messages < s.places
+  pub free : k.act ≡ ActFree → IsEnabled p s.config (record { thread = k.thread; act = ActFree })

@@ -27,6 +27,12 @@ EntryGives p c e d (Ok _) = entry_from p c (entry_steps e) ≡ Some d
 EntryGives p c e d (Err step_error.Disabled) = entry_from p c (entry_steps e) ≡ None
 EntryGives p c e d (Err step_error.NoMemory) = Unit {0}
 
+-- what follows is d; or nothing does
+abbrev pub LeadsTo : Option Config → Config → Result (Unit {0}) StepError → Type 0
+LeadsTo after d (Ok _) = after ≡ Some d
+LeadsTo after d (Err step_error.Disabled) = after ≡ None
+LeadsTo after d (Err step_error.NoMemory) = Unit {0}
+
 -- fewer than n local steps of the thread are enabled, one after another
 pub record StopsBefore (p : Program) (c : Config) (t n : ℕ) : Type 0 where
   pub taken : ℕ

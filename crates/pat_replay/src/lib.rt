@@ -3,13 +3,14 @@
 
 mod counting;
 mod error;
-mod freeing;
+mod kept;
 mod making;
 mod names;
 mod places;
+mod plain;
 mod replaying;
-mod stepping;
+mod tables;
 
 pub use error::ReplayError;
 pub use making::Reached;
-pub use replaying::replay_from;
+pub use replaying::{replay_from, replay_from_start};

@@ -6,10 +6,11 @@ ghost use Rattle.pat_semantics_spec.specs.Orders.{IsOrdered};
 ghost use Rattle.pat_semantics_spec.specs.Steps.{ActNew, redex};
 ghost use Rattle.pat_core.specs.Views.{program_view};
 ghost use Rattle.pat_type_system_spec.specs.Interfaces.{made_by, new_interface};
-ghost use Rattle.pat_reduce.specs.Views.{act_view, config_view};
+ghost use Rattle.pat_reduce.specs.Views.{act_view};
 ghost use Rattle.pat_reduce.specs.threads.ThreadViews.{control_view};
+ghost use Rattle.pat_replay.specs.Kept.{kept_view};
 
-use crate::places::place_among;
+use crate::kept::Kept;
 use pat_reduce::{Act, Config, Control, Core, Step, core_of};
 use pat_reduce_values::Executable;
 use pat_sequences::Sequence;
@@ -25,16 +26,16 @@ pub struct Reached {
 /// The interface of the mailbox that the step makes from this configuration, if it makes one, goes behind the others.
 pub fn note_made(
     code: &Executable,
-    config: &Config,
+    kept: &Kept,
     made: &mut Sequence<u32>,
     step: &Step,
 ) -> Result<(), AllocError>
-    requires { IsOrdered (config_view config.now) }
+    requires { IsOrdered (kept_view kept.now) }
     ensures { OnOk result (made.new ≡ made.old ++ option_list (made_by (program_view code.now.program) (act_view step.now.act)
-        (thread_at (config_view config.now) step.now.thread))) }
+        (thread_at (kept_view kept.now) step.now.thread))) }
 {
     match step.act {
-        Act::New => note_new(made, new_by(code, config, step.thread)),
+        Act::New => note_new(made, new_by(code, kept, step.thread)),
         _ => Ok(()),
     }
 }
@@ -49,12 +50,12 @@ fn note_new(made: &mut Sequence<u32>, interface: Option<u32>) -> Result<(), Allo
 }
 
 // The interface of the mailbox that the thread makes, if that is what it stands at.
-fn new_by(code: &Executable, config: &Config, thread: u32) -> Option<u32>
-    requires { IsOrdered (config_view config.now) }
-    ensures { result ≡ made_by (program_view code.now.program) ActNew (thread_at (config_view config.now) thread) }
+fn new_by(code: &Executable, kept: &Kept, thread: u32) -> Option<u32>
+    requires { IsOrdered (kept_view kept.now) }
+    ensures { result ≡ made_by (program_view code.now.program) ActNew (thread_at (kept_view kept.now) thread) }
 {
-    match place_among(config.threads.as_slice(), thread) {
-        Some(place) => new_interface(code, &config.threads.items[place].1.control),
+    match kept.thread(thread) {
+        Some(state) => new_interface(code, &state.control),
         None => None,
     }
 }

@@ -4,13 +4,15 @@ ghost use Rattle.pat_semantics_spec.specs.WellFormed.{count_if};
 ghost use Rattle.pat_semantics_spec.specs.Configs.{is_mailbox};
 ghost use Rattle.pat_reduce.specs.threads.ThreadViews.{control_view, frame_view, thread_view};
 ghost use Rattle.pat_reduce_values.specs.ValueViews.{env_view, value_view};
-ghost use Rattle.pat_machine_laws.specs.refcounts.Naming.{times_in_control, times_in_env, times_in_values};
+ghost use Rattle.pat_machine_spec.specs.Tops.{top_of};
+ghost use Rattle.pat_machine_laws.specs.refcounts.Naming.{times_in_control, times_in_env, times_in_frames, times_in_thread, times_in_values};
 ghost use Rattle.pat_machine_laws.specs.refcounts.Counting.{count_at};
-ghost use Rattle.pat_replay.specs.Naming.{Changes, times_in_top, times_on_top};
+ghost use Rattle.pat_replay.specs.Naming.{Changes};
 
+use pat_machine_laws::join_laws;
+use pat_machine_threads::top_frames;
 use pat_reduce::{Control, Frame, ThreadState};
 use pat_reduce_values::Value;
-use pat_sequences::Stack;
 
 /// Whether names come or go.
 #[derive(Clone, Copy, Drop)]
@@ -19,17 +21,36 @@ pub enum Change {
     Go,
 }
 
-/// What the control of a thread names, with the frame on top or without it. It says whether all could be counted, as all the others here do.
-pub fn change_top(times: &mut Vec<u32>, change: Change, state: &ThreadState, framed: bool) -> bool
-    ensures { IsTrue result → Changes change times.old.items (λ a. times_on_top framed a (thread_view state.now)) times.new.items }
+/// What the control of a thread and so many of its frames, those on top, name. It says whether all could be counted, as all the others here do.
+pub fn change_top(times: &mut Vec<u32>, change: Change, state: &ThreadState, frames: u32) -> bool
+    ensures { IsTrue result
+        → Changes change times.old.items (λ a. times_in_thread a (top_of frames (thread_view state.now))) times.new.items }
 {
-    if !change_control(times, change, &state.control) {
+    join_laws();
+    change_parts(
+        times,
+        change,
+        &state.control,
+        top_frames(&state.frames, frames),
+    )
+}
+
+/// What a thread names.
+pub fn change_thread(times: &mut Vec<u32>, change: Change, state: &ThreadState) -> bool
+    ensures { IsTrue result → Changes change times.old.items (λ a. times_in_thread a (thread_view state.now)) times.new.items }
+{
+    join_laws();
+    change_parts(times, change, &state.control, state.frames.as_slice())
+}
+
+fn change_parts(times: &mut Vec<u32>, change: Change, control: &Control, frames: &[Frame]) -> bool
+    ensures { IsTrue result → Changes change times.old.items
+        (λ a. times_in_control a (control_view control.now) + times_in_frames a (map frame_view frames.now)) times.new.items }
+{
+    if !change_control(times, change, control) {
         return false;
     }
-    if !framed {
-        return true;
-    }
-    change_frame(times, change, &state.frames)
+    change_frames(times, change, frames)
 }
 
 fn change_control(times: &mut Vec<u32>, change: Change, control: &Control) -> bool
@@ -41,13 +62,15 @@ fn change_control(times: &mut Vec<u32>, change: Change, control: &Control) -> bo
     }
 }
 
-fn change_frame(times: &mut Vec<u32>, change: Change, frames: &Stack<Frame>) -> bool
-    ensures { IsTrue result → Changes change times.old.items (λ a. times_in_top a (map frame_view frames.now)) times.new.items }
+fn change_frames(times: &mut Vec<u32>, change: Change, frames: &[Frame]) -> bool
+    ensures { IsTrue result → Changes change times.old.items (λ a. times_in_frames a (map frame_view frames.now)) times.new.items }
 {
-    match frames.top() {
-        Some(frame) => change_env(times, change, frame.env.as_slice()),
-        None => true,
+    for frame in frames {
+        if !change_env(times, change, frame.env.as_slice()) {
+            return false;
+        }
     }
+    true
 }
 
 fn change_env(times: &mut Vec<u32>, change: Change, env: &[(u32, Value)]) -> bool

@@ -1,13 +1,11 @@
 // Where a thread stands: threads ascend by number, so it is looked for by halves.
-ghost use Rattle.std.specs.Prelude.{◌≡◌, ◌<◌, ◌≤◌, ℕ, nat_eq, None, Some, length, slice_get, slice_set, IfSome, IfNone};
+ghost use Rattle.std.specs.Prelude.{◌≡◌, ◌<◌, ◌≤◌, nat_eq, None, Some, slice_get, IfSome, IfNone};
 ghost use Rattle.std.specs.Map.{keys_of, lookup};
 ghost use Rattle.pat_semantics_spec.specs.Orders.{AscendsFrom};
 ghost use Rattle.pat_reduce.specs.Views.{threads_view};
-ghost use Rattle.pat_reduce.specs.declared.threads.state.ThreadState.{ThreadState as StateOf};
 ghost use Rattle.pat_reduce.specs.Places.{IsPlace};
 
-use pat_reduce::{Control, ThreadState};
-use pat_sequences::Sequence;
+use pat_reduce::ThreadState;
 
 /// The place of the thread with this number.
 pub fn place_among(threads: &[(u32, ThreadState)], thread: u32) -> Option<usize>
@@ -38,15 +36,6 @@ pub fn state_at(threads: &[(u32, ThreadState)], thread: u32, place: usize) -> &T
     ensures { slice_get threads.now place ≡ Some (thread, result.now) }
 {
     &threads[place].1
-}
-
-/// The thread at a place goes on with this control.
-pub fn set_control(threads: &mut Sequence<(u32, ThreadState)>, place: usize, control: Control)
-    requires { place < length threads.old }
-    ensures { (e : ℕ × StateOf) → slice_get threads.old place ≡ Some e
-        → threads.new ≡ slice_set threads.old place (e.0, record { control = control; frames = e.1.frames }) }
-{
-    threads.items[place].1.control = control;
 }
 
 fn middle_of(low: usize, high: usize) -> usize

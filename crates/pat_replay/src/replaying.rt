@@ -1,7 +1,7 @@
 // The steps of a history, entry after entry.
-ghost use Rattle.std.specs.Prelude.{◌≡◌, ◌<◌, ◌++◌, [], length, map, option_map, IfOk, OnOk, IsTrue, IsFalse};
+ghost use Rattle.std.specs.Prelude.{◌≡◌, ◌++◌, [], length, map, option_map, IfOk, OnOk, IsTrue, IsFalse};
 ghost use Rattle.pat_semantics_spec.specs.Programs.{option_list};
-ghost use Rattle.pat_semantics_spec.specs.Configs.{thread_at};
+ghost use Rattle.pat_semantics_spec.specs.Configs.{start, thread_at};
 ghost use Rattle.pat_semantics_spec.specs.Orders.{IsOrdered};
 ghost use Rattle.pat_semantics_spec.specs.Runs.{entry_steps, shared_step};
 ghost use Rattle.pat_semantics_laws.specs.Laws.{history_steps};
@@ -9,22 +9,37 @@ ghost use Rattle.pat_type_system_spec.specs.Interfaces.{made_by};
 ghost use Rattle.pat_checkpoint_spec.specs.Resumed.{made_along};
 ghost use Rattle.pat_semantics_spec.specs.Steps.{step as after_step};
 ghost use Rattle.pat_core.specs.Views.{program_view};
-ghost use Rattle.pat_reduce_values.specs.Results.{StepGives};
-ghost use Rattle.pat_reduce.specs.declared.history.Act.TheVariants.{New, Send, Spawn};
 ghost use Rattle.pat_reduce.specs.Views.{act_view, config_view, entry_view, step_view};
-ghost use Rattle.pat_replay.specs.Replays.{HasTaken, HasRoom, ReplayGives, EntryGives, LocalsGive, SharedGives};
-ghost use Rattle.pat_replay.specs.Naming.{Knows};
-ghost use Rattle.pat_limits.specs.Limits.{most_number};
+ghost use Rattle.pat_replay.specs.Kept.{kept_view, IsKept};
+ghost use Rattle.pat_replay.specs.Replays.{HasTaken, HasRoom, ReplayGives, EntryGives, LeadsTo, SharedGives};
 
-use crate::counting::Names;
 use crate::error::ReplayError;
+use crate::kept::Kept;
 use crate::making::{Reached, note_made};
-use crate::stepping::take_step;
+use crate::tables::Tables;
 use pat_checkpoint_laws::made_laws;
 use pat_reduce::{Act, Config, Entry, Step, StepError};
 use pat_reduce_values::Executable;
 use pat_sequences::Sequence;
-use std::alloc::Global;
+use std::alloc::{AllocError, Global};
+
+/// Where a history leads, from the start of a program. So many entries leave numbers for what they make.
+pub fn replay_from_start(
+    alloc: Global,
+    code: &Executable,
+    entries: &[Entry],
+) -> Result<Reached, ReplayError>
+    requires room { HasRoom (start (program_view code.now.program)) (length entries.now) }
+    ensures replays { ReplayGives (program_view code.now.program) (start (program_view code.now.program)) (map entry_view entries.now)
+        result }
+    ensures made { IfOk result (λ r. r.made ≡ made_along (program_view code.now.program) (start (program_view code.now.program))
+        (history_steps (map entry_view entries.now))) }
+{
+    match Tables::start(alloc, code, sends_among(entries)) {
+        Ok(tables) => replay_kept(alloc, code, Kept::InTables(tables), entries),
+        Err(AllocError) => Err(ReplayError::NoMemory),
+    }
+}
 
 /// Where a history leads, from a configuration in order. So many entries leave numbers for what they make.
 pub fn replay_from(
@@ -39,19 +54,46 @@ pub fn replay_from(
     ensures made { IfOk result (λ r. r.made ≡ made_along (program_view code.now.program) (config_view config)
         (history_steps (map entry_view entries.now))) }
 {
+    replay_kept(alloc, code, Kept::Plain(config), entries)
+}
+
+// How many entries send: no more messages are ever pending.
+fn sends_among(entries: &[Entry]) -> u32 {
+    let mut sends: u32 = 0;
+    for entry in entries {
+        if entry.shared == Some(Act::Send) {
+            sends = sends.saturating_add(1);
+        }
+    }
+    sends
+}
+
+fn replay_kept(
+    alloc: Global,
+    code: &Executable,
+    kept: Kept,
+    entries: &[Entry],
+) -> Result<Reached, ReplayError>
+    requires ordered { IsOrdered (kept_view kept) }
+    requires room { HasRoom (kept_view kept) (length entries.now) }
+    requires kept { IsKept kept }
+    ensures replays { ReplayGives (program_view code.now.program) (kept_view kept) (map entry_view entries.now) result }
+    ensures made { IfOk result (λ r. r.made ≡ made_along (program_view code.now.program) (kept_view kept)
+        (history_steps (map entry_view entries.now))) }
+{
     // A law: what steps make joins.
     made_laws();
-    let mut config = config;
-    let mut names = Names::of(alloc, &config);
+    let mut kept = kept;
     let mut made = Sequence::new(alloc);
     for i in 0..entries.len() {
         let entry = entries[i];
-        match take_entry(alloc, code, &mut config, &mut names, &mut made, entry) {
+        match take_entry(alloc, code, &mut kept, &mut made, entry) {
             Ok(()) => {}
             Err(StepError::Disabled) => return Err(ReplayError::RefusedAt(i as u32)),
             Err(StepError::NoMemory) => return Err(ReplayError::NoMemory),
         }
     }
+    let config = kept.into_config(alloc)?;
     Ok(Reached { config, made })
 }
 
@@ -59,25 +101,24 @@ pub fn replay_from(
 fn take_entry(
     alloc: Global,
     code: &Executable,
-    config: &mut Config,
-    names: &mut Names,
+    kept: &mut Kept,
     made: &mut Sequence<u32>,
     entry: Entry,
 ) -> Result<(), StepError>
-    requires taken { HasTaken (config_view config.old) 4294967294 }
-    requires ordered { IsOrdered (config_view config.old) }
-    requires known { Knows names.old (config_view config.old) }
-    ensures gives { EntryGives (program_view code.now.program) (config_view config.old) (entry_view entry) (config_view config.new) result }
-    ensures known { OnOk result (Knows names.new (config_view config.new)) }
-    ensures made { OnOk result (made.new ≡ made.old ++ made_along (program_view code.now.program) (config_view config.old)
+    requires taken { HasTaken (kept_view kept.old) 4294967294 }
+    requires ordered { IsOrdered (kept_view kept.old) }
+    requires kept { IsKept kept.old }
+    ensures gives { EntryGives (program_view code.now.program) (kept_view kept.old) (entry_view entry) (kept_view kept.new) result }
+    ensures kept { OnOk result (IsKept kept.new) }
+    ensures made { OnOk result (made.new ≡ made.old ++ made_along (program_view code.now.program) (kept_view kept.old)
         (entry_steps (entry_view entry))) }
 {
     made_laws();
     if !has_step(&entry) {
         return Err(StepError::Disabled);
     }
-    match take_locals(alloc, code, config, names, entry.thread, entry.local) {
-        Ok(()) => take_shared(alloc, code, config, names, made, entry.thread, entry.shared),
+    match kept.run_locals(alloc, code, entry.thread, entry.local) {
+        Ok(()) => take_shared(alloc, code, kept, made, entry.thread, entry.shared),
         Err(error) => Err(error),
     }
 }
@@ -89,54 +130,26 @@ fn has_step(entry: &Entry) -> bool
     entry.local > 0 || entry.shared.is_some()
 }
 
-// So many local steps of a thread.
-fn take_locals(
-    alloc: Global,
-    code: &Executable,
-    config: &mut Config,
-    names: &mut Names,
-    thread: u32,
-    count: u32,
-) -> Result<(), StepError>
-    requires ordered { IsOrdered (config_view config.old) }
-    requires known { Knows names.old (config_view config.old) }
-    ensures gives { LocalsGive (program_view code.now.program) (config_view config.old) thread count (config_view config.new) result }
-    ensures known { OnOk result (Knows names.new (config_view config.new)) }
-{
-    let step = Step {
-        thread,
-        act: Act::Local,
-    };
-    for taken in 0..count {
-        match take_step(alloc, code, config, names, &step) {
-            Ok(()) => {}
-            Err(error) => return Err(error),
-        }
-    }
-    Ok(())
-}
-
 // The shared step of an entry, if it has one.
 fn take_shared(
     alloc: Global,
     code: &Executable,
-    config: &mut Config,
-    names: &mut Names,
+    kept: &mut Kept,
     made: &mut Sequence<u32>,
     thread: u32,
     shared: Option<Act>,
 ) -> Result<(), StepError>
-    requires taken { HasTaken (config_view config.old) 4294967294 }
-    requires ordered { IsOrdered (config_view config.old) }
-    requires known { Knows names.old (config_view config.old) }
-    ensures gives { SharedGives (program_view code.now.program) (config_view config.old) thread (option_map act_view shared)
-        (config_view config.new) result }
-    ensures known { OnOk result (Knows names.new (config_view config.new)) }
-    ensures made { OnOk result (made.new ≡ made.old ++ made_along (program_view code.now.program) (config_view config.old)
+    requires taken { HasTaken (kept_view kept.old) 4294967294 }
+    requires ordered { IsOrdered (kept_view kept.old) }
+    requires kept { IsKept kept.old }
+    ensures gives { SharedGives (program_view code.now.program) (kept_view kept.old) thread (option_map act_view shared)
+        (kept_view kept.new) result }
+    ensures kept { OnOk result (IsKept kept.new) }
+    ensures made { OnOk result (made.new ≡ made.old ++ made_along (program_view code.now.program) (kept_view kept.old)
         (shared_step thread (option_map act_view shared))) }
 {
     match shared {
-        Some(act) => take_noted(alloc, code, config, names, made, &Step { thread, act }),
+        Some(act) => take_noted(alloc, code, kept, made, &Step { thread, act }),
         None => Ok(()),
     }
 }
@@ -145,24 +158,20 @@ fn take_shared(
 fn take_noted(
     alloc: Global,
     code: &Executable,
-    config: &mut Config,
-    names: &mut Names,
+    kept: &mut Kept,
     made: &mut Sequence<u32>,
     step: &Step,
 ) -> Result<(), StepError>
-    requires ordered { IsOrdered (config_view config.old) }
-    requires known { Knows names.old (config_view config.old) }
-    requires mailboxes { step.now.act ≡ New → config.old.next_mailbox < most_number }
-    requires messages { step.now.act ≡ Send → config.old.next_message < most_number }
-    requires threads { step.now.act ≡ Spawn → config.old.next_thread < most_number }
-    ensures gives { StepGives config_view (after_step (program_view code.now.program) (config_view config.old) (step_view step.now))
-        config.old config.new result }
-    ensures known { OnOk result (Knows names.new (config_view config.new)) }
+    requires taken { HasTaken (kept_view kept.old) 4294967294 }
+    requires ordered { IsOrdered (kept_view kept.old) }
+    requires kept { IsKept kept.old }
+    ensures gives { LeadsTo (after_step (program_view code.now.program) (kept_view kept.old) (step_view step.now)) (kept_view kept.new) result }
+    ensures kept { OnOk result (IsKept kept.new) }
     ensures made { OnOk result (made.new ≡ made.old ++ option_list (made_by (program_view code.now.program) (act_view step.now.act)
-        (thread_at (config_view config.old) step.now.thread))) }
+        (thread_at (kept_view kept.old) step.now.thread))) }
 {
-    match note_made(code, config, made, step) {
-        Ok(()) => take_step(alloc, code, config, names, step),
+    match note_made(code, kept, made, step) {
+        Ok(()) => kept.take(alloc, code, step),
         Err(_) => Err(StepError::NoMemory),
     }
 }

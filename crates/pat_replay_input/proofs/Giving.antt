@@ -19,8 +19,10 @@ use Rattle.pat_front.specs.declared.verdict.Verdict.{Verdict}
 use Rattle.pat_front.specs.declared.verdict.Verdict.TheVariants as verdict
 use Rattle.pat_replay_input.specs.declared.histories.Replayed.{Replayed}
 use Rattle.pat_replay_input.specs.Histories.{IsHistoryPart, HasReplay, HasBadLine, HasBadEntry, Unreplayed, Replays, RefusesText, IsReplayRefusal}
-use Rattle.pat_replay.specs.Replays.{HasRoom}
-use Rattle.pat_replay_input.specs.Gives.{BytesGive, TextGives, RefusesPart, PartGives}
+use Rattle.pat_replay.specs.declared.error.ReplayError.{ReplayError}
+use Rattle.pat_replay.specs.declared.error.ReplayError.TheVariants as replay_error
+use Rattle.pat_replay.specs.Replays.{HasRoom, ReplayGives}
+use Rattle.pat_replay_input.specs.Gives.{BytesGive, TextGives, RefusesPart, PartGives, refusal_of}
 use Rattle.pat_limits.specs.Limits.{most_number}
 use Rattle.pat_input.specs.Inputs.{whole_limit}
 
@@ -86,6 +88,14 @@ module _ (p : Program) (b : Config) (from : ℕ) (text part : List ℕ) (own : I
       go (Ok x) (is, read, replayed) = (is, record { part = part; own = own; read = read; replayed = replayed })
       go (Err (error.Refused v)) why = of_refusal v why
       go (Err error.NoMemory) why = tt
+
+-- an entry that is refused, or want of memory, as it is said
+pub refusal_gives : (p : Program) (b : Config) (from : ℕ) (part : List ℕ) (es : List Entry) (e : ReplayError) (f : FrontError) → f ≡ refusal_of e → ReadsAs part es → ReplayGives p b es (Err e) → PartGives p b from part (Err f)
+refusal_gives p b from part es e f is read gives = subst (λ x. PartGives p b from part (Err x)) (sym is) (go e gives)
+  where
+    go : (e : ReplayError) → ReplayGives p b es (Err e) → PartGives p b from part (Err (refusal_of e))
+    go (replay_error.RefusedAt i) why = (es, read, why)
+    go replay_error.NoMemory why = tt
 
 -- ---- whole inputs
 

@@ -9,7 +9,8 @@ use Rattle.pat_core.specs.Views.{program_view}
 use Rattle.pat_reduce.specs.Views.{config_view, entry_view}
 use Rattle.pat_machine_spec.specs.Refusals.{IsRefusedAt}
 use Rattle.pat_checkpoint_spec.specs.Resumed.{made_along}
-use Rattle.pat_replay.specs.declared.making.Reached.{Reached}
+use Rattle.pat_replay.specs.declared.error.ReplayError.{ReplayError}
+use Rattle.pat_replay.specs.declared.error.ReplayError.TheVariants as replay_error
 use Rattle.pat_history_spec.specs.Reading.{ReadsAs, Unread}
 use Rattle.pat_front.specs.declared.front.FrontError.{FrontError}
 use Rattle.pat_front.specs.declared.front.FrontError.TheVariants as error
@@ -46,9 +47,7 @@ PartGives p b from part (Err error.NoMemory) = Unit {0}
 abbrev pub Makes : Program → Config → Replayed → Type 0
 Makes p b r = r.made ≡ made_along p b (history_steps (map entry_view r.entries.items))
 
--- where entries lead, or which of them is refused
-abbrev pub EntriesGive : Program → Config → List Entry → Result Reached FrontError → Type 0
-EntriesGive p b es (Ok r) = replay_from p b es ≡ Some (config_view r.config)
-EntriesGive p b es (Err (error.Refused (verdict.RefusedAt i))) = IsRefusedAt p b es i
-EntriesGive p b es (Err (error.Refused _)) = ⊥
-EntriesGive p b es (Err error.NoMemory) = Unit {0}
+-- what is said where a history isn't replayed
+abbrev pub refusal_of : ReplayError → FrontError
+refusal_of (replay_error.RefusedAt i) = error.Refused (verdict.RefusedAt i)
+refusal_of replay_error.NoMemory = error.NoMemory

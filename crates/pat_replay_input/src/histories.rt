@@ -9,7 +9,7 @@ ghost use Rattle.pat_semantics_laws.specs.Laws.{history_steps};
 ghost use Rattle.pat_checkpoint_spec.specs.Resumed.{made_along};
 ghost use Rattle.pat_replay.specs.Replays.{HasRoom};
 ghost use Rattle.pat_replay_input.specs.Histories.{IsHistoryPart};
-ghost use Rattle.pat_replay_input.specs.Gives.{BytesGive, TextGives, PartGives, EntriesGive, Makes};
+ghost use Rattle.pat_replay_input.specs.Gives.{BytesGive, TextGives, PartGives, Makes, refusal_of};
 ghost use Rattle.pat_limits.specs.Limits.{most_number};
 ghost use Rattle.pat_input.specs.Inputs.{whole_limit};
 
@@ -19,7 +19,7 @@ use pat_history::read;
 use pat_input_split::{place_of_mark, program_before};
 use pat_reduce::{Config, Entry};
 use pat_reduce_values::Executable;
-use pat_replay::{Reached, ReplayError, replay_from};
+use pat_replay::{ReplayError, replay_from, replay_from_start};
 use pat_sequences::Sequence;
 use pat_texts::TextError;
 use std::alloc::Global;
@@ -58,11 +58,43 @@ fn replay_text(
     ensures few { IfOk result (λ r. length r.entries.items < most_number) }
 {
     match Executable::new(alloc, program) {
-        Ok(code) => match Config::start(alloc, &code) {
-            Ok(config) => replay_part(alloc, code, config, before_output(text), from),
-            Err(_) => Err(FrontError::NoMemory),
-        },
+        Ok(code) => replay_part_from_start(alloc, code, before_output(text), from),
         Err(_) => Err(FrontError::NoMemory),
+    }
+}
+
+fn replay_part_from_start(
+    alloc: Global,
+    code: Executable,
+    part: &[u8],
+    from: u32,
+) -> Result<Replayed, FrontError>
+    requires room { from + length part.now ≤ whole_limit }
+    ensures gives { PartGives (program_view code.program) (start (program_view code.program)) from part.now result }
+    ensures few { IfOk result (λ r. length r.entries.items < most_number) }
+{
+    match read(alloc, part, from) {
+        Ok(entries) => match replay_from_start(alloc, &code, &entries) {
+            Ok(reached) => Ok(Replayed {
+                code,
+                entries,
+                config: reached.config,
+                made: reached.made,
+            }),
+            Err(error) => Err(refusal_of(error)),
+        },
+        Err(TextError::BadText(offset)) => Err(FrontError::Refused(Verdict::BadText(offset))),
+        Err(TextError::NoMemory) => Err(FrontError::NoMemory),
+    }
+}
+
+// What is said where a history isn't replayed.
+fn refusal_of(error: ReplayError) -> FrontError
+    ensures { result ≡ refusal_of error }
+{
+    match error {
+        ReplayError::RefusedAt(entry) => FrontError::Refused(Verdict::RefusedAt(entry)),
+        ReplayError::NoMemory => FrontError::NoMemory,
     }
 }
 
@@ -110,36 +142,16 @@ fn replay_part(
     ensures made { IfOk result (Makes (program_view code.program) (config_view config)) }
 {
     match read(alloc, part, from) {
-        Ok(entries) => match replay_entries(alloc, &code, config, &entries) {
+        Ok(entries) => match replay_from(alloc, &code, config, &entries) {
             Ok(reached) => Ok(Replayed {
                 code,
                 entries,
                 config: reached.config,
                 made: reached.made,
             }),
-            Err(error) => Err(error),
+            Err(error) => Err(refusal_of(error)),
         },
         Err(TextError::BadText(offset)) => Err(FrontError::Refused(Verdict::BadText(offset))),
         Err(TextError::NoMemory) => Err(FrontError::NoMemory),
-    }
-}
-
-// Where the entries lead.
-fn replay_entries(
-    alloc: Global,
-    code: &Executable,
-    config: Config,
-    entries: &[Entry],
-) -> Result<Reached, FrontError>
-    requires ordered { IsOrdered (config_view config) }
-    requires numbers { HasRoom (config_view config) (length entries.now) }
-    ensures gives { EntriesGive (program_view code.now.program) (config_view config) (map entry_view entries.now) result }
-    ensures made { IfOk result (λ r. r.made ≡ made_along (program_view code.now.program) (config_view config)
-        (history_steps (map entry_view entries.now))) }
-{
-    match replay_from(alloc, code, config, entries) {
-        Ok(reached) => Ok(reached),
-        Err(ReplayError::RefusedAt(entry)) => Err(FrontError::Refused(Verdict::RefusedAt(entry))),
-        Err(ReplayError::NoMemory) => Err(FrontError::NoMemory),
     }
 }

@@ -6,7 +6,7 @@ use Rattle.pat_core.specs.Views.{program_view}
 use Rattle.pat_reduce_values.specs.Results.{StepGives}
 use Rattle.pat_machine_indexes.specs.messages.Mailboxes.{Contents}
 use Rattle.pat_machine_states.specs.Boxes.{state_view}
-use Rattle.pat_machine_states.specs.Stepping.{ReferToLive}
+use Rattle.pat_machine_states.specs.Stepping.{SendsToLive}
 use Rattle.pat_machine_states.proofs.Keeping.{counted, mailbox_live, last_there, send_done, send_refused}
 use Rattle.pat_machine_states.proofs.Seen.{config_of, places_of}
 use Rattle.pat_machine_states.proofs.state.IndexedConfig.send.Goals as goal
@@ -22,25 +22,25 @@ send-requires-in-Ok-clause-live c =
     let i = c.self.inside in
     let m = c.in-Ok.message in
     let ordered = subst IsOrdered (sym (config_of c.self.view_is)) c.requires.ordered in
-    let refer = subst ReferToLive (sym (config_of c.self.view_is)) c.requires.live in
-    mailbox_live (program_view c.args.code.now.program) i.placed i.latest i.mailboxes.mailboxes c.self.invariant c.args.thread m c.send.new.self c.in-Ok.ensures ordered refer
+    let live = subst (λ d. SendsToLive (program_view c.args.code.now.program) d c.args.thread) (sym (config_of c.self.view_is)) c.requires.live in
+    mailbox_live (program_view c.args.code.now.program) i.placed i.latest i.mailboxes.mailboxes c.self.invariant c.args.thread m c.send.new.self c.in-Ok.ensures ordered live
 
 pub send-requires-in-Ok-clause-last : goal.send-requires-in-Ok-clause-last
 send-requires-in-Ok-clause-last c =
     let i = c.self.inside in
     let m = c.in-Ok.message in
     let ordered = subst IsOrdered (sym (config_of c.self.view_is)) c.requires.ordered in
-    let refer = subst ReferToLive (sym (config_of c.self.view_is)) c.requires.live in
-    last_there (program_view c.args.code.now.program) i.placed i.latest i.mailboxes.mailboxes c.self.invariant c.args.thread m c.send.new.self c.in-Ok.ensures ordered refer
+    let live = subst (λ d. SendsToLive (program_view c.args.code.now.program) d c.args.thread) (sym (config_of c.self.view_is)) c.requires.live in
+    last_there (program_view c.args.code.now.program) i.placed i.latest i.mailboxes.mailboxes c.self.invariant c.args.thread m c.send.new.self c.in-Ok.ensures ordered live
 
 pub invariant_of-self : goal.invariant_of-self
 invariant_of-self c =
     let i = c.self.inside in
     let m = c.in-Ok.message in
     let ordered = subst IsOrdered (sym (config_of c.self.view_is)) c.requires.ordered in
-    let refer = subst ReferToLive (sym (config_of c.self.view_is)) c.requires.live in
+    let live = subst (λ d. SendsToLive (program_view c.args.code.now.program) d c.args.thread) (sym (config_of c.self.view_is)) c.requires.live in
     let grown = ap (λ (x : Contents). x.mailboxes) c.send-in-Ok.ensures in
-    (send_done (program_view c.args.code.now.program) i.placed i.latest i.mailboxes.mailboxes c.self.invariant c.args.thread m c.send.new.self c.in-Ok.ensures ordered refer c.send-in-Ok.new.self.mailboxes grown).1
+    (send_done (program_view c.args.code.now.program) i.placed i.latest i.mailboxes.mailboxes c.self.invariant c.args.thread m c.send.new.self c.in-Ok.ensures ordered live c.send-in-Ok.new.self.mailboxes grown).1
 
 pub returns-in-Ok-clause-step : goal.returns-in-Ok-clause-step
 returns-in-Ok-clause-step c =
@@ -48,10 +48,10 @@ returns-in-Ok-clause-step c =
     let p = program_view c.args.code.now.program in
     let m = c.in-Ok.message in
     let ordered = subst IsOrdered (sym (config_of c.self.view_is)) c.requires.ordered in
-    let refer = subst ReferToLive (sym (config_of c.self.view_is)) c.requires.live in
+    let live = subst (λ d. SendsToLive (program_view c.args.code.now.program) d c.args.thread) (sym (config_of c.self.view_is)) c.requires.live in
     let grown = ap (λ (x : Contents). x.mailboxes) c.send-in-Ok.ensures in
     subst (λ d. step p d (record { thread = c.args.thread; act = ActSend }) ≡ Some (state_view c.send.new.self c.send-in-Ok.new.self.mailboxes)) (config_of c.self.view_is)
-    (send_done p i.placed i.latest i.mailboxes.mailboxes c.self.invariant c.args.thread m c.send.new.self c.in-Ok.ensures ordered refer c.send-in-Ok.new.self.mailboxes grown).0
+    (send_done p i.placed i.latest i.mailboxes.mailboxes c.self.invariant c.args.thread m c.send.new.self c.in-Ok.ensures ordered live c.send-in-Ok.new.self.mailboxes grown).0
 
 pub returns-in-Err-clause-step : goal.returns-in-Err-clause-step
 returns-in-Err-clause-step c =
