@@ -5,17 +5,28 @@ use Rattle.std.specs.declared.result.Result.TheVariants.{Ok, Err}
 use Rattle.std.proofs.lemmas.List.{drop_more}
 use Rattle.pat_semantics_spec.specs.Programs.{Program, option_list}
 use Rattle.pat_semantics_spec.specs.Configs.{Config, thread_at}
-use Rattle.pat_semantics_spec.specs.Steps.{Act, step}
+use Rattle.pat_semantics_spec.specs.Steps.{Act, Step, step}
 use Rattle.pat_semantics_spec.specs.Runs.{Entry, run_from, shared_step, entry_steps, entry_from}
 use Rattle.pat_semantics_laws.specs.Laws.{history_steps}
+use Rattle.pat_semantics_laws.proofs.Replays.{first_of}
 use Rattle.pat_type_system_spec.specs.Interfaces.{made_by}
 use Rattle.pat_machine_spec.specs.Commits.{local_of}
 use Rattle.pat_reduce.specs.declared.history.Entry.{Entry as CodeEntry}
 use Rattle.pat_reduce_values.specs.declared.error.StepError.{StepError}
 use Rattle.pat_reduce.specs.Views.{entry_view}
 use Rattle.pat_checkpoint_spec.specs.Resumed.{made_along}
-use Rattle.pat_checkpoint_laws.specs.resuming.Laws.{MadeJoins}
 use Rattle.pat_replay.proofs.Entries.{of_entry}
+
+-- what steps make joins
+joins : (p : Program) (ks js : List Step) (c d : Config) → run_from p c ks ≡ Some d → made_along p c (ks ++ js) ≡ made_along p c ks ++ made_along p d js
+joins p [] js c d h = let same : c ≡ d = cc in ap (λ x. made_along p x js) same
+joins p (k ∷ ks) js c d h =
+    let q = first_of (λ x. run_from p x ks) d (step p c k) h in
+    let own = option_list (made_by p k.act (thread_at c k.thread)) in
+    ap (λ o. own ++ unwrap_or (option_map (λ x. made_along p x (ks ++ js)) o) []) q.1
+    ∙ ap (λ l. own ++ l) (joins p ks js q.0 d q.2)
+    ∙ sym (append_assoc own (made_along p q.0 ks) (made_along p d js))
+    ∙ ap (λ o. (own ++ unwrap_or (option_map (λ x. made_along p x ks) o) []) ++ made_along p d js) (sym q.1)
 
 -- what follows where a step is taken
 pub on_ok : {P Q : Type 0} (r : Result (Unit {0}) StepError) → (P → Q) → OnOk r P → OnOk r Q
@@ -40,8 +51,8 @@ locals_make p c t zero = refl
 locals_make p c t (suc n) = local_makes p t n (λ d. locals_make p d t n) (step p c (local_of t))
 
 -- so an entry makes what its shared step makes
-pub entry_makes : MadeJoins → (p : Program) (c m : Config) (e : Entry) → run_from p c (replicate e.local_steps (local_of e.thread)) ≡ Some m → made_along p c (entry_steps e) ≡ made_along p m (shared_step e.thread e.shared)
-entry_makes joins p c m e run =
+pub entry_makes : (p : Program) (c m : Config) (e : Entry) → run_from p c (replicate e.local_steps (local_of e.thread)) ≡ Some m → made_along p c (entry_steps e) ≡ made_along p m (shared_step e.thread e.shared)
+entry_makes p c m e run =
     joins p (replicate e.local_steps (local_of e.thread)) (shared_step e.thread e.shared) c m run
     ∙ ap (λ l. l ++ made_along p m (shared_step e.thread e.shared)) (locals_make p c e.thread e.local_steps)
 
@@ -56,9 +67,9 @@ module _ (p : Program) (c d : Config) (entries : List CodeEntry) (i : ℕ) (noth
   front = ap (map entry_view) (drop_more entries i nothing within)
 
   -- what an entry makes comes before what those behind it make
-  pub made_on : MadeJoins → (before after whole : List ℕ) → entry_from p c (entry_steps (entry_view e)) ≡ Some d → after ≡ before ++ made_along p c (entry_steps (entry_view e))
+  pub made_on : (before after whole : List ℕ) → entry_from p c (entry_steps (entry_view e)) ≡ Some d → after ≡ before ++ made_along p c (entry_steps (entry_view e))
       → before ++ made_along p c (history_steps (map entry_view (drop i entries))) ≡ whole → after ++ made_along p d (history_steps rest) ≡ whole
-  made_on joins before after whole leads is h =
+  made_on before after whole leads is h =
       let own = made_along p c (entry_steps (entry_view e)) in
       let more = made_along p d (history_steps rest) in
       let split : made_along p c (history_steps (map entry_view (drop i entries))) ≡ own ++ more =

@@ -17,7 +17,6 @@ use crate::error::ReplayError;
 use crate::kept::Kept;
 use crate::making::{Reached, note_made};
 use crate::tables::Tables;
-use pat_checkpoint_laws::made_laws;
 use pat_reduce::{Act, Config, Entry, Step, StepError};
 use pat_reduce_values::Executable;
 use pat_sequences::Sequence;
@@ -81,8 +80,6 @@ fn replay_kept(
     ensures made { IfOk result (λ r. r.made ≡ made_along (program_view code.now.program) (kept_view kept)
         (history_steps (map entry_view entries.now))) }
 {
-    // A law: what steps make joins.
-    made_laws();
     let mut kept = kept;
     let mut made = Sequence::new(alloc);
     for i in 0..entries.len() {
@@ -113,7 +110,6 @@ fn take_entry(
     ensures made { OnOk result (made.new ≡ made.old ++ made_along (program_view code.now.program) (kept_view kept.old)
         (entry_steps (entry_view entry))) }
 {
-    made_laws();
     if !has_step(&entry) {
         return Err(StepError::Disabled);
     }

@@ -31,7 +31,7 @@ loop-i-preserved c =
       room = room_next p a b c.args.entries.now c.loop-i.i _ c.loop-i-test.true d c.in-Ok.ensures.gives c.loop-i.invariant.room;
       order = order_next p a b c.args.entries.now c.loop-i.i _ c.loop-i-test.true d c.in-Ok.ensures.gives c.loop-i.invariant.order;
       kept = c.in-Ok.ensures.kept;
-      made = made_on p b d c.args.entries.now c.loop-i.i _ c.loop-i-test.true c.made_laws.ensures.joins c.loop-i.made c.take_entry.new.made _ c.in-Ok.ensures.gives c.in-Ok.ensures.made c.loop-i.invariant.made;
+      made = made_on p b d c.args.entries.now c.loop-i.i _ c.loop-i-test.true c.loop-i.made c.take_entry.new.made _ c.in-Ok.ensures.gives c.in-Ok.ensures.made c.loop-i.invariant.made;
     }
 
 pub loop-i-init : goal.loop-i-init

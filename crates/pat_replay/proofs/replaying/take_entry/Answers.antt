@@ -30,5 +30,5 @@ pub returns-in-Ok-clause-made : goal.returns-in-Ok-clause-made
 returns-in-Ok-clause-made c =
     let p = program_view c.args.code.now.program in
     let e = entry_view c.args.entry in
-    let makes = entry_makes c.made_laws.ensures.joins p (kept_view c.args.kept.now) (kept_view c.run_locals.new.self) e c.in-Ok.ensures.gives in
+    let makes = entry_makes p (kept_view c.args.kept.now) (kept_view c.run_locals.new.self) e c.in-Ok.ensures.gives in
     on_ok c.take_shared.result (λ h. h ∙ ap (λ l. c.args.made.now ++ l) (sym makes)) c.take_shared.ensures.made
