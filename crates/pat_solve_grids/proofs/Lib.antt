@@ -6,5 +6,5 @@ mod PointLists
 mod Meaning
 mod Whole
 mod Sharing
-pub mod Laid
+mod Laid
 mod Alike
