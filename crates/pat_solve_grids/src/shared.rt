@@ -71,6 +71,7 @@ impl Shared {
     }
 
     /// The number of the symbol, which is appended if it isn't found.
+    #[inline(never)]
     #[tactic(auto, using(crate::proofs::Laid::found_put, crate::proofs::Laid::new_put))]
     fn put(&mut self, symbol: Symbol) -> Result<usize, AllocError>
         ensures { IfOk result (IsPut (symbols_view self.old.symbols) (symbols_view self.new.symbols) (symbol_view symbol)) }
