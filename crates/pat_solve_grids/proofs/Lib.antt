@@ -6,3 +6,5 @@ mod PointLists
 mod Meaning
 mod Whole
 mod Sharing
+mod Laid
+mod Alike

@@ -1,48 +1,73 @@
--- Sides of constraints laid out one after another, and what a table says of them.
-use Rattle.std.specs.Prelude.{◌≡◌, ℕ, ◌+◌, ◌<◌, length, get_or, List, [], ◌∷◌, Option, Some, None}
+-- Patterns laid out in symbols, of which equal ones may stand once; and what a table says of the sides of constraints.
+use Rattle.std.specs.Prelude.{◌≡◌, ℕ, ◌+◌, ◌<◌, length, get_or, slice_get, List, [], ◌∷◌, ◌++◌, Option, Some, None, IsTrue}
+use Rattle.std.specs.List.{AllByRecursion}
 use Rattle.pat_words_spec.specs.Patterns.{Pat}
-use Rattle.pat_inclusion_spec.specs.bounds.Symbols.{Symbol, LowerSymbol}
-use Rattle.pat_inclusion_spec.specs.bounds.Layouts.{laid, last_of}
+use Rattle.pat_words_spec.specs.Tags.{tags_below}
+use Rattle.pat_inclusion_spec.specs.bounds.Symbols.{Symbol, TagSymbol, LowerSymbol, Stands}
 use Rattle.pat_inclusion_spec.specs.bounds.Assignments.{Right, PatternRight, VarRight, Constraint}
 use Rattle.pat_inclusion_spec.specs.bounds.Searches.{Search, IsAnswer}
 use Rattle.pat_grid.specs.declared.tables.board.Board.{Board}
 use Rattle.pat_counterexample_search.specs.Least.{IsLeastAnswer}
 use Rattle.pat_counterexample_search.specs.Readings.{IsReading}
-use Rattle.pat_solve_bounds.specs.renumbered.Systems.{side_at}
-use Rattle.pat_solve_grids.specs.Findings.{Findings, noted}
+use Rattle.pat_solve_bounds.specs.renumbered.Renaming.{renamed}
+use Rattle.pat_solve_bounds.specs.renumbered.Systems.{side_at, picked}
+use Rattle.pat_solve_grids.specs.Findings.{Findings, noted, IsSearchable}
 use Rattle.pat_limits.specs.Limits.{most_tree_nodes}
 
--- the symbols made so far, and those of both sides
-abbrev pub laid_both : List Symbol → Pat → Pat → List Symbol
-laid_both made left right = laid LowerSymbol (laid LowerSymbol made left) right
+-- more symbols behind those that were there
+abbrev pub Grows : List Symbol → List Symbol → Type 0
+Grows old new = (more : List Symbol) × (new ≡ old ++ more)
 
--- the numbers of both sides' own symbols
-abbrev pub last_both : List Symbol → Pat → Pat → Option (ℕ × ℕ)
-last_both made left right = Some (last_of (laid LowerSymbol made left), last_of (laid_both made left right))
+-- each tag of a symbol is below n
+abbrev pub TagsBelow : ℕ → List Symbol → Type 0
+TagsBelow n symbols = (s m : ℕ) → slice_get symbols s ≡ Some (TagSymbol m) → m < n
 
--- where the right side has no variable
-abbrev pub laid_if : List Symbol → Pat → Right → List Symbol
-laid_if made left (PatternRight f) = laid_both made left f
-laid_if made left (VarRight k) = made
+-- the symbol stands at the number, one that was there or one more
+pub record IsPut (old new : List Symbol) (y : Symbol) (s : ℕ) : Type 0 where
+  pub goes : Grows old new
+  pub at : slice_get new s ≡ Some y
+  pub tags : (n : ℕ) → ((m : ℕ) → y ≡ TagSymbol m → m < n) → TagsBelow n old → TagsBelow n new
 
-abbrev pub last_if : List Symbol → Pat → Right → Option (ℕ × ℕ)
-last_if made left (PatternRight f) = last_both made left f
-last_if made left (VarRight k) = None
+-- the pattern stands at the number, with symbols that were there and more
+pub record IsLaid (old new : List Symbol) (e : Pat) (s : ℕ) : Type 0 where
+  pub goes : Grows old new
+  pub stands : Stands new LowerSymbol e s
+  pub tags : (n : ℕ) → IsTrue (tags_below n e) → TagsBelow n old → TagsBelow n new
 
-abbrev pub laid_side : (Pat → Pat) → List Symbol → Constraint → List Symbol
-laid_side rename made c = laid_if made (rename c.left) c.right
+-- each pattern stands at its number
+abbrev pub StandEach : List Symbol → List Pat → List ℕ → Type 0
+StandEach symbols [] [] = Unit {0}
+StandEach symbols (e ∷ es) (s ∷ ss) = Stands symbols LowerSymbol e s × StandEach symbols es ss
+StandEach symbols _ _ = ⊥
 
-abbrev pub side_places : (Pat → Pat) → List Symbol → Constraint → Option (ℕ × ℕ)
-side_places rename made c = last_if made (rename c.left) c.right
+pub record AreLaid (old new : List Symbol) (es : List Pat) (ss : List ℕ) : Type 0 where
+  pub goes : Grows old new
+  pub stand : StandEach new es ss
+  pub tags : (n : ℕ) → AllByRecursion (λ e. IsTrue (tags_below n e)) es → TagsBelow n old → TagsBelow n new
 
--- of several constraints
-abbrev pub laid_sides : (Pat → Pat) → List Symbol → List Constraint → List Symbol
-laid_sides rename made [] = made
-laid_sides rename made (c ∷ cs) = laid_sides rename (laid_side rename made c) cs
+-- ---- sides of constraints
 
-abbrev pub all_places : (Pat → Pat) → List Symbol → List Constraint → List (Option (ℕ × ℕ))
-all_places rename made [] = []
-all_places rename made (c ∷ cs) = side_places rename made c ∷ all_places rename (laid_side rename made c) cs
+-- both sides stand at these numbers, if the right one has no variable
+abbrev pub StandFor : List Symbol → Pat → Right → Option (ℕ × ℕ) → Type 0
+StandFor symbols left (PatternRight f) side =
+    (s r : ℕ) × (side ≡ Some (s, r)) × Stands symbols LowerSymbol left s × Stands symbols LowerSymbol f r
+StandFor symbols left (VarRight k) side = side ≡ None
+
+-- the tags of a right side without variables are below n
+abbrev pub RightBelow : ℕ → Right → Type 0
+RightBelow n (PatternRight f) = IsTrue (tags_below n f)
+RightBelow n (VarRight k) = Unit {0}
+
+pub record SidesStand (old new : List Symbol) (left : Pat) (r : Right) (side : Option (ℕ × ℕ)) : Type 0 where
+  pub goes : Grows old new
+  pub stand : StandFor new left r side
+  pub tags : (n : ℕ) → IsTrue (tags_below n left) → RightBelow n r → TagsBelow n old → TagsBelow n new
+
+-- those of the constraints whose numbers stand from the place on, as many as are listed, their left sides renamed
+pub record AreSidesLaid (place : ℕ → ℕ) (zs : List Constraint) (ns : List ℕ) (from : ℕ) (old new : List Symbol) (sides : List (Option (ℕ × ℕ))) : Type 0 where
+  pub goes : Grows old new
+  pub stand : (j : ℕ) → j < length sides → let c = side_at zs (get_or ns (from + j) 0) in StandFor new (renamed place c.left) c.right (get_or sides j None)
+  pub tags : (k n : ℕ) → AllByRecursion (IsSearchable k n) (picked zs ns) → TagsBelow n old → TagsBelow n new
 
 -- ---- by a table
 

@@ -7,3 +7,4 @@ pub mod Grids
 pub mod Laying
 pub mod Least
 pub mod Limits
+pub mod Looking

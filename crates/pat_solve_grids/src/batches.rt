@@ -27,114 +27,71 @@ ghost use Rattle.pat_solve_grids.specs.Views.{findings_view};
 ghost use Rattle.pat_limits.specs.Limits.{most_tree_nodes};
 
 use crate::findings::{Findings, note};
-use crate::laying::lay_each;
+use crate::laying::lay_some;
+use crate::shared::{Shared, lay_system};
 use pat_counterexample_search::{is_large, read_answer};
 use pat_grid::{Board, least_sizes, row_grids};
-use pat_grid_points::{Grid, SparseList, count_points, lay_out_all};
+use pat_grid_points::{Grid, SparseList, count_points};
 use pat_inclusion_laws::closed_laws;
 use pat_infer_problems::Constraint;
 use pat_limits::MOST_TREE_NODES;
-use pat_patterns::{Pattern, size};
+use pat_patterns::Pattern;
 use pat_sequences::Sequence;
-use pat_types::Right;
 use std::alloc::{AllocError, Global};
 
-/// Where a batch ends that begins at a place: before the sides of its constraints but the first have more symbols than there is room
-/// for.
-pub fn batch_end(constraints: &[Constraint], numbers: &[usize], from: usize, room: usize) -> usize
-    requires { from < length numbers.now }
-    ensures more { from < result }
-    ensures within { result ≤ length numbers.now }
-{
-    let mut taken: usize = 0;
-    for place in from + 1..numbers.len() {
-        taken = taken.saturating_add(sides_size(constraints, numbers[place]));
-        if taken > room {
-            return place;
-        }
-    }
-    numbers.len()
+/// How many times as many symbols as those of its system a batch has at most, but for the sides of one constraint; and how many more.
+const SYMBOLS_EACH: usize = 2;
+
+const SYMBOLS_BESIDE: usize = 64;
+
+/// What the search of a batch of constraints gives.
+#[derive(Drop)]
+pub struct Batch {
+    /// The least grids of the system, if the batch is the first.
+    pub grids: Sequence<Grid>,
+    pub findings: Findings,
+    /// The place behind the batch.
+    pub end: usize,
 }
 
-/// Where the first batch ends, which may have no constraint.
-pub fn first_end(constraints: &[Constraint], numbers: &[usize], room: usize) -> usize
-    ensures { result ≤ length numbers.now }
-{
-    if numbers.is_empty() {
-        0
-    } else {
-        batch_end(constraints, numbers, 0, room)
-    }
-}
-
-/// About how many symbols the lower bounds by these constraints have.
-pub fn system_size(constraints: &[Constraint], numbers: &[usize]) -> usize {
-    let mut total: usize = 64;
-    for number in numbers {
-        total = total.saturating_add(lower_size(constraints, *number));
-    }
-    total
-}
-
-fn lower_size(constraints: &[Constraint], number: usize) -> usize {
-    match constraints.get(number) {
-        None => 0,
-        Some(constraint) => match &constraint.right {
-            Right::Var(_) => size(&constraint.left) as usize,
-            Right::Pattern(_) => 0,
-        },
-    }
-}
-
-/// About how many symbols the sides of a constraint have.
-fn sides_size(constraints: &[Constraint], number: usize) -> usize {
-    match constraints.get(number) {
-        None => 0,
-        Some(constraint) => match &constraint.right {
-            Right::Var(_) => 0,
-            Right::Pattern(right) => {
-                (size(&constraint.left) as usize).saturating_add(size(right) as usize)
-            }
-        },
-    }
-}
-
-/// Searches the constraints whose numbers stand at places from `from` to `to`, by one table. The first one shows the least grids
-/// of the system as well.
+/// Searches constraints whose numbers stand from the place on, by one table: as many as there is room for. The first batch shows
+/// the least grids of the system as well.
 pub fn search_batch(
     alloc: Global,
     system: &[Pattern],
     constraints: &[Constraint],
     numbers: &[usize],
     from: usize,
-    to: usize,
     variables: &[u32],
     k: u32,
     tags: u8,
     findings: Findings,
-) -> Result<(Sequence<Grid>, Findings), AllocError>
+) -> Result<Batch, AllocError>
     requires ascending { IsAscending variables.now }
     requires fits { IsTrue (grid_fits k tags) }
     requires system { AllByRecursion (λ e. IsTrue (tags_below tags e)) (patterns_view system.now) }
     requires sides { AllByRecursion (IsSearchable k tags) (picked (sides_list constraints.now) numbers.now) }
-    requires from { from ≤ to }
-    requires to { to ≤ length numbers.now }
+    requires from { from ≤ length numbers.now }
     requires found { AreFound (bounds_of (patterns_view system.now)) (renamed_by (place_in variables.now))
         (picked (sides_list constraints.now) numbers.now) numbers.now from (findings_view findings) }
-    ensures least { IfOk result (λ r. from ≡ 0 → AreLeastOf k tags (patterns_view system.now) r.0) }
-    ensures found { IfOk result (λ r. AreFound (bounds_of (patterns_view system.now)) (renamed_by (place_in variables.now))
-        (picked (sides_list constraints.now) numbers.now) numbers.now to (findings_view r.1)) }
+    ensures within { IfOk result (λ b. b.end ≤ length numbers.now) }
+    ensures more { IfOk result (λ b. from < length numbers.now → from < b.end) }
+    ensures least { IfOk result (λ b. from ≡ 0 → AreLeastOf k tags (patterns_view system.now) b.grids) }
+    ensures found { IfOk result (λ b. AreFound (bounds_of (patterns_view system.now)) (renamed_by (place_in variables.now))
+        (picked (sides_list constraints.now) numbers.now) numbers.now b.end (findings_view b.findings)) }
 {
     closed_laws();
-    let mut symbols = Sequence::new(alloc);
-    let mut roots = Sequence::new(alloc);
-    lay_out_all(alloc, system, &mut symbols, &mut roots)?;
-    let sides = lay_each(
+    let mut shared = Shared::for_system(alloc, system)?;
+    let roots = lay_system(alloc, system, &mut shared)?;
+    let most = most_symbols(shared.symbols.len());
+    let sides = lay_some(
         alloc,
         constraints,
-        &numbers[from..to],
+        numbers,
+        from,
+        most,
         variables,
-        &mut symbols,
+        &mut shared,
     )?;
     let listed = sides.as_slice();
     let first = Board {
@@ -142,7 +99,7 @@ pub fn search_batch(
         tags,
         points: count_points(k, tags),
         limit: 0,
-        symbols: symbols.as_slice(),
+        symbols: shared.symbols.as_slice(),
         roots: roots.as_slice(),
         given: &[],
     };
@@ -150,7 +107,17 @@ pub fn search_batch(
     let board = Board { limit, ..first };
     let grids = rows_if(alloc, from == 0, &board, &entries)?;
     let found = read_each(alloc, &board, &entries, listed, numbers, from, findings)?;
-    Ok((grids, found))
+    Ok(Batch {
+        grids,
+        findings: found,
+        end: from + listed.len(),
+    })
+}
+
+/// How many symbols a batch has at most, but for the sides of one constraint, where its system has so many.
+fn most_symbols(own: usize) -> usize {
+    own.saturating_mul(SYMBOLS_EACH)
+        .saturating_add(SYMBOLS_BESIDE)
 }
 
 /// A table at the first of some rising limits at which no side has larger trees alone, and the limit. Where all sides are

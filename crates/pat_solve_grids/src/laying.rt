@@ -1,14 +1,15 @@
 // The sides of several constraints, laid out behind a system.
-ghost use Rattle.std.specs.Prelude.{◌≡◌, ◌++◌, ◌∷◌, [], IfOk, OnOk};
+ghost use Rattle.std.specs.Prelude.{◌≡◌, ◌<◌, ◌≤◌, ◌+◌, length, IfOk};
 ghost use Rattle.pat_patterns.specs.Views.{pattern_view};
 ghost use Rattle.pat_grid_points.specs.symbols.Views.{symbols_view};
+ghost use Rattle.pat_inclusion_spec.specs.bounds.Assignments.{PatternRight};
 ghost use Rattle.pat_solve_bounds.specs.lower_bounds.Sides.{sides_view, sides_list};
 ghost use Rattle.pat_solve_bounded.specs.replacing.Ascending.{IsAscending};
 ghost use Rattle.pat_solve_bounds.specs.renumbered.Renaming.{place_in, renamed as renamed_by};
-ghost use Rattle.pat_solve_bounds.specs.renumbered.Systems.{side_at, picked};
-ghost use Rattle.pat_solve_grids.specs.Laying.{laid_both, last_both, laid_side, side_places, laid_sides, all_places};
+ghost use Rattle.pat_solve_bounds.specs.renumbered.Systems.{side_at};
+ghost use Rattle.pat_solve_grids.specs.Laying.{SidesStand, AreSidesLaid};
 
-use pat_grid_points::{Role, Symbol, lay_out};
+use crate::shared::Shared;
 use pat_infer_problems::Constraint;
 use pat_patterns::Pattern;
 use pat_sequences::Sequence;
@@ -16,25 +17,32 @@ use pat_solve_bounds::renamed;
 use pat_types::Right;
 use std::alloc::{AllocError, Global};
 
-/// Lays out both sides of each constraint with one of these numbers, its left side renamed; `None` for a right side that is a
-/// variable. The answer is the numbers of both sides' symbols.
-pub fn lay_each(
+/// Lays out both sides of constraints whose numbers stand from the place on, up to the one with which there are more than `most`
+/// symbols. The left side is renamed; `None` stands for a right side that is a variable. The answer is the numbers of both sides'
+/// symbols.
+pub fn lay_some(
     alloc: Global,
     constraints: &[Constraint],
     numbers: &[usize],
+    from: usize,
+    most: usize,
     variables: &[u32],
-    symbols: &mut Sequence<Symbol>,
+    shared: &mut Shared,
 ) -> Result<Sequence<Option<(usize, usize)>>, AllocError>
-    requires { IsAscending variables.now }
-    ensures symbols { OnOk result (symbols_view symbols.new
-        ≡ laid_sides (renamed_by (place_in variables.now)) (symbols_view symbols.old) (picked (sides_list constraints.now) numbers.now)) }
-    ensures places { IfOk result (λ sides. sides
-        ≡ all_places (renamed_by (place_in variables.now)) (symbols_view symbols.old) (picked (sides_list constraints.now) numbers.now)) }
+    requires ascending { IsAscending variables.now }
+    requires from { from ≤ length numbers.now }
+    ensures laid { IfOk result (AreSidesLaid (place_in variables.now) (sides_list constraints.now) numbers.now from
+        (symbols_view shared.old.symbols) (symbols_view shared.new.symbols)) }
+    ensures within { IfOk result (λ sides. from + length sides ≤ length numbers.now) }
+    ensures more { IfOk result (λ sides. from < length numbers.now → 0 < length sides) }
 {
     let mut sides = Sequence::new(alloc);
-    for number in numbers {
-        let side = lay_at(alloc, constraints, *number, variables, symbols)?;
+    for place in from..numbers.len() {
+        let side = lay_at(alloc, constraints, numbers[place], variables, shared)?;
         sides.push(side)?;
+        if shared.symbols.len() > most {
+            return Ok(sides);
+        }
     }
     Ok(sides)
 }
@@ -45,66 +53,47 @@ fn lay_at(
     constraints: &[Constraint],
     number: usize,
     variables: &[u32],
-    symbols: &mut Sequence<Symbol>,
+    shared: &mut Shared,
 ) -> Result<Option<(usize, usize)>, AllocError>
     requires { IsAscending variables.now }
-    ensures symbols { OnOk result (symbols_view symbols.new
-        ≡ laid_side (renamed_by (place_in variables.now)) (symbols_view symbols.old) (side_at (sides_list constraints.now) number)) }
-    ensures places { IfOk result (λ side. side
-        ≡ side_places (renamed_by (place_in variables.now)) (symbols_view symbols.old) (side_at (sides_list constraints.now) number)) }
+    ensures { let c = side_at (sides_list constraints.now) number in IfOk result
+        (SidesStand (symbols_view shared.old.symbols) (symbols_view shared.new.symbols) (renamed_by (place_in variables.now) c.left) c.right) }
 {
     match constraints.get(number) {
-        None => lay_zeros(alloc, symbols),
-        Some(constraint) => lay_sides(alloc, constraint, variables, symbols),
+        None => lay_both(&Pattern::Zero, &Pattern::Zero, shared),
+        Some(constraint) => lay_sides(alloc, constraint, variables, shared),
     }
-}
-
-/// The sides of a constraint that isn't there: 0.
-fn lay_zeros(
-    alloc: Global,
-    symbols: &mut Sequence<Symbol>,
-) -> Result<Option<(usize, usize)>, AllocError>
-    ensures symbols { OnOk result (symbols_view symbols.new
-        ≡ laid_both (symbols_view symbols.old) (pattern_view Pattern.Zero) (pattern_view Pattern.Zero)) }
-    ensures places { IfOk result (λ side. side
-        ≡ last_both (symbols_view symbols.old) (pattern_view Pattern.Zero) (pattern_view Pattern.Zero)) }
-{
-    lay_both(alloc, &Pattern::Zero, &Pattern::Zero, symbols)
 }
 
 fn lay_sides(
     alloc: Global,
     constraint: &Constraint,
     variables: &[u32],
-    symbols: &mut Sequence<Symbol>,
+    shared: &mut Shared,
 ) -> Result<Option<(usize, usize)>, AllocError>
     requires { IsAscending variables.now }
-    ensures symbols { OnOk result (symbols_view symbols.new
-        ≡ laid_side (renamed_by (place_in variables.now)) (symbols_view symbols.old) (sides_view constraint.now)) }
-    ensures places { IfOk result (λ side. side
-        ≡ side_places (renamed_by (place_in variables.now)) (symbols_view symbols.old) (sides_view constraint.now)) }
+    ensures { let c = sides_view constraint.now in IfOk result
+        (SidesStand (symbols_view shared.old.symbols) (symbols_view shared.new.symbols) (renamed_by (place_in variables.now) c.left) c.right) }
 {
     match &constraint.right {
         Right::Var(_) => Ok(None),
         Right::Pattern(right) => {
             let left = renamed(alloc, &constraint.left, variables)?;
-            lay_both(alloc, &left, right, symbols)
+            lay_both(&left, right, shared)
         }
     }
 }
 
 /// Both sides.
 fn lay_both(
-    alloc: Global,
     left: &Pattern,
     right: &Pattern,
-    symbols: &mut Sequence<Symbol>,
+    shared: &mut Shared,
 ) -> Result<Option<(usize, usize)>, AllocError>
-    ensures symbols { OnOk result (symbols_view symbols.new
-        ≡ laid_both (symbols_view symbols.old) (pattern_view left.now) (pattern_view right.now)) }
-    ensures places { IfOk result (λ side. side ≡ last_both (symbols_view symbols.old) (pattern_view left.now) (pattern_view right.now)) }
+    ensures { IfOk result (SidesStand (symbols_view shared.old.symbols) (symbols_view shared.new.symbols) (pattern_view left.now)
+        (PatternRight (pattern_view right.now))) }
 {
-    let one = lay_out(alloc, left, Role::Lower, symbols)?;
-    let other = lay_out(alloc, right, Role::Lower, symbols)?;
+    let one = shared.lay(left)?;
+    let other = shared.lay(right)?;
     Ok(Some((one, other)))
 }

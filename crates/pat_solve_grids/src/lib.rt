@@ -9,6 +9,7 @@ mod findings;
 mod laying;
 mod points;
 mod searches;
+mod shared;
 
 pub use bounds::grid_bound;
 pub use entry::{InterfaceGrids, interface_grids};

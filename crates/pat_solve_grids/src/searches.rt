@@ -13,7 +13,7 @@ ghost use Rattle.pat_solve_grids.specs.Findings.{IsSearchable, AreFound};
 ghost use Rattle.pat_solve_grids.specs.Least.{AreLeastOf};
 ghost use Rattle.pat_solve_grids.specs.Views.{findings_view};
 
-use crate::batches::{batch_end, first_end, search_batch, system_size};
+use crate::batches::{Batch, search_batch};
 use crate::findings::Findings;
 use pat_grid_certificates::Grid;
 use pat_infer_problems::Constraint;
@@ -45,38 +45,35 @@ pub fn search_each(
         refuted: None,
         is_oversized: false,
     };
-    let room = system_size(constraints, numbers).saturating_add(variables.len());
-    let end = first_end(constraints, numbers, room);
-    let (grids, first) = search_batch(
+    let Batch {
+        grids,
+        mut findings,
+        mut end,
+    } = search_batch(
         alloc,
         system,
         constraints,
         numbers,
         0,
-        end,
         variables,
         k,
         tags,
         none,
     )?;
-    let mut findings = first;
-    let mut place = end;
-    while place < numbers.len() {
-        let end = batch_end(constraints, numbers, place, room);
-        let (_, found) = search_batch(
+    while end < numbers.len() {
+        let batch = search_batch(
             alloc,
             system,
             constraints,
             numbers,
-            place,
             end,
             variables,
             k,
             tags,
             findings,
         )?;
-        findings = found;
-        place = end;
+        findings = batch.findings;
+        end = batch.end;
     }
     Ok((grids, findings))
 }

@@ -8,10 +8,10 @@ use Rattle.pat_solve_grids.specs.Findings.{AreFound}
 use Rattle.pat_solve_grids.specs.Views.{findings_view}
 use Rattle.pat_solve_grids.proofs.searches.search_each.Given as goal
 
-abbrev pub invariant-loop-place : goal.invariant-loop-place
-invariant-loop-place l =
-    (l.place ≤ length l.numbers)
-    × AreFound (bounds_of (patterns_view l.system)) (renamed (place_in l.variables)) (picked (sides_list l.constraints) l.numbers) l.numbers l.place (findings_view l.findings)
+abbrev pub invariant-loop-end : goal.invariant-loop-end
+invariant-loop-end l =
+    (l.end ≤ length l.numbers)
+    × AreFound (bounds_of (patterns_view l.system)) (renamed (place_in l.variables)) (picked (sides_list l.constraints) l.numbers) l.numbers l.end (findings_view l.findings)
 
-abbrev pub decreases-loop-place : goal.decreases-loop-place
-decreases-loop-place l = length l.numbers - l.place
+abbrev pub decreases-loop-end : goal.decreases-loop-end
+decreases-loop-end l = length l.numbers - l.end
