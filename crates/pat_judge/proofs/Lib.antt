@@ -3,3 +3,4 @@ mod Breaking
 mod FirstBad
 mod Counted
 mod Shaped
+mod Scoped

@@ -61,7 +61,7 @@ fn judged(
 }
 
 /// The first bad number, where the variables have values.
-#[tactic(auto, using(crate::proofs::FirstBad::found_here, crate::proofs::FirstBad::found_later, crate::proofs::FirstBad::found_none, crate::proofs::FirstBad::first_is))]
+#[tactic(auto, using(crate::proofs::FirstBad::found_here, crate::proofs::FirstBad::found_later, crate::proofs::FirstBad::found_none, crate::proofs::FirstBad::first_is, crate::proofs::Scoped::scoped_at_start))]
 fn first_of(
     alloc: Global,
     program: &Program,

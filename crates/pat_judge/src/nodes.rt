@@ -9,6 +9,7 @@ ghost use Rattle.pat_derivation_spec.specs.Rules.{has_values};
 ghost use Rattle.pat_derivation_spec.specs.Validity.{broken_at, broken_in, broken_rule as broken_rule_of};
 ghost use Rattle.pat_core.specs.Views.{node_view, function_view, program_view};
 ghost use Rattle.pat_derivations.specs.Views.{line_view, derivation_view};
+ghost use Rattle.pat_judge_nodes.specs.scopes.Upwards.{AreScopedBefore};
 ghost use Rattle.pat_judge_nodes.specs.uses.Views.{demands_view};
 ghost use Rattle.pat_judge.specs.Views.{rule_view, AreTables, after_alias};
 
@@ -82,6 +83,7 @@ fn broken_in_place(
     requires well { WellFormed (program_view program.now) }
     requires values { IsTrue (has_values (program_view program.now) (derivation_view derivation.now)) }
     requires tables { AreTables (program_view program.now) (derivation_view derivation.now) tables.now }
+    requires before { AreScopedBefore (program_view program.now) (derivation_view derivation.now) number }
     requires node { node_at (program_view program.now) number ≡ Some (node_view node.now) }
     requires function { function_at (program_view program.now) node.now.function ≡ Some (function_view function.now) }
     ensures { IfOk result (λ o. option_map rule_view o
@@ -90,7 +92,8 @@ fn broken_in_place(
 {
     let signatures = tables.signatures.as_slice();
     let above = tables.above.as_slice();
-    let scoped = names_in_scope(above, program, number, line.of.env.as_slice());
+    let env = line.of.env.as_slice();
+    let scoped = names_in_scope(above, program, derivation, number, env);
     if !has_shape(
         program, derivation, signatures, scoped, number, node, function, line,
     ) {
@@ -142,6 +145,7 @@ fn broken_at_node(
     requires well { WellFormed (program_view program.now) }
     requires values { IsTrue (has_values (program_view program.now) (derivation_view derivation.now)) }
     requires tables { AreTables (program_view program.now) (derivation_view derivation.now) tables.now }
+    requires before { AreScopedBefore (program_view program.now) (derivation_view derivation.now) number }
     requires node { node_at (program_view program.now) number ≡ Some (node_view node.now) }
     ensures { IfOk result (λ o. option_map rule_view o
         ≡ broken_in (program_view program.now) (derivation_view derivation.now) number (node_view node.now)
@@ -170,6 +174,7 @@ pub fn broken_rule(
     requires well { WellFormed (program_view program.now) }
     requires values { IsTrue (has_values (program_view program.now) (derivation_view derivation.now)) }
     requires tables { AreTables (program_view program.now) (derivation_view derivation.now) tables.now }
+    requires before { AreScopedBefore (program_view program.now) (derivation_view derivation.now) number }
     ensures { IfOk result (λ o. option_map rule_view o
         ≡ broken_rule_of (program_view program.now) (derivation_view derivation.now) number) }
 {

@@ -1,5 +1,5 @@
+mod Above
 mod Differing
 mod Lookups
-mod Places
 mod Tables
 mod Walks

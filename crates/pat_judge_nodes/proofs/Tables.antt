@@ -109,8 +109,12 @@ pub table_above : {E : Type 0} (p : CodeProgram) (r : Result (List (Option ℕ))
 table_above p (Ok above) same = are_above p above same
 table_above p (Err e) same = tt
 
-pub up_inside : (p : CodeProgram) (above : List (Option ℕ)) (at next : ℕ) → AreAbove (program_view p) above → at < length p.nodes → get_or above at None ≡ Some next → next < length (map node_view p.nodes)
-up_inside p above at next table inside is =
+-- the entry of a node is the node above it
+pub is_above : (p : CodeProgram) (above : List (Option ℕ)) (n k : ℕ) → AreAbove (program_view p) above → n < length p.nodes → get_or above n None ≡ Some k → node_above (program_view p) n ≡ Some k
+is_above p above n k table inside is =
     let long = length-map p.nodes node_view in
-    let there : at < length (map node_view p.nodes) = omega (arith, inside, long) in
-    next_inside (program_view p) at next (sym (get_or_from_slice_get above at (node_above (program_view p) at) None (table.1 at there)) ∙ is)
+    let there : n < length (map node_view p.nodes) = omega (arith, inside, long) in
+    sym (get_or_from_slice_get above n (node_above (program_view p) n) None (table.1 n there)) ∙ is
+
+pub up_inside : (p : CodeProgram) (above : List (Option ℕ)) (at next : ℕ) → AreAbove (program_view p) above → at < length p.nodes → get_or above at None ≡ Some next → next < length (map node_view p.nodes)
+up_inside p above at next table inside is = next_inside (program_view p) at next (is_above p above at next table inside is)

@@ -1,9 +1,10 @@
 -- The table of the nodes that nodes are parts of, and how a name is looked for upwards.
 use Rattle.std.specs.Prelude.{◌≡◌, ℕ, suc, ◌<◌, Bool, true, false, List, [], ◌∷◌, length, replicate, Option, Some, None, slice_get, slice_set}
 use Rattle.pat_semantics_spec.specs.Programs.{Node, Program, parts}
+use Rattle.std.specs.List.{list_all}
+use Rattle.pat_derivation_spec.specs.Derivations.{Line, Derivation, line_at}
 use Rattle.pat_derivation_spec.specs.Scopes.{node_above, is_in_scope, is_in_scope_within}
 use Rattle.pat_judge_nodes.specs.declared.scopes.looking.Found.{Found}
-use Rattle.pat_judge_nodes.specs.declared.scopes.looking.Place.{Place}
 use Rattle.pat_judge_nodes.specs.declared.scopes.looking.Found.TheVariants as found
 
 -- the table has an entry for each node of the program: the node that it is a part of, if there is one
@@ -31,20 +32,7 @@ abbrev pub StaysInside : Program → Found → Type 0
 StaysInside p (found.Above k) = k < length p.nodes
 StaysInside p _ = Unit {0}
 
--- where to look next, if anywhere, is the node that n is a part of
-abbrev pub LeadsUp : Program → ℕ → Found → Type 0
-LeadsUp p n (found.Above k) = node_above p n ≡ Some k
-LeadsUp p n _ = Unit {0}
-
--- what is in scope at the place is in scope at the node
-abbrev pub LiesAbove : Program → ℕ → Place → Type 0
-LiesAbove p n place =
-    (place.node < length p.nodes)
-    × ((x : ℕ) → is_in_scope_within place.left p place.node x ≡ true → is_in_scope p n x ≡ true)
-
--- x is found at a place, and what is in scope there is in scope where it was looked for
-abbrev pub IsFound : Program → Place → ℕ → Place → Type 0
-IsFound p from x place =
-    (place.node < length p.nodes)
-    × (is_in_scope_within place.left p place.node x ≡ true)
-    × ((y : ℕ) → is_in_scope_within place.left p place.node y ≡ true → is_in_scope_within from.left p from.node y ≡ true)
+-- what the lines of the nodes before n name is in scope there
+abbrev pub AreScopedBefore : Program → Derivation → ℕ → Type 0
+AreScopedBefore p d n =
+    (k : ℕ) → (l : Line) → k < n → line_at d k ≡ Some l → list_all (λ e. is_in_scope p k e.0) l.of.needs ≡ true

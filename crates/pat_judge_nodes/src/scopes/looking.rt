@@ -1,14 +1,19 @@
 // Names looked for upwards.
-ghost use Rattle.std.specs.Prelude.{◌≡◌, ◌<◌, ℕ, suc, Some, None, length, map, slice_get, is_some, IfSome};
+ghost use Rattle.std.specs.Prelude.{◌≡◌, ◌<◌, ℕ, suc, true, Some, None, length, map, slice_get, option_map, option_copied, IsTrue};
 ghost use Rattle.std.specs.List.{list_all};
+ghost use Rattle.std.specs.Map.{keys_of};
 ghost use Rattle.pat_semantics_spec.specs.Programs.{core_at, is_among, clause_binders};
+ghost use Rattle.pat_semantics_spec.specs.WellFormed.{WellFormed};
 ghost use Rattle.pat_core.specs.Views.{core_view, clause_view, program_view};
 ghost use Rattle.pat_types.specs.Views.{needs_view};
 ghost use Rattle.pat_derivation_spec.specs.Scopes.{function_of, bound_in, bound_by_clauses, is_param, is_in_scope, is_in_scope_within};
-ghost use Rattle.pat_judge_nodes.specs.scopes.Upwards.{AreAbove, after, StaysInside, LeadsUp, LiesAbove, IsFound};
+ghost use Rattle.pat_derivation_spec.specs.Derivations.{line_at};
+ghost use Rattle.pat_derivations.specs.Views.{line_view, derivation_view};
+ghost use Rattle.pat_judge_nodes.specs.scopes.Upwards.{AreAbove, AreScopedBefore, after, StaysInside};
 
 use pat_core::{Clause, Core, Program};
-use pat_derivations::holds;
+use pat_derivation_laws::scope_laws;
+use pat_derivations::{Derivation, DerivedNode, holds};
 use pat_types::MailboxType;
 
 /// What there is of a name at one node.
@@ -20,84 +25,95 @@ enum Found {
     Above(usize),
 }
 
-/// A node, and how many nodes up a name may be looked for from it.
-#[derive(Clone, Copy, Debug, PartialEq, Eq)]
-struct Place {
-    node: usize,
-    left: usize,
-}
-
-/// Whether each name of the environment is in scope at the node. Inner names have higher numbers, so from the last one on each is
-/// found where the one before it was, or further up; one that isn't is looked for from the node again.
+/// Whether each name of the environment is in scope at the node, where those are that the lines of earlier nodes name. Most names
+/// are named at the node above too; the others are looked for upwards.
 pub fn names_in_scope(
     above: &[Option<usize>],
     program: &Program,
+    derivation: &Derivation,
     node: usize,
+    env: &[(u32, MailboxType)],
+) -> bool
+    requires well { WellFormed (program_view program.now) }
+    requires above { AreAbove (program_view program.now) above.now }
+    requires node { node < length program.now.nodes }
+    requires before { AreScopedBefore (program_view program.now) (derivation_view derivation.now) node }
+    ensures { result ≡ list_all (λ e. is_in_scope (program_view program.now) node e.0) (needs_view env.now) }
+{
+    scope_laws();
+    match above[node] {
+        None => are_in_scope(above, program, node, &[], env),
+        Some(outer) => match line_of(derivation, outer) {
+            None => are_in_scope(above, program, node, &[], env),
+            Some(line) => are_in_scope(above, program, node, line.of.env.as_slice(), env),
+        },
+    }
+}
+
+/// The line of a node, if there is one.
+#[tactic(auto, using(crate::proofs::Above::line_get))]
+fn line_of(derivation: &Derivation, node: usize) -> Option<&DerivedNode>
+    ensures { option_map line_view (option_copied result) ≡ line_at (derivation_view derivation.now) node }
+{
+    derivation.nodes.as_slice().get(node)
+}
+
+/// Whether each name of the environment is in scope at the node, where those in `outer` are.
+fn are_in_scope(
+    above: &[Option<usize>],
+    program: &Program,
+    node: usize,
+    outer: &[(u32, MailboxType)],
     env: &[(u32, MailboxType)],
 ) -> bool
     requires above { AreAbove (program_view program.now) above.now }
     requires node { node < length program.now.nodes }
+    requires outer { list_all (λ e. is_in_scope (program_view program.now) node e.0) (needs_view outer.now) ≡ true }
     ensures { result ≡ list_all (λ e. is_in_scope (program_view program.now) node e.0) (needs_view env.now) }
 {
-    let mut place = Place {
-        node,
-        left: program.nodes.len(),
-    };
-    let mut first = env.len();
-    while first > 0 {
-        first -= 1;
-        match found_from(above, program, node, place, env[first].0) {
-            None => return false,
-            Some(next) => place = next,
+    let mut near = 0;
+    for (name, _) in env {
+        if !is_in_scope_near(above, program, node, outer, &mut near, *name) {
+            return false;
         }
     }
     true
 }
 
-/// Where to look for the next name, if this one is in scope at the node.
-fn found_from(
+/// Whether the name is in scope at the node, where those in `outer` are. It is first looked for from the place `near` on.
+#[tactic(auto, using(crate::proofs::Above::scoped_if_named))]
+fn is_in_scope_near(
     above: &[Option<usize>],
     program: &Program,
     node: usize,
-    place: Place,
+    outer: &[(u32, MailboxType)],
+    near: &mut usize,
     name: u32,
-) -> Option<Place>
+) -> bool
     requires above { AreAbove (program_view program.now) above.now }
     requires node { node < length program.now.nodes }
-    requires place { LiesAbove (program_view program.now) node place }
-    ensures same { is_some result ≡ is_in_scope (program_view program.now) node name }
-    ensures place { IfSome result (LiesAbove (program_view program.now) node) }
+    requires outer { list_all (λ e. is_in_scope (program_view program.now) node e.0) (needs_view outer.now) ≡ true }
+    ensures { result ≡ is_in_scope (program_view program.now) node name }
 {
-    match found_above(above, program, place, name) {
-        Some(next) => Some(next),
-        None => if in_scope(above, program, node, name) {
-            Some(place)
-        } else {
-            None
-        },
-    }
+    is_named_near(outer, near, name) || in_scope(above, program, node, name)
 }
 
-/// The first place from this one upwards where the name is found.
-fn found_above(above: &[Option<usize>], program: &Program, from: Place, name: u32) -> Option<Place>
-    requires above { AreAbove (program_view program.now) above.now }
-    requires from { from.node < length program.now.nodes }
-    ensures { IfSome result (IsFound (program_view program.now) from name) }
+/// Whether the name is found from the place `near` on, before a higher one. The place is then the one where the search ended.
+#[tactic(auto, using(crate::proofs::Above::named_at))]
+fn is_named_near(env: &[(u32, MailboxType)], near: &mut usize, name: u32) -> bool
+    ensures { IsTrue result → is_among name (keys_of (needs_view env.now)) ≡ true }
 {
-    let mut place = from;
-    while place.left > 0 {
-        match look(above, program, place.node, name) {
-            Found::Here => return Some(place),
-            Found::Nowhere => return None,
-            Found::Above(next) => {
-                place = Place {
-                    node: next,
-                    left: place.left - 1,
-                }
-            }
+    let mut place = *near;
+    while place < env.len() {
+        let own = env[place].0;
+        if own >= name {
+            *near = place;
+            return own == name;
         }
+        place += 1;
     }
-    None
+    *near = place;
+    false
 }
 
 /// Whether the variable is in scope at the node.
@@ -126,7 +142,6 @@ fn look(above: &[Option<usize>], program: &Program, at: usize, variable: u32) ->
     ensures found { (up : ℕ) → is_in_scope_within (suc up) (program_view program.now) at variable
         ≡ after (program_view program.now) variable up result }
     ensures inside { StaysInside (program_view program.now) result }
-    ensures leads { LeadsUp (program_view program.now) at result }
 {
     if is_parameter(program, at, variable) {
         return Found::Here;
