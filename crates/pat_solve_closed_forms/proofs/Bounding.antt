@@ -1,11 +1,11 @@
 -- Bounds of the sets of a pattern by bounds of those of its parts.
-use Rattle.std.proofs.Common.{◌≡◌, ℕ, ◌+◌, ◌*◌, ◌-◌, ◌^◌, ◌≤◌, min, true, false, ◌&&◌, List, [], ◌∷◌, ◌++◌, length, map, Option, Some, None, length-append, zero-mul, suc-mul, refl, sym, ap, ap₂, ◌∙◌, ⊎_elim, subst, arith}
-use Rattle.std.specs.Prelude.{is_some, IfSome}
+use Rattle.std.proofs.Common.{◌≡◌, ℕ, ◌+◌, ◌*◌, ◌-◌, ◌^◌, ◌≤◌, min, Bool, true, false, ◌&&◌, List, [], ◌∷◌, ◌++◌, length, map, Some, None, length-append, zero-mul, suc-mul, refl, sym, ap, ap₂, ◌∙◌, ⊎_elim, subst, arith}
+use Rattle.std.specs.Prelude.{is_some}
 use Rattle.std.specs.List.{AllByRecursion}
 use Rattle.std.proofs.lemmas.Bool.{and_parts, and_from, cases_Bool, cond-true, le-leb}
 use Rattle.std.proofs.lemmas.Nat.{mul-le}
 use Rattle.std.proofs.lemmas.List.{length-map}
-use Rattle.pat_words_spec.specs.Patterns.{Pat, Zero, One, Tag, Sum, Prod, Star, Var}
+use Rattle.pat_words_spec.specs.Patterns.{Pat, Zero, One, Tag, Sum, Prod, Star}
 use Rattle.pat_words_spec.specs.Words.{no_word}
 use Rattle.pat_inclusion_spec.specs.Counts.{most_tags}
 use Rattle.pat_inclusion_spec.specs.LinearSets.{LinearSet, linear_set}
@@ -15,8 +15,7 @@ use Rattle.pat_solve_bounded.specs.Limits.{within}
 use Rattle.pat_solve_elimination.proofs.Forms.{part_is}
 use Rattle.pat_limits.specs.Limits.{most_sets}
 use Rattle.pat_solve_closed_forms.specs.declared.bounds.SetBound.{SetBound}
-use Rattle.pat_solve_closed_forms.specs.Bounds.{IsBound}
-use Rattle.pat_solve_closed_forms.specs.declared.same.Comparison.{Comparison}
+use Rattle.pat_solve_closed_forms.specs.Bounds.{IsBound, Adds, SameAdds}
 use Rattle.pat_solve_closed_forms.specs.declared.same.Comparison.TheVariants.{SameWithForm}
 use Rattle.pat_solve_closed_forms.specs.Comparisons.{ComparesParts}
 
@@ -111,23 +110,10 @@ star_bound a c e part words sets not =
       words = λ own. let clash : false ≡ true = sym not ∙ own in cc;
     }
 
--- ---- what is found by both parts
-
-pub sum_found : (a b : SetBound) (sets : ℕ) (found : Option SetBound) → sets ≡ min (a.sets + b.sets) (2 ^ 64 - 1) → IfSome found (λ c. (c.sets ≡ sets) × (c.sets ≤ most_sets) × (c.are_words ≡ (a.are_words && b.are_words))) → (e f : Pat) → IsBound a e → IsBound b f → IfSome found (λ c. IsBound c (Sum e f))
-sum_found a b sets None s h e f left right = tt
-sum_found a b sets (Some c) s h e f left right = sum_bound a b c e f left right (h.0 ∙ s) h.1 h.2
-
-pub product_found : (a b : SetBound) (sets : ℕ) (found : Option SetBound) → sets ≡ min (a.sets * b.sets) (2 ^ 64 - 1) → IfSome found (λ c. (c.sets ≡ sets) × (c.sets ≤ most_sets) × (c.are_words ≡ (a.are_words && b.are_words))) → (e f : Pat) → IsBound a e → IsBound b f → IfSome found (λ c. IsBound c (Prod e f))
-product_found a b sets None s h e f left right = tt
-product_found a b sets (Some c) s h e f left right = product_bound a b c e f left right (h.0 ∙ s) h.1 h.2
-
 -- ---- patterns without parts
 
 pub zero_bound : (c : SetBound) → c.sets ≡ 0 → IsBound c Zero
 zero_bound c h = record { few = omega arith; within = omega arith; short = refl; words = λ _. tt }
-
-pub var_bound : (c : SetBound) (k : ℕ) → c.sets ≡ 0 → IsBound c (Var k)
-var_bound c k h = record { few = omega arith; within = omega arith; short = refl; words = λ _. tt }
 
 pub one_bound : (c : SetBound) → c.sets ≡ 1 → IsBound c One
 one_bound c h = record { few = omega arith; within = omega arith; short = refl; words = λ _. (refl, tt) }
@@ -149,10 +135,66 @@ short_form n e x h short =
     let own : lists_are_short n e ≡ true = subst (λ y. lists_are_short n y ≡ true) (part_is e x h) short in
     ap is_some (cond-true (is_small e && lists_are_short n e) (Some (sets_of n e)) None (and_from (is_small e) (lists_are_short n e) (small_if e x h) own))
 
--- ---- parts that are the same
+-- ---- bounds added
 
-pub short_same : (e : Pat) (b : SetBound) → IsBound b e → ComparesParts e e SameWithForm
-short_same e b h = (refl, h.short)
+pub added : (before own after : SetBound) (e : Pat) → after.sets ≡ min (before.sets + own.sets) (2 ^ 64 - 1) → after.are_words ≡ (before.are_words && own.are_words) → after.sets ≤ most_sets → (own.sets ≤ most_sets → IsBound own e) → Adds before after e
+added before own after e sets words few h = record {
+  own = own;
+  bound = h (omega arith);
+  sets = omega arith;
+  words = words;
+  within = few;
+}
 
-pub same_parts : (e f : Pat) (c : Comparison) → e ≡ f → ComparesParts f f c → ComparesParts e f c
-same_parts e f c same h = subst (λ x. ComparesParts x f c) (sym same) h
+and_on : (a b c : Bool) → ((a && b) && c) ≡ (a && (b && c))
+and_on true b c = refl
+and_on false b c = refl
+
+pub adds_sum : (a b c : SetBound) (e f : Pat) → Adds a b e → Adds b c f → Adds a c (Sum e f)
+adds_sum a b c e f h k =
+    let own : SetBound = record { sets = h.own.sets + k.own.sets; are_words = h.own.are_words && k.own.are_words } in
+    let first = h.sets in
+    let second = k.sets in
+    let few = k.within in
+    record {
+      own = own;
+      bound = sum_bound h.own k.own own e f h.bound k.bound (omega arith) (omega arith) refl;
+      sets = omega arith;
+      words = k.words ∙ ap (λ x. x && k.own.are_words) h.words ∙ and_on a.are_words h.own.are_words k.own.are_words;
+      within = few;
+    }
+
+-- what is added to none is a bound
+pub from_none : (before after : SetBound) (e : Pat) → before.sets ≡ 0 → before.are_words ≡ true → Adds before after e → IsBound after e
+from_none before after e none words h =
+    let sets = h.sets in
+    let few = h.bound.few in
+    record {
+      few = omega arith;
+      within = h.within;
+      short = h.bound.short;
+      words = λ own. h.bound.words (sym (h.words ∙ ap (λ x. x && h.own.are_words) words) ∙ own);
+    }
+
+-- ---- patterns that are the same
+
+-- of no pattern
+abbrev none : SetBound
+none = record { sets = 0; are_words = true }
+
+pub same_sum : (a b c : SetBound) (e f l r k m : Pat) → Sum l r ≡ e → Sum k m ≡ f → SameAdds a b l k → SameAdds b c r m → SameAdds a c e f
+same_sum a b c e f l r k m left right first second =
+    (sym left ∙ ap₂ Sum first.0 second.0 ∙ right, subst (Adds a c) right (adds_sum a b c k m first.1 second.1))
+
+pub same_product : (before after a b own : SetBound) (e f l r k m : Pat) → Prod l r ≡ e → Prod k m ≡ f → SameAdds none a l k → SameAdds none b r m → own.sets ≡ min (a.sets * b.sets) (2 ^ 64 - 1) → own.are_words ≡ (a.are_words && b.are_words) → ((own.sets ≤ most_sets → IsBound own (Prod k m)) → Adds before after (Prod k m)) → SameAdds before after e f
+same_product before after a b own e f l r k m left right first second sets words added =
+    let bound = λ (few : own.sets ≤ most_sets). product_bound a b own k m (from_none none a k refl refl first.1) (from_none none b m refl refl second.1) sets few words in
+    (sym left ∙ ap₂ Prod first.0 second.0 ∙ right, subst (Adds before after) right (added bound))
+
+pub same_star : (before after a own : SetBound) (e f p q : Pat) → Star p ≡ e → Star q ≡ f → SameAdds none a p q → a.are_words ≡ true → own.sets ≡ 1 → own.are_words ≡ false → ((own.sets ≤ most_sets → IsBound own (Star q)) → Adds before after (Star q)) → SameAdds before after e f
+same_star before after a own e f p q left right part words one periods added =
+    let bound = λ (few : own.sets ≤ most_sets). star_bound a own q (from_none none a q refl refl part.1) words one periods in
+    (sym left ∙ ap Star part.0 ∙ right, subst (Adds before after) right (added bound))
+
+pub same_few : (after : SetBound) (e f : Pat) → SameAdds none after e f → ComparesParts e f SameWithForm
+same_few after e f h = (h.0, h.1.bound.short)

@@ -3,6 +3,5 @@ mod Steps
 mod Tagged
 mod Meaning
 mod Kept
-mod Singles
 mod Bounding
 mod Reflexive

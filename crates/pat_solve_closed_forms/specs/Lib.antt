@@ -1,6 +1,5 @@
 pub use Rattle.pat_solve_bounds.specs.lower_bounds.Indexes
 pub mod Sides
-pub mod Singles
 pub mod Bounds
 pub mod Comparisons
 pub mod Rounds

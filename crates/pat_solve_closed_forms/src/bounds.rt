@@ -1,88 +1,97 @@
-// How many sets the closed form of a pattern has at most, by its parts alone: none of them is made.
-ghost use Rattle.std.specs.Prelude.{◌≡◌, ◌≤◌, ◌&&◌, IfSome};
+// Patterns that are the same, and how many sets their closed form has at most, by their parts alone: none of them is made.
+ghost use Rattle.std.specs.Prelude.{◌≡◌, ◌≤◌, ◌*◌, ◌-◌, ◌^◌, ◌&&◌, min, IsTrue};
 ghost use Rattle.pat_words_spec.specs.Patterns.{Pat};
 ghost use Rattle.pat_patterns.specs.Views.{pattern_view};
 ghost use Rattle.pat_limits.specs.Limits.{most_sets};
-ghost use Rattle.pat_solve_closed_forms.specs.Bounds.{IsBound};
+ghost use Rattle.pat_solve_closed_forms.specs.declared.same.Comparison.TheVariants.{SameWithForm};
+ghost use Rattle.pat_solve_closed_forms.specs.Bounds.{IsBound, Adds, SameAdds};
+ghost use Rattle.pat_solve_closed_forms.specs.Comparisons.{ComparesParts};
 
 use pat_limits::MOST_SETS;
 use pat_patterns::Pattern;
 
-/// What is known of the sets of a pattern.
+/// What is known of the sets of patterns.
 #[derive(Clone, Copy)]
 pub struct SetBound {
-    /// They are so many at most, which are 4,096 or fewer.
+    /// They are so many at most.
     pub sets: usize,
     /// None of them has periods.
     pub are_words: bool,
 }
 
-/// A bound of a pattern of two parts, unless it is above what is worked with.
-fn joined(sets: usize, left: SetBound, right: SetBound) -> Option<SetBound>
-    ensures { IfSome result (λ b. (b.sets ≡ sets) × (b.sets ≤ most_sets) × (b.are_words ≡ (left.are_words && right.are_words))) }
-{
-    if sets > MOST_SETS {
-        return None;
-    }
-    let are_words = left.are_words && right.are_words;
-    Some(SetBound { sets, are_words })
-}
+const NONE: SetBound = SetBound {
+    sets: 0,
+    are_words: true,
+};
+
+const WORD: SetBound = SetBound {
+    sets: 1,
+    are_words: true,
+};
+
+// The star of sets without periods.
+const STAR: SetBound = SetBound {
+    sets: 1,
+    are_words: false,
+};
 
 impl SetBound {
-    #[tactic(auto, using(crate::proofs::Bounding::sum_found))]
-    fn sum(self, other: SetBound) -> Option<SetBound>
-        ensures { (e f : Pat) → IsBound self e → IsBound other f → IfSome result (λ b. IsBound b (Pat.Sum e f)) }
+    /// Adds the sets of one more pattern, unless they are too many together.
+    fn add(&mut self, own: SetBound) -> bool
+        ensures { (e : Pat) → (own.sets ≤ most_sets → IsBound own e) → IsTrue result → Adds self.old self.new e }
     {
-        let sets = self.sets.saturating_add(other.sets);
-        joined(sets, self, other)
+        self.sets = self.sets.saturating_add(own.sets);
+        self.are_words = self.are_words && own.are_words;
+        self.sets <= MOST_SETS
     }
 
-    fn product(self, other: SetBound) -> Option<SetBound>
-        ensures { (e f : Pat) → IsBound self e → IsBound other f → IfSome result (λ b. IsBound b (Pat.Prod e f)) }
+    fn product(self, other: SetBound) -> SetBound
+        ensures sets { result.sets ≡ min (self.sets * other.sets) (2 ^ 64 - 1) }
+        ensures words { result.are_words ≡ (self.are_words && other.are_words) }
     {
-        let sets = self.sets.saturating_mul(other.sets);
-        joined(sets, self, other)
-    }
-
-    /// The star of sets without periods is a single set.
-    fn star(self) -> Option<SetBound>
-        ensures { (e : Pat) → IsBound self e → IfSome result (λ b. IsBound b (Pat.Star e)) }
-    {
-        if !self.are_words {
-            return None;
+        SetBound {
+            sets: self.sets.saturating_mul(other.sets),
+            are_words: self.are_words && other.are_words,
         }
-        Some(SetBound {
-            sets: 1,
-            are_words: false,
-        })
     }
 }
 
-/// A bound of the pattern's sets, if one is found: then each list that is made on the way to its closed form is short.
-#[tactic(auto, using(crate::proofs::Bounding::zero_bound, crate::proofs::Bounding::one_bound, crate::proofs::Bounding::tag_bound, crate::proofs::Bounding::var_bound))]
-pub fn set_bound(p: &Pattern) -> Option<SetBound>
-    ensures { IfSome result (λ b. IsBound b (pattern_view p.now)) }
+/// Whether the patterns are the same and have few sets, which are added to what is known of others.
+fn add_same(left: &Pattern, right: &Pattern, bound: &mut SetBound) -> bool
+    ensures { IsTrue result → SameAdds bound.old bound.new (pattern_view left.now) (pattern_view right.now) }
 {
-    match p {
-        Pattern::Zero | Pattern::Var(_) => Some(SetBound {
-            sets: 0,
-            are_words: true,
-        }),
-        Pattern::One | Pattern::Tag(_) => Some(SetBound {
-            sets: 1,
-            are_words: true,
-        }),
-        Pattern::Sum(left, right) => match (set_bound(left), set_bound(right)) {
-            (Some(left), Some(right)) => left.sum(right),
-            _ => None,
-        },
-        Pattern::Prod(left, right) => match (set_bound(left), set_bound(right)) {
-            (Some(left), Some(right)) => left.product(right),
-            _ => None,
-        },
-        Pattern::Star(part) => match set_bound(part) {
-            Some(part) => part.star(),
-            None => None,
-        },
+    match (left, right) {
+        (Pattern::Zero, Pattern::Zero) => bound.add(NONE),
+        (Pattern::One, Pattern::One) => bound.add(WORD),
+        (Pattern::Tag(tag), Pattern::Tag(other)) => tag == other && bound.add(WORD),
+        (Pattern::Sum(left, right), Pattern::Sum(other_left, other_right)) => {
+            add_same(left, other_left, bound) && add_same(right, other_right, bound)
+        }
+        (Pattern::Prod(left, right), Pattern::Prod(other_left, other_right)) => {
+            let mut first = NONE;
+            if !add_same(left, other_left, &mut first) {
+                return false;
+            }
+            let mut second = NONE;
+            add_same(right, other_right, &mut second) && bound.add(first.product(second))
+        }
+        (Pattern::Star(part), Pattern::Star(other)) => {
+            let mut words = NONE;
+            if !add_same(part, other, &mut words) {
+                return false;
+            }
+            words.are_words && bound.add(STAR)
+        }
+        _ => false,
     }
+}
+
+#[tactic(auto, using(crate::proofs::Bounding::same_few))]
+/// Whether the patterns are the same, with few sets by what is seen of their parts: then each list that is made on the way to their
+/// closed form is short.
+pub fn are_same_with_few_sets(left: &Pattern, right: &Pattern) -> bool
+    ensures { IsTrue result → ComparesParts (pattern_view left.now) (pattern_view right.now) SameWithForm }
+{
+    let mut bound = NONE;
+    add_same(left, right, &mut bound)
 }

@@ -1,17 +1,16 @@
 // Sides of a constraint that are the same once their variables are replaced.
-ghost use Rattle.std.specs.Prelude.{◌≡◌, ◌&&◌, IfOk};
-ghost use Rattle.pat_words_spec.specs.Patterns.{pat_eq, subst_of};
+ghost use Rattle.std.specs.Prelude.{◌≡◌, IfOk};
+ghost use Rattle.pat_words_spec.specs.Patterns.{subst_of};
 ghost use Rattle.pat_patterns.specs.Views.{pattern_view};
 ghost use Rattle.pat_types.specs.Views.{right_view};
 ghost use Rattle.pat_solve_bounded.specs.Limits.{within};
 ghost use Rattle.pat_solve_bounded.specs.Views.{part_view, limited_view};
 ghost use Rattle.pat_solve_bounded.specs.replacing.Replacing.{replaced_by, IsReplacement};
 ghost use Rattle.pat_solve_closed_forms.specs.Sides.{right_pattern};
-ghost use Rattle.pat_solve_closed_forms.specs.Singles.{is_single};
 ghost use Rattle.pat_solve_closed_forms.specs.Comparisons.{Compares, ComparesParts};
 ghost use Rattle.pat_solve_closed_forms.specs.Forms.{values_by, IsAssignment};
 
-use crate::bounds::set_bound;
+use crate::bounds::are_same_with_few_sets;
 use crate::forms::Assignment;
 use pat_patterns::Pattern;
 use pat_solve_bounded::{Part, Replacement, replaced};
@@ -65,44 +64,17 @@ fn right_part<'a>(
 }
 
 /// Compares the parts, which aren't too large.
-#[tactic(auto, using(crate::proofs::Singles::single_same, crate::proofs::Bounding::same_parts))]
 fn compare_parts(left: &Part, right: &Part) -> Comparison
     ensures { ComparesParts (part_view left.now) (part_view right.now) result }
 {
     let left = left.as_measured();
     let right = right.as_measured();
-    if are_same_and_single(&left.pattern, &right.pattern) {
+    if are_same_with_few_sets(&left.pattern, &right.pattern) {
         return Comparison::SameWithForm;
     }
     if left.pattern.is_same(&right.pattern) {
-        compare_same(&right.pattern)
+        Comparison::Same
     } else {
         Comparison::Apart
-    }
-}
-
-/// What is known where both parts are this pattern.
-#[tactic(auto, using(crate::proofs::Bounding::short_same))]
-fn compare_same(p: &Pattern) -> Comparison
-    ensures { ComparesParts (pattern_view p.now) (pattern_view p.now) result }
-{
-    match set_bound(p) {
-        Some(_) => Comparison::SameWithForm,
-        None => Comparison::Same,
-    }
-}
-
-/// Whether the patterns are the same, made of tags and 1 by products alone. They have a single word then, which many do.
-#[tactic(auto, using(crate::proofs::Singles::in_pairs, crate::proofs::Singles::not_both))]
-fn are_same_and_single(left: &Pattern, right: &Pattern) -> bool
-    ensures { result ≡ (pat_eq (pattern_view left.now) (pattern_view right.now) && is_single (pattern_view left.now)) }
-{
-    match (left, right) {
-        (Pattern::One, Pattern::One) => true,
-        (Pattern::Tag(tag), Pattern::Tag(other)) => tag == other,
-        (Pattern::Prod(left, right), Pattern::Prod(other_left, other_right)) => {
-            are_same_and_single(left, other_left) && are_same_and_single(right, other_right)
-        }
-        _ => false,
     }
 }
