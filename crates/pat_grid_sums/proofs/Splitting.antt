@@ -79,6 +79,26 @@ summed_split k h (suc m) v w =
     let result : summed k h (v / (p * b)) (w / (p * b)) * (p * b) + summed k (suc m) (v % (p * b)) (w % (p * b)) ≡ summed k (h + suc m) v w = omega arith in
     subst (λ i. summed k h (v / i) (w / i) * i + summed k (suc m) (v % i) (w % i) ≡ summed k (h + suc m) v w) (sym power) result
 
+-- a sum isn't below the second point
+rises : (k n v w : ℕ) → w < points_in k n → w ≤ summed k n v w
+rises k zero v w l = let one = pow-zero (k + 1) in omega arith
+rises k (suc m) v w l =
+    let b = k + 1 in
+    let power : points_in k (suc m) ≡ points_in k m * b = pow-suc (k + 1) m in
+    let h = rises k m (v / b) (w / b) ((div-lt_iff_lt-mul {k = b} {x = w} {y = points_in k m} (omega arith)).1 (omega arith)) in
+    let grown = mul-le-mul_right b h in
+    let whole = div-add-mod' w b in
+    let last : w % b < b = mod-lt w (omega arith) in
+    let sum = summed_one k v w m (suc m) refl in
+    omega arith
+
+pub row_rises : (k n v : ℕ) (row : List ℕ) → IsRow k n v row → (p : ℕ) → p < length row → p ≤ get_or row p 0
+row_rises k n v row h p l =
+    let many = h.0 in
+    let is = h.1 p (omega arith) in
+    let up = rises k n v p (omega arith) in
+    omega arith
+
 -- ---- shapes
 
 pub fewer_fit : (k m n : ℕ) → m ≤ n → grid_fits k n ≡ true → grid_fits k m ≡ true
@@ -91,6 +111,12 @@ module _ (k n : ℕ) (s : Shape) (shape : IsShape k n s) where
   pub all_points : s.words * s.width ≡ points_in k n
   all_points =
       ap₂ (λ x y. x * y) shape.words shape.width ∙ sym (pow-add (k + 1) s.high s.low) ∙ ap (points_in k) shape.tags
+
+  pub some_all : 0 < s.words * s.width
+  some_all = subst (λ i. 0 < i) (sym all_points) (some_points k n)
+
+  pub some_words : 0 < s.words
+  some_words = subst (λ i. 0 < i) (sym shape.words) (some_points k s.high)
 
   pub some_places : 0 < s.width
   some_places = subst (λ i. 0 < i) (sym shape.width) (some_points k s.low)
