@@ -5,14 +5,25 @@ ghost use Rattle.pat_grid_sums.specs.Shapes.{IsShape};
 ghost use Rattle.pat_grid_sums.specs.Systems.{setting_in, IsSystem, AreSets, IsPart, IsClosedAt, Stands, Looked, Passed, IsSettled, NoPoints};
 
 use crate::bits::{is_same, no_bits};
+use crate::rows::no_numbers;
 use crate::shape::Shape;
 use crate::steps::grown;
 use crate::system::{System, parts_of};
+use pat_grid_points::{SparseList, Symbol, next_held};
 use pat_sequences::Sequence;
 use std::alloc::{AllocError, Global};
 
 /// All sets together have fewer words than this: where there are more, most are of few points.
 const WORDS_END: usize = 2_097_152;
+
+/// Up to this count sets grow in a few rounds.
+const MOST_COUNT: u32 = 5;
+
+/// So many points make words of bits worth their while.
+const MANY_POINTS: usize = 1024;
+
+/// A grid that is given has few points, if it has no more than these.
+const FEW_POINTS: usize = 256;
 
 /// So many passes are made at most.
 const MOST_PASSES: usize = 65_536;
@@ -35,6 +46,9 @@ pub fn least_sets(
     ensures { IfOk result (λ r. IfSome r (IsSettled (setting_in system.now) shape.width shape.words (length system.now.symbols.now))) }
 {
     let count = system.symbols.len();
+    if !is_dense(system, shape) {
+        return Ok(None);
+    }
     if is_large(count, shape) {
         return Ok(None);
     }
@@ -50,11 +64,69 @@ pub fn least_sets(
     Ok(None)
 }
 
-/// Whether that many sets take too much room, or a word has one point alone.
+/// Whether that many sets take too much room.
 fn is_large(count: usize, shape: Shape) -> bool
     ensures { IsFalse result → count < 2097152 }
 {
-    shape.low == 0 || count >= WORDS_END || count.saturating_mul(shape.words) >= WORDS_END
+    count >= WORDS_END || count.saturating_mul(shape.words) >= WORDS_END
+}
+
+/// Whether sets may have so many points that words of bits are quicker than entries.
+fn is_dense(system: &System, shape: Shape) -> bool {
+    if shape.k > MOST_COUNT {
+        return false;
+    }
+    reach_of(system) >= MANY_POINTS || is_any_given_dense(system)
+}
+
+/// How many points have no other tags than those of the symbols.
+fn reach_of(system: &System) -> usize {
+    let mut points: usize = 1;
+    for tag in 0..system.tags {
+        if is_there(system.symbols, tag) {
+            points = points.saturating_mul(system.k as usize + 1);
+        }
+    }
+    points
+}
+
+/// Whether one of the symbols is the tag.
+fn is_there(symbols: &[Symbol], tag: u8) -> bool {
+    for symbol in symbols {
+        if is_tag(*symbol, tag) {
+            return true;
+        }
+    }
+    false
+}
+
+fn is_tag(symbol: Symbol, tag: u8) -> bool {
+    match symbol {
+        Symbol::Tag(own) => own == tag,
+        _ => false,
+    }
+}
+
+/// Whether one of the grids that are given has many points.
+fn is_any_given_dense(system: &System) -> bool {
+    for grid in system.given {
+        if has_many(&grid.held) {
+            return true;
+        }
+    }
+    false
+}
+
+/// Whether many points are held.
+fn has_many(held: &SparseList<bool>) -> bool {
+    let mut number = next_held(held, 0);
+    for _ in 0..FEW_POINTS {
+        if number >= held.len() {
+            return false;
+        }
+        number = next_held(held, number + 1);
+    }
+    true
 }
 
 /// So many sets of no point.
@@ -73,12 +145,9 @@ fn no_sets(alloc: Global, count: usize, words: usize) -> Result<Sequence<Sequenc
 fn no_marks(alloc: Global, count: usize) -> Result<Marks, AllocError>
     ensures { IfOk result (λ marks. (marks.looked ≡ replicate count 0) × (marks.changed ≡ replicate count 0)) }
 {
-    let looked = vec![in alloc; 0usize; count]?;
-    let changed = vec![in alloc; 0usize; count]?;
-    Ok(Marks {
-        looked: Sequence::from_vec(looked),
-        changed: Sequence::from_vec(changed),
-    })
+    let looked = no_numbers(alloc, count)?;
+    let changed = no_numbers(alloc, count)?;
+    Ok(Marks { looked, changed })
 }
 
 /// Looks once at each symbol, and says whether a set has grown. So many looks were made before.
