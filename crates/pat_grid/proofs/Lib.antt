@@ -8,3 +8,4 @@ mod Summing
 mod Done
 mod Waiting
 mod Walking
+mod Settled

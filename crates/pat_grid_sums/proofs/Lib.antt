@@ -1,3 +1,7 @@
 mod Putting
 mod Splitting
+mod Shifting
 mod Summing
+mod Stepping
+mod Looking
+mod Writing

@@ -3,7 +3,7 @@ use Rattle.std.proofs.Common.{◌≡◌, ◌≢◌, ℕ, ◌+◌, ◌*◌, ◌/�
 use Rattle.std.specs.Int.{bit_at, w64}
 use Rattle.std.specs.Prelude.{bit_or}
 use Rattle.std.proofs.lemmas.Bool.{cases_lt, cases_eq}
-use Rattle.std.proofs.lemmas.List.{get_or-set_same, get_or-set_other, get_or_append_left, get_or_push, length_push, length-replicate}
+use Rattle.std.proofs.lemmas.List.{get_or-set_same, get_or-set_other, get_or_append_left, get_or_push, get_or_past, length_push, length-replicate}
 use Rattle.std.proofs.lemmas.Nat.Bits.{bit_at_set_same, bit_at_set_other, bit_at_or, bit_at-lt, bit_at-zero}
 use Rattle.pat_grid_points.proofs.Digits.{zero_at}
 use Rattle.pat_grid_sums.specs.Sets.{In, Puts, AnyBefore, Lists}
@@ -95,7 +95,7 @@ puts_bits words new word bits l e =
 
 -- ---- from nothing
 
-none_in : (count h q : ℕ) → In (replicate count 0) h q → ⊥
+pub none_in : (count h q : ℕ) → In (replicate count 0) h q → ⊥
 none_in count h q i =
     let a = ap (λ w. bit_at w q) (zero_at count h) in
     let b = bit_at-zero q in
@@ -153,3 +153,41 @@ list_passed words width m numbers none h = record {
       (cases_lt c m);
   only = λ i l. let t = h.only i l in let k = t.0 in (omega arith, t.1);
 }
+
+-- ---- whole sets
+
+-- after what is there
+pub has_more : (P Q : ℕ → ℕ → Type 0) (count : ℕ) (x y : List ℕ) → Has P count x → Puts Q x y → Has (λ h q. P h q ⊎ Q h q) count y
+has_more P Q count x y had puts = record {
+  as_many = puts.as_long ∙ had.as_many;
+  put = λ h q t. ⊎_elim (λ p. puts.kept h q (had.put h q p)) (λ p. puts.put h q p) t;
+  only = λ h q i. ⊎_elim (λ old. inl (had.only h q old)) (λ p. inr p) (puts.only h q i);
+}
+
+pub nothing_in : (h q : ℕ) → In [] h q → ⊥
+nothing_in h q i = none_in 0 h q i
+
+-- the words of a set, one after another
+abbrev pub IsWordOf : List ℕ → ℕ → ℕ → ℕ → Type 0
+IsWordOf more word h q = (h ≡ word) × (bit_at (get_or more word 0) q ≡ 1)
+
+pub words_joined : (more x y : List ℕ) (m : ℕ) → m ≡ length more → Puts (AnyBefore (IsWordOf more) m) x y → Puts (In more) x y
+words_joined more x y m e h =
+    puts_as (AnyBefore (IsWordOf more) m) (In more) x y
+    (λ a q t. subst (λ i. In more i q) (sym t.2.0) t.2.1)
+    (λ a q i. (a, (let l = in_within more a q i in let k = e in omega arith), (refl, i)))
+    h
+  where
+    in_within : (words : List ℕ) (a q : ℕ) → In words a q → a < length words
+    in_within words a q i =
+        ⊎_elim (λ l. l)
+        (λ past. absurd (nothing_in a q (sym (ap (λ w. bit_at w q) (get_or_past words a 0 past)) ∙ i)))
+        (cases_lt a (length words))
+
+-- where all words are alike they are the same
+pub alike : (one other : List ℕ) (m : ℕ) → m ≡ length one → length one ≡ length other → ((h : ℕ) → h < m → get_or one h 0 ≡ get_or other h 0) → (h : ℕ) → get_or one h 0 ≡ get_or other h 0
+alike one other m e long before h =
+    ⊎_elim
+    (λ l. before h l)
+    (λ past. get_or_past one h 0 (omega arith) ∙ sym (get_or_past other h 0 (omega arith)))
+    (cases_lt h m)

@@ -1,8 +1,8 @@
 -- Numbers of points divided into words, and their sums.
-use Rattle.std.proofs.Common.{◌≡◌, ℕ, zero, suc, ◌+◌, ◌-◌, ◌*◌, ◌/◌, ◌%◌, ◌^◌, ◌<◌, ◌≤◌, min, true, List, [], ◌∷◌, ◌++◌, length, get_or, ⊎_elim, refl, sym, ap, ap₂, ◌∙◌, subst, arith, suc-mul, mul-le-mul_right, pow-add}
+use Rattle.std.proofs.Common.{◌≡◌, ℕ, zero, suc, ◌+◌, ◌-◌, ◌*◌, ◌/◌, ◌%◌, ◌^◌, ◌<◌, ◌≤◌, min, true, List, [], ◌∷◌, ◌++◌, length, get_or, set, ⊎_elim, refl, sym, ap, ap₂, ◌∙◌, subst, arith, suc-mul, mul-le-mul_right, pow-add}
 use Rattle.std.specs.Prelude.{nat_le}
 use Rattle.std.proofs.lemmas.Bool.{cases_lt, and_from, le-leb}
-use Rattle.std.proofs.lemmas.List.{get_or_append_left, get_or_push, length_push}
+use Rattle.std.proofs.lemmas.List.{get_or-set_same, get_or-set_other}
 use Rattle.std.proofs.lemmas.Nat.{div-mul-add, mod-mul-add, div-add-mod'}
 use Rattle.std.proofs.Math.Nat.{pow-zero, pow-suc, mul_assoc, add-mul, mod-lt, div-one, one-le-pow, div-lt_iff_lt-mul}
 use Rattle.pat_inclusion_spec.specs.Points.{grid_fits}
@@ -10,7 +10,7 @@ use Rattle.pat_inclusion_spec.specs.bounds.Numbers.{points_in}
 use Rattle.pat_grid_points.specs.Views.{summed}
 use Rattle.pat_grid_points.proofs.Digits.{bound_fits, points_fit, fewer_points, summed_one, summed_below}
 use Rattle.pat_grid_sums.specs.declared.shape.Shape.{Shape}
-use Rattle.pat_grid_sums.specs.Shapes.{IsShape, RowTo, IsRow}
+use Rattle.pat_grid_sums.specs.Shapes.{IsShape, FilledTo, RowTo, IsRow}
 use Rattle.pat_limits.specs.Limits.{most_points}
 
 -- ---- digits
@@ -79,6 +79,26 @@ summed_split k h (suc m) v w =
     let result : summed k h (v / (p * b)) (w / (p * b)) * (p * b) + summed k (suc m) (v % (p * b)) (w % (p * b)) ≡ summed k (h + suc m) v w = omega arith in
     subst (λ i. summed k h (v / i) (w / i) * i + summed k (suc m) (v % i) (w % i) ≡ summed k (h + suc m) v w) (sym power) result
 
+-- a sum isn't below the second point
+rises : (k n v w : ℕ) → w < points_in k n → w ≤ summed k n v w
+rises k zero v w l = let one = pow-zero (k + 1) in omega arith
+rises k (suc m) v w l =
+    let b = k + 1 in
+    let power : points_in k (suc m) ≡ points_in k m * b = pow-suc (k + 1) m in
+    let h = rises k m (v / b) (w / b) ((div-lt_iff_lt-mul {k = b} {x = w} {y = points_in k m} (omega arith)).1 (omega arith)) in
+    let grown = mul-le-mul_right b h in
+    let whole = div-add-mod' w b in
+    let last : w % b < b = mod-lt w (omega arith) in
+    let sum = summed_one k v w m (suc m) refl in
+    omega arith
+
+pub row_rises : (k n v : ℕ) (row : List ℕ) → IsRow k n v row → (p : ℕ) → p < length row → p ≤ get_or row p 0
+row_rises k n v row h p l =
+    let many = h.0 in
+    let is = h.1 p (omega arith) in
+    let up = rises k n v p (omega arith) in
+    omega arith
+
 -- ---- shapes
 
 pub fewer_fit : (k m n : ℕ) → m ≤ n → grid_fits k n ≡ true → grid_fits k m ≡ true
@@ -91,6 +111,12 @@ module _ (k n : ℕ) (s : Shape) (shape : IsShape k n s) where
   pub all_points : s.words * s.width ≡ points_in k n
   all_points =
       ap₂ (λ x y. x * y) shape.words shape.width ∙ sym (pow-add (k + 1) s.high s.low) ∙ ap (points_in k) shape.tags
+
+  pub some_all : 0 < s.words * s.width
+  some_all = subst (λ i. 0 < i) (sym all_points) (some_points k n)
+
+  pub some_words : 0 < s.words
+  some_words = subst (λ i. 0 < i) (sym shape.words) (some_points k s.high)
 
   pub some_places : 0 < s.width
   some_places = subst (λ i. 0 < i) (sym shape.width) (some_points k s.low)
@@ -151,14 +177,15 @@ no_tags k n v e =
     first w z = subst (λ i. get_or (0 ∷ []) i 0 ≡ summed k 0 v i) (sym z) refl
 
 -- one sum more
-pub row_more : (k n v c x : ℕ) (row : List ℕ) → RowTo k n v c row → x ≡ summed k n v c → RowTo k n v (c + 1) (row ++ x ∷ [])
-row_more k n v c x row h is = (
-  length_push row x ∙ (let l = h.0 in omega arith),
-  λ w l. ⊎_elim
-      (λ (m : w < c). get_or_append_left row (x ∷ []) 0 w (let e = h.0 in omega arith) ∙ h.1 w m)
-      (λ (m : c ≤ w). let e : c ≡ w = omega arith in subst (λ i. get_or (row ++ x ∷ []) i 0 ≡ summed k n v i) e (get_or_push row x 0 c h.0 ∙ is))
-      (cases_lt w c),
-)
+pub filled_more : (k n v c x place : ℕ) (row : List ℕ) → FilledTo k n v c row → place ≡ c → c < length row → x ≡ summed k n v c → FilledTo k n v (c + 1) (set row place x)
+filled_more k n v c x place row h at room is w l =
+    ⊎_elim
+    (λ (m : w < c). get_or-set_other row place w x 0 (λ e. absurd (omega arith)) ∙ h w m)
+    (λ (m : c ≤ w).
+    let e : c ≡ w = omega arith in
+    let f : place ≡ w = omega arith in
+    subst (λ i. get_or (set row i x) w 0 ≡ summed k n v w) (sym f) (get_or-set_same row w x 0 (omega arith) ∙ is ∙ ap (summed k n v) e))
+    (cases_lt w c)
 
 -- the sum with the point whose last digit is this one
 pub digit_sum : (k n v above digit made other x : ℕ) → above ≡ summed k n (v / (k + 1)) made → digit ≡ v % (k + 1) → other < k + 1 → x ≡ above * (k + 1) + min (digit + other) k → x ≡ summed k (n + 1) v (made * (k + 1) + other)
@@ -192,10 +219,6 @@ row_room k n v i row some few h l =
     let grown : (get_or row i 0 + 1) * (k + 1) ≤ points_in k (n - 1) * (k + 1) = mul-le-mul_right (k + 1) (omega arith) in
     let all = points_more k n some in
     omega arith
-
-pub row_whole : (k n v u m : ℕ) (above row : List ℕ) → 0 < n → m ≡ length above → IsRow k (n - 1) u above → RowTo k n v (m * (k + 1)) row → IsRow k n v row
-row_whole k n v u m above row some e h made =
-    subst (λ c. RowTo k n v c row) (ap (λ i. i * (k + 1)) (e ∙ h.0) ∙ points_more k n some) made
 
 module _ (k n : ℕ) (s : Shape) (shape : IsShape k n s) where
   pub row_places : (l : ℕ) (row : List ℕ) → IsRow s.k s.low l row → (p : ℕ) → p < length row → get_or row p 0 < 64

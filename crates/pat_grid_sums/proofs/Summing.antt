@@ -1,9 +1,11 @@
 -- Sums of sets, by words.
-use Rattle.std.proofs.Common.{◌≡◌, ℕ, ◌+◌, ◌*◌, ◌/◌, ◌%◌, ◌<◌, ◌≤◌, ⊎_elim, Bool, true, false, List, [], ◌∷◌, ◌++◌, replicate, length, get_or, refl, sym, ap, ap₂, ◌∙◌, subst, arith}
+use Rattle.std.proofs.Common.{◌≡◌, ℕ, ◌+◌, ◌*◌, ◌/◌, ◌%◌, ◌<◌, ◌≤◌, ⊎_elim, Bool, true, false, List, [], ◌∷◌, ◌++◌, replicate, length, get_or, refl, sym, ap, ap₂, ◌∙◌, subst, arith, mul-le-mul_right}
 use Rattle.std.specs.Prelude.{IsTrue, ◌↔◌}
 use Rattle.std.specs.Int.{bit_at}
 use Rattle.std.proofs.lemmas.Bool.{cases_lt}
 use Rattle.std.proofs.lemmas.Nat.Bits.{bit_at-zero}
+use Rattle.std.proofs.lemmas.Nat.{div-mul-add, mod-mul-add, div-add-mod'}
+use Rattle.std.proofs.Math.Nat.{add-mul}
 use Rattle.std.proofs.lemmas.List.{get_or_append_left, get_or_push, length_push}
 use Rattle.pat_inclusion_spec.specs.bounds.Numbers.{points_in}
 use Rattle.pat_grid_points.specs.Views.{summed}
@@ -11,8 +13,9 @@ use Rattle.pat_grid_points.proofs.Digits.{summed_below, summed_zero_left}
 use Rattle.pat_grid_sums.specs.declared.shape.Shape.{Shape}
 use Rattle.pat_grid_sums.specs.Sets.{In, Puts, AnyBefore, IsListed, AtNumber, Lists, IsMovedAny, IsJoined, IsAdded}
 use Rattle.pat_grid_sums.specs.Shapes.{IsShape, IsRow, IsSum, Has, AreMoved, IsGathered, IsRowSum, AreSums}
+use Rattle.pat_grid_sums.specs.Systems.{Holds, IsSumOf}
 use Rattle.pat_grid_sums.proofs.Putting.{puts_none, puts_as, has_all, has_as}
-use Rattle.pat_grid_sums.proofs.Splitting.{all_points, word_within, place_within, sum_word, sum_place, is_sum}
+use Rattle.pat_grid_sums.proofs.Splitting.{all_points, word_within, place_within, sum_word, sum_place}
 
 -- the words' bits, each moved by the row of a place
 pub moved_sums : (s : Shape) (others row words : List ℕ) (l : ℕ) → s.width ≡ points_in s.k s.low → IsRow s.k s.low l row → Has (AnyBefore (IsMovedAny others row) (length others)) (length others) words → Has (IsSum others s l) (length others) words
@@ -106,23 +109,77 @@ row_sums s ones moved words row x y i count row_is gathered h =
     (t.1, (let e : t.1 < length row = omega arith in e), (t.5 ∙ sym (row_is.1 t.1 (omega arith)), gathered.put t.1 q (t.0, t.2, t.3, t.4, t.6))))
     h
 
--- ---- words that are the same as the one before
+-- ---- sums of sets
 
--- what the bits of the word before were moved to
-pub moved_alike : (others row moved new : List ℕ) (word before bits : ℕ) → before + 1 ≡ word → get_or others word 0 ≡ get_or others before 0 → bits ≡ get_or moved before 0 → Has (AnyBefore (IsMovedAny others row) word) (length others) moved → Puts (λ h q. (h ≡ word) × (bit_at bits q ≡ 1)) moved new → Puts (IsMovedAny others row word) moved new
-moved_alike others row moved new word before bits next same is had h =
-    puts_as (λ a q. (a ≡ word) × (bit_at bits q ≡ 1)) (IsMovedAny others row word) moved new
-    (λ a q t.
-    let found = had.only before q (subst (λ b. bit_at b q ≡ 1) is t.1) in
-    let m = found.2 in
-    let at : before ≡ found.0 = m.2.1 in
-    (m.0, m.1, (subst (λ b. bit_at b m.0 ≡ 1) (sym same) (subst (λ b. In others b m.0) (sym at) m.2.0), t.0, m.2.2)))
-    (λ a q t.
-    let there : In moved before q = had.put before q (before, (let e : before < word = omega arith in e), (t.0, t.1, (subst (λ b. bit_at b t.0 ≡ 1) same t.2.0, refl, t.2.2))) in
-    (t.2.1, subst (λ b. bit_at b q ≡ 1) (sym is) there))
-    h
+pub same_number : (c d w : ℕ) → c / w ≡ d / w → c % w ≡ d % w → c ≡ d
+same_number c d w e f = sym (div-add-mod' c w) ∙ ap₂ (λ i j. i * w + j) e f ∙ div-add-mod' d w
 
-module _ (k n : ℕ) (s : Shape) (shape : IsShape k n s) (firsts seconds ones others : List ℕ) (moved : List (List ℕ)) (sums numbers : List ℕ) (had : Has (AnyBefore (AtNumber firsts s.width) (length firsts)) s.words ones) (have : Has (AnyBefore (AtNumber seconds s.width) (length seconds)) s.words others) (went : AreMoved ones others s s.width moved) (summing : Has (AnyBefore (IsRowSum ones moved s) (length ones)) s.words sums) (listed : Lists sums s.width (s.words * s.width) numbers) where
+module _ (n : ℕ) (s : Shape) (shape : IsShape s.k n s) where
+  number_within : (i q : ℕ) → i < s.words → q < s.width → i * s.width + q < points_in s.k n
+  number_within i q l m =
+      let all = all_points s.k n s shape in
+      let grown : (i + 1) * s.width ≤ s.words * s.width = mul-le-mul_right s.width (omega arith) in
+      let apart = add-mul i 1 s.width in
+      omega arith
+
+  holds_at : (words : List ℕ) (i q : ℕ) → q < s.width → In words i q → Holds s.width words (i * s.width + q)
+  holds_at words i q m h =
+      subst (λ a. In words a ((i * s.width + q) % s.width)) (sym (div-mul-add i s.width q m)) (subst (In words i) (sym (mod-mul-add i s.width q m)) h)
+
+  module _ (ones others : List ℕ) (moved : List (List ℕ)) (sums : List ℕ) (had : length ones ≡ s.words) (have : length others ≡ s.words) (went : AreMoved ones others s s.width moved) (summing : Has (AnyBefore (IsRowSum ones moved s) (length ones)) s.words sums) where
+    sum_only : (h q : ℕ) → In sums h q → IsSumOf s n ones others h q
+    sum_only h q here =
+        let found = summing.only h q here in
+        let i = found.0 in
+        let sum = found.2 in
+        let l = sum.0 in
+        let w = sum.1 in
+        let many = went.as_many in
+        let small : l < s.width = (let m = sum.2 in omega arith) in
+        let by = (went.moved l i small found.1 sum.3).only w q sum.6 in
+        let p = by.0 in
+        let v = i * s.width + l in
+        let x = w * s.width + p in
+        let below = found.1 in
+        let v_word = div-mul-add i s.width l small in
+        let v_place = mod-mul-add i s.width l small in
+        let x_word = div-mul-add w s.width p by.1 in
+        let x_place = mod-mul-add w s.width p by.1 in (
+          v,
+          x,
+          number_within i l (omega arith) small,
+          number_within w p sum.4 by.1,
+          holds_at ones i l small sum.3,
+          holds_at others w p by.1 by.3,
+          sum.5 ∙ ap₂ (summed s.k s.high) (sym v_word) (sym x_word) ∙ sym (sum_word s.k n s shape v x),
+          by.4 ∙ ap₂ (summed s.k s.low) (sym v_place) (sym x_place) ∙ sym (sum_place s.k n s shape v x),
+        )
+
+    sum_put : (h q : ℕ) → IsSumOf s n ones others h q → In sums h q
+    sum_put h q t =
+        let v = t.0 in
+        let w = t.1 in
+        let all = all_points s.k n s shape in
+        let lv = t.2 in
+        let lw = t.3 in
+        let word_there : v / s.width < length ones = subst (λ m. v / s.width < m) (sym had) (word_within s.k n s shape v (omega arith)) in
+        let other_there : w / s.width < s.words = word_within s.k n s shape w (omega arith) in
+        let place_there : v % s.width < s.width = place_within s.k n s shape v in
+        let in_moved : In (get_or moved (v % s.width) []) (w / s.width) (summed s.k s.low (v % s.width) (w % s.width)) =
+        (went.moved (v % s.width) (v / s.width) place_there word_there t.4).put (w / s.width) (summed s.k s.low (v % s.width) (w % s.width)) (w % s.width, place_within s.k n s shape w, subst (λ m. w / s.width < m) (sym have) other_there, t.5, refl) in
+        let many = went.as_many in
+        let here : In sums (summed s.k s.high (v / s.width) (w / s.width)) (summed s.k s.low (v % s.width) (w % s.width)) =
+        summing.put (summed s.k s.high (v / s.width) (w / s.width)) (summed s.k s.low (v % s.width) (w % s.width))
+        (v / s.width, word_there, (v % s.width, w / s.width, (let e : v % s.width < length moved = omega arith in e), t.4, other_there, refl, in_moved)) in
+        subst (λ a. In sums a q) (sym (t.6 ∙ sum_word s.k n s shape v w)) (subst (In sums (summed s.k s.high (v / s.width) (w / s.width))) (sym (t.7 ∙ sum_place s.k n s shape v w)) here)
+
+    pub set_sums : Has (IsSumOf s n ones others) s.words sums
+    set_sums = record { as_many = summing.as_many; put = sum_put; only = sum_only }
+
+pub own_shape : (k n : ℕ) (s : Shape) → IsShape k n s → IsShape s.k n s
+own_shape k n s shape = subst (λ i. IsShape i n s) (sym shape.bound) shape
+
+module _ (k n : ℕ) (s : Shape) (shape : IsShape k n s) (firsts seconds ones others sums numbers : List ℕ) (had : Has (AnyBefore (AtNumber firsts s.width) (length firsts)) s.words ones) (have : Has (AnyBefore (AtNumber seconds s.width) (length seconds)) s.words others) (summing : Has (IsSumOf s n ones others) s.words sums) (listed : Lists sums s.width (s.words * s.width) numbers) where
   pub numbers_within : (t : ℕ) → t < length numbers → get_or numbers t 0 < points_in k n
   numbers_within t l = subst (λ m. get_or numbers t 0 < m) (all_points k n s shape) (listed.only t l).0
 
@@ -130,22 +187,14 @@ module _ (k n : ℕ) (s : Shape) (shape : IsShape k n s) (firsts seconds ones ot
   are_sums t l =
       let c = get_or numbers t 0 in
       let found = summing.only (c / s.width) (c % s.width) (listed.only t l).1 in
-      let word = found.0 in
-      let sum = found.2 in
-      let place = sum.0 in
-      let other = sum.1 in
-      let many = went.as_many in
-      let first = had.only word place sum.3 in
-      let by = (went.moved place word (let m = sum.2 in omega arith) found.1 sum.3).only other (c % s.width) sum.6 in
-      let second = have.only other by.0 by.3 in (
-        first.0,
-        second.0,
-        first.1,
-        second.1,
-        is_sum k n s shape c (get_or firsts first.0 0) (get_or seconds second.0 0)
-            (sum.5 ∙ ap₂ (summed s.k s.high) first.2.0 second.2.0)
-            (by.4 ∙ ap₂ (summed s.k s.low) first.2.1 second.2.1),
-      )
+      let v = found.0 in
+      let w = found.1 in
+      let first = had.only (v / s.width) (v % s.width) found.4 in
+      let second = have.only (w / s.width) (w % s.width) found.5 in
+      let sum : c ≡ summed s.k n v w = same_number c (summed s.k n v w) s.width found.6 found.7 in
+      let one : v ≡ get_or firsts first.0 0 = same_number v (get_or firsts first.0 0) s.width first.2.0 first.2.1 in
+      let other : w ≡ get_or seconds second.0 0 = same_number w (get_or seconds second.0 0) s.width second.2.0 second.2.1 in
+      (first.0, second.0, first.1, second.1, sum ∙ ap (λ i. summed i n v w) shape.bound ∙ ap₂ (summed k n) one other)
 
   pub all_sums : (i j : ℕ) → i < length firsts → j < length seconds → get_or firsts i 0 < points_in k n → get_or seconds j 0 < points_in k n → IsListed (summed k n (get_or firsts i 0) (get_or seconds j 0)) numbers
   all_sums i j li lj lv lw =
@@ -153,19 +202,20 @@ module _ (k n : ℕ) (s : Shape) (shape : IsShape k n s) (firsts seconds ones ot
       let w = get_or seconds j 0 in
       let c = summed k n v w in
       let all = all_points k n s shape in
-      let in_first : In ones (v / s.width) (v % s.width) = had.put (v / s.width) (v % s.width) (i, li, (refl, refl)) in
-      let in_second : In others (w / s.width) (w % s.width) = have.put (w / s.width) (w % s.width) (j, lj, (refl, refl)) in
-      let word_there : v / s.width < length ones = subst (λ m. v / s.width < m) (sym had.as_many) (word_within k n s shape v (omega arith)) in
-      let other_there : w / s.width < s.words = word_within k n s shape w (omega arith) in
-      let place_there : v % s.width < s.width = place_within k n s shape v in
-      let in_moved : In (get_or moved (v % s.width) []) (w / s.width) (summed s.k s.low (v % s.width) (w % s.width)) =
-      (went.moved (v % s.width) (v / s.width) place_there word_there in_first).put (w / s.width) (summed s.k s.low (v % s.width) (w % s.width)) (w % s.width, place_within k n s shape w, subst (λ m. w / s.width < m) (sym have.as_many) other_there, in_second, refl) in
-      let many = went.as_many in
-      let here : In sums (summed s.k s.high (v / s.width) (w / s.width)) (summed s.k s.low (v % s.width) (w % s.width)) =
-      summing.put (summed s.k s.high (v / s.width) (w / s.width)) (summed s.k s.low (v % s.width) (w % s.width))
-      (v / s.width, word_there, (v % s.width, w / s.width, (let e : v % s.width < length moved = omega arith in e), in_first, other_there, refl, in_moved)) in
+      let same : summed s.k n v w ≡ c = ap (λ a. summed a n v w) shape.bound in
+      let more : points_in k n ≡ points_in s.k n = ap (λ a. points_in a n) (sym shape.bound) in
       let below = summed_below k n v w in
-      listed.all c (omega arith) (subst (λ a. In sums a (c % s.width)) (sym (sum_word k n s shape v w)) (subst (λ a. In sums (summed s.k s.high (v / s.width) (w / s.width)) a) (sym (sum_place k n s shape v w)) here))
+      let here = summing.put (c / s.width) (c % s.width) (
+        v,
+        w,
+        (let m : v < points_in s.k n = omega arith in m),
+        (let m : w < points_in s.k n = omega arith in m),
+        had.put (v / s.width) (v % s.width) (i, li, (refl, refl)),
+        have.put (w / s.width) (w % s.width) (j, lj, (refl, refl)),
+        ap (λ a. a / s.width) (sym same),
+        ap (λ a. a % s.width) (sym same),
+      ) in
+      listed.all c (omega arith) here
 
   pub sums_made : ((i : ℕ) → i < length firsts → get_or firsts i 0 < points_in k n) → ((j : ℕ) → j < length seconds → get_or seconds j 0 < points_in k n) → AreSums k n firsts seconds numbers
   sums_made lf ls = record {

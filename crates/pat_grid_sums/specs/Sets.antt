@@ -1,5 +1,5 @@
 -- Sets as words of bits.
-use Rattle.std.specs.Prelude.{◌≡◌, ℕ, ◌<◌, ◌⊎◌, ◌/◌, ◌%◌, List, [], length, get_or}
+use Rattle.std.specs.Prelude.{◌≡◌, ℕ, ◌+◌, ◌-◌, ◌<◌, ◌⊎◌, ◌/◌, ◌%◌, List, [], length, get_or}
 use Rattle.std.specs.Int.{bit_at}
 
 -- the word has the bit
@@ -37,6 +37,18 @@ IsMoved others row word p h q = In others word p × (h ≡ word) × (q ≡ get_o
 -- so do all bits of the word
 abbrev pub IsMovedAny : List ℕ → List ℕ → ℕ → ℕ → ℕ → Type 0
 IsMovedAny others row word h q = AnyBefore (IsMoved others row word) (length row) h q
+
+-- the row brings place p so much farther
+abbrev pub GoesBy : List ℕ → ℕ → ℕ → ℕ → Type 0
+GoesBy row p by q = (by ≡ get_or row p 0 - p) × (q ≡ p)
+
+-- those of the word's bits that the mask has go so much farther
+abbrev pub IsShifted : List ℕ → ℕ → ℕ → ℕ → ℕ → ℕ → Type 0
+IsShifted others mask by word h q = (h ≡ word) × ((p : ℕ) × In others word p × (bit_at mask p ≡ 1) × (q ≡ p + by))
+
+-- so do those of all words, by the mask at the place
+abbrev pub IsShiftedAny : List ℕ → List ℕ → ℕ → ℕ → ℕ → Type 0
+IsShiftedAny others masks by h q = AnyBefore (IsShifted others (get_or masks by 0) by) (length others) h q
 
 -- the bits of word w go where the row says
 abbrev pub IsJoined : List ℕ → List ℕ → ℕ → ℕ → ℕ → Type 0

@@ -16,9 +16,13 @@ pub record IsShape (k n : ℕ) (s : Shape) : Type 0 where
   pub room : s.width ≤ 64
   pub few : points_in k n ≤ most_points
 
--- the sums of the point with the first c points
+-- at the first c places stand the sums of the point with the first c points
+abbrev pub FilledTo : ℕ → ℕ → ℕ → ℕ → List ℕ → Type 0
+FilledTo k n v c row = (w : ℕ) → w < c → get_or row w 0 ≡ summed k n v w
+
+-- and there are no more
 abbrev pub RowTo : ℕ → ℕ → ℕ → ℕ → List ℕ → Type 0
-RowTo k n v c row = (length row ≡ c) × ((w : ℕ) → w < c → get_or row w 0 ≡ summed k n v w)
+RowTo k n v c row = (length row ≡ c) × FilledTo k n v c row
 
 -- the sums of the point with each point
 abbrev pub IsRow : ℕ → ℕ → ℕ → List ℕ → Type 0

@@ -7,6 +7,9 @@ ghost use Rattle.pat_grid_sums.specs.Sets.{In, Puts, AnyBefore, AtNumber, Lists}
 use pat_sequences::Sequence;
 use std::alloc::{AllocError, Global};
 
+/// The number of bits of a word.
+pub const WORD: usize = 64;
+
 /// A set of no point, of so many words.
 pub fn no_bits(alloc: Global, count: usize) -> Result<Sequence<u64>, AllocError>
     ensures { IfOk result (λ words. words ≡ replicate count 0) }
@@ -95,4 +98,27 @@ fn list_if(
         numbers.push(number)?;
     }
     Ok(())
+}
+
+/// Puts in all points of the other set.
+pub fn join_all(more: &[u64], words: &mut Sequence<u64>)
+    requires { length more.now ≤ length words.old }
+    ensures { Puts (In more.now) words.old words.new }
+{
+    for word in 0..more.len() {
+        join(words, word, more[word]);
+    }
+}
+
+/// Whether the words are the same.
+pub fn is_same(one: &[u64], other: &[u64]) -> bool
+    requires { length one.now ≡ length other.now }
+    ensures { IsTrue result → (h : ℕ) → get_or one.now h 0 ≡ get_or other.now h 0 }
+{
+    for word in 0..one.len() {
+        if one[word] != other[word] {
+            return false;
+        }
+    }
+    true
 }

@@ -1,10 +1,11 @@
 // A set of points moved by the places of a word.
 
-ghost use Rattle.std.specs.Prelude.{◌≡◌, ◌<◌, ◌≤◌, true, ℕ, length, get_or, replicate, IfOk, IsFalse};
-ghost use Rattle.pat_grid_sums.specs.Sets.{In, Puts, AnyBefore, IsMovedAny};
+ghost use Rattle.std.specs.Prelude.{◌≡◌, ◌<◌, ◌≤◌, ◌+◌, true, ℕ, length, get_or, IfOk, IsFalse};
+ghost use Rattle.std.specs.Int.{bit_at};
+ghost use Rattle.pat_grid_sums.specs.Sets.{In, Puts, AnyBefore, GoesBy, IsShifted, IsShiftedAny};
 ghost use Rattle.pat_grid_sums.specs.Shapes.{IsShape, IsSum, Has, AreMoved};
 
-use crate::bits::{has, join, no_bits, put};
+use crate::bits::{WORD, join, no_bits, put};
 use crate::rows::row_of;
 use crate::shape::Shape;
 use pat_sequences::Sequence;
@@ -20,25 +21,32 @@ pub fn moved_by_each(
     requires { (n : ℕ) × IsShape shape.k n shape }
     ensures { IfOk result (λ all. AreMoved ones.now others.now shape shape.width all) }
 {
+    let used = all_bits(ones);
     let mut all = Sequence::new(alloc);
     for place in 0..shape.width {
-        let moved = moved_if(alloc, is_any(ones, place), place, others, shape)?;
+        let moved = moved_if(alloc, is_used(used, place), place, others, shape)?;
         all.push(moved)?;
     }
     Ok(all)
 }
 
-/// Whether one of the words has the bit.
-fn is_any(words: &[u64], bit: usize) -> bool
-    requires { bit < 64 }
-    ensures { IsFalse result → (h : ℕ) → h < length words.now → In words.now h bit → ⊥ }
+/// The bits that one of the words has.
+fn all_bits(words: &[u64]) -> u64
+    ensures { (h q : ℕ) → h < length words.now → In words.now h q → bit_at result q ≡ 1 }
 {
+    let mut bits = 0;
     for word in 0..words.len() {
-        if has(words, word, bit) {
-            return true;
-        }
+        bits |= words[word];
     }
-    false
+    bits
+}
+
+/// Whether the bit is there.
+fn is_used(bits: u64, place: usize) -> bool
+    requires { place < 64 }
+    ensures { IsFalse result → bit_at bits place ≡ 1 → ⊥ }
+{
+    (bits >> (place as u32)) & 1 == 1
 }
 
 /// The set moved by the place, if it is asked for.
@@ -58,62 +66,47 @@ fn moved_if(
         return Ok(moved);
     }
     let row = row_of(alloc, place, shape.k, shape.low)?;
-    move_all(others, row.as_slice(), &mut moved);
+    let masks = masks_of(alloc, row.as_slice())?;
+    move_all(others, masks.as_slice(), &mut moved);
     Ok(moved)
 }
 
-/// Puts the bits of each word in where the row says, in place of nothing.
-fn move_all(others: &[u64], row: &[usize], moved: &mut Sequence<u64>)
-    requires none { moved.old ≡ replicate (length others.now) 0 }
+/// For each number below 64 the places that the row brings so much farther.
+fn masks_of(alloc: Global, row: &[usize]) -> Result<Sequence<u64>, AllocError>
     requires few { length row.now ≤ 64 }
-    requires row { (p : ℕ) → p < length row.now → get_or row.now p 0 < 64 }
-    ensures { Puts (AnyBefore (IsMovedAny others.now row.now) (length others.now)) moved.old moved.new }
+    requires row { (p : ℕ) → p < length row.now → (p ≤ get_or row.now p 0) × (get_or row.now p 0 < 64) }
+    ensures { IfOk result (Has (AnyBefore (GoesBy row.now) (length row.now)) 64) }
 {
+    let mut masks = no_bits(alloc, WORD)?;
+    for place in 0..row.len() {
+        put(&mut masks, row[place] - place, place);
+    }
+    Ok(masks)
+}
+
+/// Puts in the bits of each word: those of each mask go as far as its place among the masks.
+fn move_all(others: &[u64], masks: &[u64], moved: &mut Sequence<u64>)
+    requires long { length others.now ≤ length moved.old }
+    requires many { length masks.now ≡ 64 }
+    requires room { (by p : ℕ) → In masks.now by p → p + by < 64 }
+    ensures { Puts (AnyBefore (IsShiftedAny others.now masks.now) 64) moved.old moved.new }
+{
+    for by in 0..WORD {
+        move_by(others, masks[by], by, moved);
+    }
+}
+
+/// So those of one mask.
+fn move_by(others: &[u64], mask: u64, by: usize, moved: &mut Sequence<u64>)
+    requires long { length others.now ≤ length moved.old }
+    requires by { by < 64 }
+    requires room { (p : ℕ) → bit_at mask p ≡ 1 → p + by < 64 }
+    ensures { Puts (AnyBefore (IsShifted others.now mask by) (length others.now)) moved.old moved.new }
+{
+    if mask == 0 {
+        return;
+    }
     for word in 0..others.len() {
-        move_next(others, word, row, moved);
-    }
-}
-
-/// So the bits of the next word; many words are the same as the one before.
-fn move_next(others: &[u64], word: usize, row: &[usize], moved: &mut Sequence<u64>)
-    requires word { word < length others.now }
-    requires few { length row.now ≤ 64 }
-    requires row { (p : ℕ) → p < length row.now → get_or row.now p 0 < 64 }
-    requires before { Puts (AnyBefore (IsMovedAny others.now row.now) word) (replicate (length others.now) 0) moved.old }
-    ensures { Puts (IsMovedAny others.now row.now word) moved.old moved.new }
-{
-    if word == 0 {
-        return move_word(others, word, row, moved);
-    }
-    if others[word] != others[word - 1] {
-        return move_word(others, word, row, moved);
-    }
-    let bits = moved.as_slice()[word - 1];
-    join(moved, word, bits);
-}
-
-/// Puts the bits of one word in where the row says.
-fn move_word(others: &[u64], word: usize, row: &[usize], moved: &mut Sequence<u64>)
-    requires word { word < length others.now }
-    requires into { word < length moved.old }
-    requires few { length row.now ≤ 64 }
-    requires row { (p : ℕ) → p < length row.now → get_or row.now p 0 < 64 }
-    ensures { Puts (IsMovedAny others.now row.now word) moved.old moved.new }
-{
-    for bit in 0..row.len() {
-        move_bit(others, word, bit, row[bit], moved);
-    }
-}
-
-/// Puts the bit in at the place, if the word has it.
-fn move_bit(others: &[u64], word: usize, bit: usize, place: usize, moved: &mut Sequence<u64>)
-    requires word { word < length others.now }
-    requires into { word < length moved.old }
-    requires bit { bit < 64 }
-    requires place { place < 64 }
-    ensures { Puts (λ h q. In others.now word bit × (h ≡ word) × (q ≡ place)) moved.old moved.new }
-{
-    if has(others, word, bit) {
-        put(moved, word, place);
+        join(moved, word, (others[word] & mask) << (by as u32));
     }
 }

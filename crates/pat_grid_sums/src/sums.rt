@@ -5,6 +5,7 @@ ghost use Rattle.pat_inclusion_spec.specs.Points.{grid_fits};
 ghost use Rattle.pat_inclusion_spec.specs.bounds.Numbers.{points_in};
 ghost use Rattle.pat_grid_sums.specs.Sets.{In, Puts, AnyBefore, AtNumber, IsJoined, IsAdded};
 ghost use Rattle.pat_grid_sums.specs.Shapes.{IsShape, IsRow, Has, IsGathered, IsRowSum, AreSums};
+ghost use Rattle.pat_grid_sums.specs.Systems.{IsSumOf};
 
 use crate::bits::{has, join, list_all, no_bits, put_all};
 use crate::moving::moved_by_each;
@@ -38,11 +39,27 @@ pub fn list_sums(
     let shape = shape_of(k, tags);
     let ones = set_of(alloc, firsts, shape)?;
     let others = set_of(alloc, seconds, shape)?;
-    let moved = moved_by_each(alloc, ones.as_slice(), others.as_slice(), shape)?;
-    let sums = sums_of(alloc, ones.as_slice(), moved.as_slice(), shape)?;
+    let sums = sums_of_sets(alloc, ones.as_slice(), others.as_slice(), shape)?;
     let points = shape.words * shape.width;
     let numbers = list_all(alloc, sums.as_slice(), points, shape.width)?;
     Ok(numbers)
+}
+
+/// The sums of a point of the one set with one of the other.
+pub fn sums_of_sets(
+    alloc: Global,
+    ones: &[u64],
+    others: &[u64],
+    shape: Shape,
+) -> Result<Sequence<u64>, AllocError>
+    requires shape { (n : ℕ) × IsShape shape.k n shape }
+    requires ones { length ones.now ≡ shape.words }
+    requires others { length others.now ≡ shape.words }
+    ensures { IfOk result (λ words. (n : ℕ) → IsShape shape.k n shape → Has (IsSumOf shape n ones.now others.now) shape.words words) }
+{
+    let moved = moved_by_each(alloc, ones, others, shape)?;
+    let sums = sums_of(alloc, ones, moved.as_slice(), shape)?;
+    Ok(sums)
 }
 
 /// The set of the points with these numbers.

@@ -10,13 +10,36 @@ use crate::tables::sizes::{Scratch, Sizes};
 use crate::tables::symbols::relax_symbol;
 use crate::tables::users::users_of;
 use pat_grid_points::{Chains, SparseList, forget};
+use pat_grid_sums::{System, reached_entries};
 use pat_sequences::Sequence;
 use std::alloc::{AllocError, Global};
 
 /// The sizes of least trees, up to the limit: a list of the board's points for each symbol. An entry one above the limit
-/// says that there is a tree, but only larger ones; an entry two above it, that there is none. A symbol is looked at again
-/// only where one that it is made of has changed.
+/// says that there is a tree, but only larger ones; an entry two above it, that there is none. Where no size is told, sets of
+/// points are enough.
 pub fn least_sizes(alloc: Global, board: &Board) -> Result<SparseList<u16>, AllocError>
+    requires { IsBoard board.now }
+    ensures all { IfOk result (λ entries. HasAllEntries (setting_of board.now) entries) }
+    ensures done { IfOk result (λ entries. IsDone (setting_of board.now) (table_of (setting_of board.now) entries)) }
+{
+    if board.limit > 0 {
+        return lowered_sizes(alloc, board);
+    }
+    let system = System {
+        k: board.k,
+        tags: board.tags,
+        symbols: board.symbols,
+        roots: board.roots,
+        given: board.given,
+    };
+    match reached_entries(alloc, &system)? {
+        Some(entries) => Ok(entries),
+        None => lowered_sizes(alloc, board),
+    }
+}
+
+/// So entry by entry. A symbol is looked at again only where one that it is made of has changed.
+fn lowered_sizes(alloc: Global, board: &Board) -> Result<SparseList<u16>, AllocError>
     requires { IsBoard board.now }
     ensures all { IfOk result (λ entries. HasAllEntries (setting_of board.now) entries) }
     ensures done { IfOk result (λ entries. IsDone (setting_of board.now) (table_of (setting_of board.now) entries)) }

@@ -1,5 +1,5 @@
-use Rattle.pat_grid_sums.specs.Sets.{Puts, AnyBefore, IsMovedAny}
+use Rattle.pat_grid_sums.specs.Sets.{Puts, AnyBefore, IsShiftedAny}
 use Rattle.pat_grid_sums.proofs.moving.move_all.Given as goal
 
-abbrev pub invariant-loop-word : goal.invariant-loop-word
-invariant-loop-word l = Puts (AnyBefore (IsMovedAny l.others l.row) l.word) l.initial.moved l.moved
+abbrev pub invariant-loop-by : goal.invariant-loop-by
+invariant-loop-by l = Puts (AnyBefore (IsShiftedAny l.others l.masks) l.by) l.initial.moved l.moved

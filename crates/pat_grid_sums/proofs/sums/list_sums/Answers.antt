@@ -1,8 +1,9 @@
-use Rattle.std.proofs.Common.{◌<◌, ◌*◌, length, get_or, sym, subst, arith}
-use Rattle.pat_grid_sums.specs.Sets.{AnyBefore, Lists}
-use Rattle.pat_grid_sums.specs.Shapes.{Has, AreMoved, IsRowSum}
+use Rattle.std.proofs.Common.{◌<◌, ◌*◌, get_or, sym, subst, arith}
+use Rattle.pat_grid_sums.specs.Sets.{Lists}
+use Rattle.pat_grid_sums.specs.Shapes.{Has}
+use Rattle.pat_grid_sums.specs.Systems.{IsSumOf}
 use Rattle.pat_grid_sums.proofs.Splitting.{all_points, word_within, some_places}
-use Rattle.pat_grid_sums.proofs.Summing.{sums_made}
+use Rattle.pat_grid_sums.proofs.Summing.{own_shape, sums_made}
 use Rattle.pat_grid_sums.proofs.sums.list_sums.Goals as goal
 
 pub set_of-requires-clause-numbers : goal.set_of-requires-clause-numbers
@@ -29,16 +30,18 @@ overflow_mul-points c =
 pub list_all-requires-clause-some : goal.list_all-requires-clause-some
 list_all-requires-clause-some c = some_places c.args.k c.args.tags c.shape_of-shape.result c.shape_of-shape.ensures
 
+pub sums_of_sets-requires-clause-shape : goal.sums_of_sets-requires-clause-shape
+sums_of_sets-requires-clause-shape c = (c.args.tags, own_shape c.args.k c.args.tags c.shape_of-shape.result c.shape_of-shape.ensures)
+
 pub returns : goal.returns
 returns c =
     let s = c.shape_of-shape.result in
+    let n = c.args.tags in
     let ones = c.in_ok-ones.ones in
     let others = c.in_ok-others.others in
-    let moved = c.in_ok-moved.moved in
     let sums = c.in_ok-sums.sums in
     let numbers = c.in_ok-numbers.numbers in
-    sums_made c.args.k c.args.tags s c.shape_of-shape.ensures c.args.firsts.now c.args.seconds.now ones others moved sums numbers c.in_ok-ones.ensures c.in_ok-others.ensures
-    (subst (λ xs. AreMoved xs others s s.width moved) c.as_slice.ensures (subst (λ xs. AreMoved c.as_slice.result.now xs s s.width moved) c.as_slice-2.ensures c.in_ok-moved.ensures))
-    (subst (λ xs. Has (AnyBefore (IsRowSum xs moved s) (length xs)) s.words sums) c.as_slice-3.ensures (subst (λ xs. Has (AnyBefore (IsRowSum c.as_slice-3.result.now xs s) (length c.as_slice-3.result.now)) s.words sums) c.as_slice-4.ensures c.in_ok-sums.ensures))
-    (subst (λ xs. Lists xs s.width (s.words * s.width) numbers) c.as_slice-5.ensures c.in_ok-numbers.ensures)
+    sums_made c.args.k n s c.shape_of-shape.ensures c.args.firsts.now c.args.seconds.now ones others sums numbers c.in_ok-ones.ensures c.in_ok-others.ensures
+    (subst (λ xs. Has (IsSumOf s n xs others) s.words sums) c.as_slice.ensures (subst (λ xs. Has (IsSumOf s n c.as_slice.result.now xs) s.words sums) c.as_slice-2.ensures (c.in_ok-sums.ensures n (own_shape c.args.k n s c.shape_of-shape.ensures))))
+    (subst (λ xs. Lists xs s.width (s.words * s.width) numbers) c.as_slice-3.ensures c.in_ok-numbers.ensures)
     c.requires.firsts c.requires.seconds

@@ -1,22 +1,20 @@
-use Rattle.std.proofs.Common.{Bool, sym, subst, arith, List}
-use Rattle.pat_grid.specs.tables.Views.{setting_of}
-use Rattle.pat_grid.specs.tables.Waiting.{Stands}
-use Rattle.pat_grid.proofs.Done.{put_back}
-use Rattle.pat_grid.proofs.Waiting.{none_waits}
+use Rattle.std.proofs.Common.{◌≡◌, subst, arith}
+use Rattle.std.specs.Prelude.{IfSome}
+use Rattle.pat_grid_sums.specs.Systems.{setting_in, AreReached}
+use Rattle.pat_grid.proofs.Settled.{system_in, system_is, reached_all, reached_done}
 use Rattle.pat_grid.proofs.tables.passes.least_sizes.Goals as goal
 
-pub returns-then-not-changed-clause-all : goal.returns-then-not-changed-clause-all
-returns-then-not-changed-clause-all c = c.in_ok-changed.ensures.stands.all
+pub reached_entries-requires : goal.reached_entries-requires
+reached_entries-requires c = system_is c.args.board.now c.requires
 
-pub returns-then-not-changed-clause-done : goal.returns-then-not-changed-clause-done
-returns-then-not-changed-clause-done c =
-    none_waits c.args.board.now c.loop-waits.sizes.entries c.pass.new.sizes c.pass.new.waits c.in_ok-changed.changed c.requires c.if-not-changed.true c.in_ok-changed.ensures
+pub returns-in-Some-clause-all : goal.returns-in-Some-clause-all
+returns-in-Some-clause-all c =
+    let b = c.args.board.now in
+    let none : b.limit ≡ 0 = (let l = c.if-board-gt0.false in omega arith) in
+    reached_all b c.in-Some.entries none (subst (λ o. IfSome o (AreReached (setting_in (system_in b)))) c.in-Some.is c.in_ok-entries.ensures)
 
-pub loop-waits-preserved : goal.loop-waits-preserved
-loop-waits-preserved c =
-    let g = setting_of c.args.board.now in
-    let flags = c.loop-waits.waits.items in
-    let len = c.loop-waits.waits.ok.0 in
-    let lent = c.deref_mut.ensures.len in
-    let kept = c.pass.auto.waits in
-    subst (λ (ws : List Bool). Stands g c.pass.new.sizes ws) (sym (put_back c.loop-waits.waits.len c.pass.new.waits flags (omega arith) (omega arith))) c.in_ok-changed.ensures.stands
+pub returns-in-Some-clause-done : goal.returns-in-Some-clause-done
+returns-in-Some-clause-done c =
+    let b = c.args.board.now in
+    let none : b.limit ≡ 0 = (let l = c.if-board-gt0.false in omega arith) in
+    reached_done b c.in-Some.entries c.requires none (subst (λ o. IfSome o (AreReached (setting_in (system_in b)))) c.in-Some.is c.in_ok-entries.ensures)
