@@ -1,4 +1,4 @@
-use Rattle.std.proofs.Common.{rules, arith, map}
+use Rattle.std.proofs.Common.{rules, map}
 use Rattle.pat_core.specs.Views.{interface_view}
 use Rattle.pat_derivation_text_spec.specs.LineReading.{found}
 use Rattle.pat_derivation_lines.proofs.Names.{found_at}
