@@ -9,7 +9,7 @@ ghost use Rattle.pat_limits.specs.Limits.{number_count};
 
 use crate::nodes::read_line;
 use pat_core::Program;
-use pat_derivation_lines::Unread;
+use pat_derivation_lines::{InterfaceNames, Unread};
 use pat_derivations::Derivation;
 use pat_sequences::Sequence;
 use pat_texts::{TextError, cut};
@@ -44,7 +44,10 @@ pub fn read(
     ensures { Gives (program_view program.now) text.now from result }
 {
     match behind_marker(text) {
-        Some(rest) => read_lines(alloc, program, text, rest, from),
+        Some(rest) => match InterfaceNames::of(alloc, program) {
+            Ok(names) => read_lines(alloc, &names, text, rest, from),
+            Err(_) => Err(TextError::NoMemory),
+        },
         None => Err(TextError::BadText(from)),
     }
 }
@@ -52,16 +55,15 @@ pub fn read(
 /// The derivation of all lines behind the first.
 fn read_lines(
     alloc: Global,
-    program: &Program,
+    names: &InterfaceNames,
     text: &[u8],
     lines: &[u8],
     from: u32,
 ) -> Result<Derivation, TextError>
-    requires interfaces { length program.now.interfaces < number_count }
     requires room { from + length text.now < 2 ^ 32 }
-    requires first { ReadsTo (program_view program.now) text.now no_lines lines.now }
+    requires first { ReadsTo (program_view names.now.program.now) text.now no_lines lines.now }
     requires within { length lines.now < length text.now + 1 }
-    ensures { Gives (program_view program.now) text.now from result }
+    ensures { Gives (program_view names.now.program.now) text.now from result }
 {
     let mut d = Derivation {
         vars: Sequence::new(alloc),
@@ -71,7 +73,7 @@ fn read_lines(
     while !rest.is_empty() {
         let offset = from + (text.len() - rest.len()) as u32;
         match cut(rest, b'\n') {
-            Some((line, more)) => match read_line(alloc, program, &mut d, line) {
+            Some((line, more)) => match read_line(alloc, names, &mut d, line) {
                 Ok(()) => rest = more,
                 Err(Unread::NotSpelled) => return Err(TextError::BadText(offset)),
                 Err(Unread::NoMemory) => return Err(TextError::NoMemory),

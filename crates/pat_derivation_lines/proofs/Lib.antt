@@ -1,1 +1,3 @@
 pub mod Names
+mod Places
+mod Lasts

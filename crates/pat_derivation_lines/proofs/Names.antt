@@ -1,6 +1,6 @@
 -- The names of tags are those that the definitions see, and an interface that is found.
-use Rattle.std.proofs.Common.{◌≡◌, ℕ, ◌+◌, Bool, true, List, [], ◌∷◌, map, refl, sym, ap, ◌∙◌, arith, suc, ◌<◌, length, drop, get_or}
-use Rattle.std.specs.Prelude.{Option, Some, None, option_map, bytes_eq}
+use Rattle.std.proofs.Common.{◌≡◌, ℕ, ◌+◌, true, List, [], ◌∷◌, map, refl, sym, ap, ◌∙◌, arith, suc, ◌<◌, length, drop, get_or}
+use Rattle.std.specs.Prelude.{Option, Some, option_map, bytes_eq}
 use lib.Seq.{drop-cons}
 use Rattle.pat_core.specs.declared.program.TagDecl.{TagDecl}
 use Rattle.pat_core.specs.declared.program.Interface.{Interface}

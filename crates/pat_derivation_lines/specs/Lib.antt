@@ -1,2 +1,4 @@
+pub mod Places
+pub mod Needs
 pub mod Views
 pub mod patterns

@@ -4,9 +4,11 @@
 mod certificates;
 mod patterns;
 mod room;
+mod tables;
 mod types;
 
 pub use certificates::{number_of, read_cert, read_certs, read_numbers};
 pub use patterns::{Unread, place_of, read_pattern};
 pub use room::room_for;
-pub use types::{Mailbox, find_interface, read_needs, read_type};
+pub use tables::{InterfaceNames, find_interface};
+pub use types::{Mailbox, read_needs, read_type};

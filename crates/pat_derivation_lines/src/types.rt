@@ -1,24 +1,25 @@
 // Types of terms and of variables.
-ghost use Rattle.std.specs.Prelude.{◌≡◌, ◌∷◌, ◌<◌, length, option_map};
+ghost use Rattle.std.specs.Prelude.{◌≡◌, option_map};
 ghost use Rattle.pat_core.specs.Views.{program_view};
+ghost use Rattle.pat_semantics_spec.specs.Programs.{Program};
 ghost use Rattle.pat_primitives.specs.Views.{base_view, polarity_view};
 ghost use Rattle.pat_types.specs.Views.{usage_view, type_view, result_view, need_view, needs_view};
 ghost use Rattle.pat_derivation_text_spec.specs.LineReading as reading;
 ghost use Rattle.pat_texts_spec.specs.Joined.{pieces, read_each, then_read};
 ghost use Rattle.pat_derivation_lines.specs.patterns.Answers.{Gives};
 ghost use Rattle.pat_derivation_lines.specs.patterns.Views.{names_of};
-ghost use Rattle.pat_derivation_lines.specs.Views.{mailbox_view, cut_view, used_view, found_view};
+ghost use Rattle.pat_derivation_lines.specs.Views.{mailbox_view, cut_view, used_view};
+ghost use Rattle.pat_derivation_lines.specs.Needs.{typed, IsLast, Adds};
 ghost use Rattle.pat_texts.specs.Pieces.{pieces_left};
-ghost use Rattle.pat_limits.specs.Limits.{number_count};
 
-use crate::certificates::number_of;
 use crate::patterns::{Unread, read_pattern};
-use pat_core::{Interface, Program};
+use crate::tables::InterfaceNames;
+use pat_core::Interface;
 use pat_derivations::ascends;
 use pat_patterns::Pattern;
 use pat_primitives::{Base, Polarity};
 use pat_sequences::Sequence;
-use pat_texts::{before, behind, cut, first_piece};
+use pat_texts::{before, behind, cut, first_piece, read_number};
 use pat_types::{MailboxType, TypeOf, Usage};
 use std::alloc::Global;
 
@@ -45,19 +46,6 @@ fn cut_polarity(text: &[u8]) -> Option<(&[u8], Polarity, &[u8])>
     None
 }
 
-/// The first interface with this name, and its place.
-pub fn find_interface<'a>(program: &'a Program, name: &[u8]) -> Option<(u32, &'a Interface)>
-    requires { length program.now.interfaces < number_count }
-    ensures { found_view result ≡ reading.found name.now (program_view program.now).interfaces }
-{
-    for (i, interface) in program.interfaces.as_slice().iter().enumerate() {
-        if interface.name.as_bytes() == name {
-            return Some((i as u32, interface));
-        }
-    }
-    None
-}
-
 /// A mailbox type of an interface, from the text of its pattern.
 fn mailbox_in(
     alloc: Global,
@@ -77,12 +65,11 @@ fn mailbox_in(
 }
 
 /// A mailbox type without its usage.
-fn read_mailbox(alloc: Global, program: &Program, text: &[u8]) -> Result<Mailbox, Unread>
-    requires { length program.now.interfaces < number_count }
-    ensures { Gives mailbox_view (reading.read_mailbox (program_view program.now) text.now) result }
+fn read_mailbox(alloc: Global, names: &InterfaceNames, text: &[u8]) -> Result<Mailbox, Unread>
+    ensures { Gives mailbox_view (reading.read_mailbox (program_view names.now.program.now) text.now) result }
 {
     match cut_polarity(text) {
-        Some((name, polarity, more)) => match find_interface(program, name) {
+        Some((name, polarity, more)) => match names.find(name) {
             Some((interface, declared)) => mailbox_in(alloc, interface, declared, polarity, more),
             None => Err(Unread::NotSpelled),
         },
@@ -107,14 +94,13 @@ fn read_base(text: &[u8]) -> Option<Base>
 }
 
 /// The type of a term.
-pub fn read_type(alloc: Global, program: &Program, text: &[u8]) -> Result<TypeOf, Unread>
-    requires { length program.now.interfaces < number_count }
-    ensures { Gives result_view (reading.read_type (program_view program.now) text.now) result }
+pub fn read_type(alloc: Global, names: &InterfaceNames, text: &[u8]) -> Result<TypeOf, Unread>
+    ensures { Gives result_view (reading.read_type (program_view names.now.program.now) text.now) result }
 {
     match read_base(text) {
         Some(base) => Ok(TypeOf::Base(base)),
         None => {
-            let mailbox = read_mailbox(alloc, program, text)?;
+            let mailbox = read_mailbox(alloc, names, text)?;
             Ok(TypeOf::Mailbox {
                 interface: mailbox.interface,
                 polarity: mailbox.polarity,
@@ -138,14 +124,13 @@ fn cut_usage(text: &[u8]) -> Option<(&[u8], Usage)>
 }
 
 /// A variable's type, behind a space.
-fn read_used(alloc: Global, program: &Program, text: &[u8]) -> Result<MailboxType, Unread>
-    requires { length program.now.interfaces < number_count }
-    ensures { Gives type_view (reading.read_used (program_view program.now) text.now) result }
+fn read_used(alloc: Global, names: &InterfaceNames, text: &[u8]) -> Result<MailboxType, Unread>
+    ensures { Gives type_view (reading.read_used (program_view names.now.program.now) text.now) result }
 {
     match behind(text, b" ") {
         Some(more) => match cut_usage(more) {
             Some((front, usage)) => {
-                let mailbox = read_mailbox(alloc, program, front)?;
+                let mailbox = read_mailbox(alloc, names, front)?;
                 Ok(MailboxType {
                     interface: mailbox.interface,
                     polarity: mailbox.polarity,
@@ -159,31 +144,69 @@ fn read_used(alloc: Global, program: &Program, text: &[u8]) -> Result<MailboxTyp
     }
 }
 
-/// A variable and its type.
-fn read_named(alloc: Global, program: &Program, text: &[u8]) -> Result<(u32, MailboxType), Unread>
-    requires { length program.now.interfaces < number_count }
-    ensures { Gives need_view (reading.read_named (program_view program.now) text.now) result }
+/// A variable, and the text of its type.
+fn cut_named(text: &[u8]) -> Option<(u32, &[u8])>
+    ensures { (p : Program) → reading.read_named p text.now ≡ typed p result }
 {
     match behind(text, b"v") {
         Some(more) => match cut(more, b':') {
-            Some((own, of)) => {
-                let variable = number_of(own)?;
-                let used = read_used(alloc, program, of)?;
-                Ok((variable, used))
-            }
-            None => Err(Unread::NotSpelled),
+            Some((own, of)) => match read_number(own) {
+                Some(variable) => Some((variable, of)),
+                None => None,
+            },
+            None => None,
         },
-        None => Err(Unread::NotSpelled),
+        None => None,
     }
 }
 
-/// A variable and its type behind a space.
-fn read_next(alloc: Global, program: &Program, text: &[u8]) -> Result<(u32, MailboxType), Unread>
-    requires { length program.now.interfaces < number_count }
-    ensures { Gives need_view (reading.read_next (program_view program.now) text.now) result }
+/// A variable behind a space, and the text of its type.
+fn cut_next(text: &[u8]) -> Option<(u32, &[u8])>
+    ensures { (p : Program) → reading.read_next p text.now ≡ typed p result }
 {
     match behind(text, b" ") {
-        Some(more) => read_named(alloc, program, more),
+        Some(more) => cut_named(more),
+        None => None,
+    }
+}
+
+/// A variable's type. Mostly it is spelled as that of the variable before it, and then it is the same.
+fn read_like(
+    alloc: Global,
+    names: &InterfaceNames,
+    needs: &[(u32, MailboxType)],
+    last: &[u8],
+    text: &[u8],
+) -> Result<MailboxType, Unread>
+    requires { IsLast (program_view names.now.program.now) (needs_view needs.now) last.now }
+    ensures { Gives type_view (reading.read_used (program_view names.now.program.now) text.now) result }
+{
+    match needs.last() {
+        Some((_, of)) if text == last => {
+            let copy = of.copy()?;
+            Ok(copy)
+        }
+        _ => read_used(alloc, names, text),
+    }
+}
+
+/// A variable and its type more, if there is one. Gives the text of its type.
+fn push_named<'t>(
+    alloc: Global,
+    names: &InterfaceNames,
+    needs: &mut Sequence<(u32, MailboxType)>,
+    last: &[u8],
+    named: Option<(u32, &'t [u8])>,
+) -> Result<&'t [u8], Unread>
+    requires { IsLast (program_view names.now.program.now) (needs_view needs.old) last.now }
+    ensures { Adds (program_view names.now.program.now) (typed (program_view names.now.program.now) named.entry) (needs_view needs.old) (needs_view needs.new) result }
+{
+    match named {
+        Some((variable, text)) => {
+            let of = read_like(alloc, names, needs.as_slice(), last, text)?;
+            needs.push((variable, of))?;
+            Ok(text)
+        }
         None => Err(Unread::NotSpelled),
     }
 }
@@ -191,36 +214,35 @@ fn read_next(alloc: Global, program: &Program, text: &[u8]) -> Result<(u32, Mail
 /// The first, and the others behind a space each.
 fn read_all(
     alloc: Global,
-    program: &Program,
+    names: &InterfaceNames,
     text: &[u8],
 ) -> Result<Sequence<(u32, MailboxType)>, Unread>
-    requires { length program.now.interfaces < number_count }
-    ensures { Gives needs_view (reading.read_all (program_view program.now) (pieces 44 text.now)) result }
+    ensures { Gives needs_view (reading.read_all (program_view names.now.program.now) (pieces 44 text.now)) result }
 {
     let mut needs = Sequence::new(alloc);
     let (first, others) = first_piece(text, b',');
-    let named = read_named(alloc, program, first)?;
-    needs.push(named)?;
-    read_others(alloc, program, others, needs)
+    let last = push_named(alloc, names, &mut needs, b"", cut_named(first))?;
+    read_others(alloc, names, others, needs, last)
 }
 
 /// The others, each behind a space.
 fn read_others(
     alloc: Global,
-    program: &Program,
+    names: &InterfaceNames,
     others: Option<&[u8]>,
     needs: Sequence<(u32, MailboxType)>,
+    last: &[u8],
 ) -> Result<Sequence<(u32, MailboxType)>, Unread>
-    requires { length program.now.interfaces < number_count }
+    requires { IsLast (program_view names.now.program.now) (needs_view needs) last.now }
     ensures { Gives needs_view (then_read (needs_view needs)
-        (read_each (reading.read_next (program_view program.now)) (pieces_left 44 others.entry))) result }
+        (read_each (reading.read_next (program_view names.now.program.now)) (pieces_left 44 others.entry))) result }
 {
     let mut needs = needs;
+    let mut last = last;
     let mut rest = others;
     while let Some(more) = rest {
         let (own, others) = first_piece(more, b',');
-        let named = read_next(alloc, program, own)?;
-        needs.push(named)?;
+        last = push_named(alloc, names, &mut needs, last, cut_next(own))?;
         rest = others;
     }
     Ok(needs)
@@ -229,16 +251,15 @@ fn read_others(
 /// The types of variables, with a comma and a space between, in ascending order of variable.
 pub fn read_needs(
     alloc: Global,
-    program: &Program,
+    names: &InterfaceNames,
     text: &[u8],
 ) -> Result<Sequence<(u32, MailboxType)>, Unread>
-    requires { length program.now.interfaces < number_count }
-    ensures { Gives needs_view (reading.read_needs (program_view program.now) text.now) result }
+    ensures { Gives needs_view (reading.read_needs (program_view names.now.program.now) text.now) result }
 {
     if text.is_empty() {
         return Ok(Sequence::new(alloc));
     }
-    let needs = read_all(alloc, program, text)?;
+    let needs = read_all(alloc, names, text)?;
     if ascends(needs.as_slice()) {
         Ok(needs)
     } else {

@@ -1,5 +1,5 @@
 // Lines.
-ghost use Rattle.std.specs.Prelude.{◌≡◌, ◌<◌, length, suc};
+ghost use Rattle.std.specs.Prelude.{◌≡◌, suc};
 ghost use Rattle.pat_core.specs.Views.{program_view};
 ghost use Rattle.pat_types.specs.Views.{result_view};
 ghost use Rattle.pat_derivations.specs.Views.{var_view, vars_view, line_view, lines_view, derivation_view};
@@ -7,11 +7,10 @@ ghost use Rattle.pat_derivation_text_spec.specs.LineReading as reading;
 ghost use Rattle.pat_derivation_lines.specs.patterns.Answers.{Gives, Leaves};
 ghost use Rattle.pat_derivation_lines.specs.patterns.Views.{names_of};
 ghost use Rattle.pat_texts.specs.Pieces.{seen};
-ghost use Rattle.pat_limits.specs.Limits.{number_count};
 
 use crate::nodes::values::read_value;
-use pat_core::{Interface, Program};
-use pat_derivation_lines::{Unread, find_interface, number_of, read_certs, read_needs, read_type};
+use pat_core::Interface;
+use pat_derivation_lines::{InterfaceNames, Unread, read_certs, read_needs, read_type};
 use pat_derivations::{Derivation, DerivedNode, VarValue};
 use pat_texts::{before, behind, cut, read_number};
 use pat_types::{NodeType, TypeOf};
@@ -59,14 +58,13 @@ fn var_in(
 /// A variable's interface and value.
 fn var_named(
     alloc: Global,
-    program: &Program,
+    names: &InterfaceNames,
     name: &[u8],
     text: &[u8],
 ) -> Result<(u32, VarValue), Unread>
-    requires { length program.now.interfaces < number_count }
-    ensures { Gives var_view (reading.var_named (program_view program.now) (name.now, text.now)) result }
+    ensures { Gives var_view (reading.var_named (program_view names.now.program.now) (name.now, text.now)) result }
 {
-    match find_interface(program, name) {
+    match names.find(name) {
         Some((interface, declared)) => var_in(alloc, interface, declared, text),
         None => Err(Unread::NotSpelled),
     }
@@ -75,16 +73,15 @@ fn var_named(
 /// A variable behind so many others, from what stands behind `var `.
 fn read_var(
     alloc: Global,
-    program: &Program,
+    names: &InterfaceNames,
     count: usize,
     text: &[u8],
 ) -> Result<(u32, VarValue), Unread>
-    requires { length program.now.interfaces < number_count }
-    ensures { Gives var_view (reading.read_var (program_view program.now) (suc count) text.now) result }
+    ensures { Gives var_view (reading.read_var (program_view names.now.program.now) (suc count) text.now) result }
 {
     match behind_next(text, count) {
         Some(more) => match cut(more, b' ') {
-            Some((name, value)) => var_named(alloc, program, name, value),
+            Some((name, value)) => var_named(alloc, names, name, value),
             None => Err(Unread::NotSpelled),
         },
         None => Err(Unread::NotSpelled),
@@ -94,15 +91,14 @@ fn read_var(
 /// A node of this type, from the texts of its environment and of its certificates.
 fn node_with(
     alloc: Global,
-    program: &Program,
+    names: &InterfaceNames,
     of: TypeOf,
     needs: &[u8],
     certs: &[u8],
 ) -> Result<DerivedNode, Unread>
-    requires { length program.now.interfaces < number_count }
-    ensures { Gives line_view (reading.node_with (program_view program.now) (result_view of) (needs.now, certs.now)) result }
+    ensures { Gives line_view (reading.node_with (program_view names.now.program.now) (result_view of) (needs.now, certs.now)) result }
 {
-    let env = read_needs(alloc, program, needs)?;
+    let env = read_needs(alloc, names, needs)?;
     let certs = read_certs(alloc, certs)?;
     Ok(DerivedNode {
         of: NodeType { result: of, env },
@@ -113,18 +109,17 @@ fn node_with(
 /// A node, from the text of its type and the rest of its line.
 fn node_of(
     alloc: Global,
-    program: &Program,
+    names: &InterfaceNames,
     front: &[u8],
     text: &[u8],
 ) -> Result<DerivedNode, Unread>
-    requires { length program.now.interfaces < number_count }
-    ensures { Gives line_view (reading.node_of (program_view program.now) (front.now, text.now)) result }
+    ensures { Gives line_view (reading.node_of (program_view names.now.program.now) (front.now, text.now)) result }
 {
     match before(front, b" ") {
         Some(own) => match cut(text, b'}') {
             Some((needs, certs)) => {
-                let of = read_type(alloc, program, own)?;
-                node_with(alloc, program, of, needs, certs)
+                let of = read_type(alloc, names, own)?;
+                node_with(alloc, names, of, needs, certs)
             }
             None => Err(Unread::NotSpelled),
         },
@@ -135,16 +130,15 @@ fn node_of(
 /// A node, from what stands behind `node `.
 fn read_node(
     alloc: Global,
-    program: &Program,
+    names: &InterfaceNames,
     number: usize,
     text: &[u8],
 ) -> Result<DerivedNode, Unread>
-    requires { length program.now.interfaces < number_count }
-    ensures { Gives line_view (reading.read_node (program_view program.now) number text.now) result }
+    ensures { Gives line_view (reading.read_node (program_view names.now.program.now) number text.now) result }
 {
     match behind_number(text, number) {
         Some(more) => match cut(more, b'{') {
-            Some((front, rest)) => node_of(alloc, program, front, rest),
+            Some((front, rest)) => node_of(alloc, names, front, rest),
             None => Err(Unread::NotSpelled),
         },
         None => Err(Unread::NotSpelled),
@@ -152,24 +146,32 @@ fn read_node(
 }
 
 /// A variable more.
-fn add_var(alloc: Global, program: &Program, d: &mut Derivation, text: &[u8]) -> Result<(), Unread>
-    requires { length program.now.interfaces < number_count }
-    ensures { Leaves (reading.with_var (program_view program.now) (derivation_view d.old) text.now) (derivation_view d.new) result }
+fn add_var(
+    alloc: Global,
+    names: &InterfaceNames,
+    d: &mut Derivation,
+    text: &[u8],
+) -> Result<(), Unread>
+    ensures { Leaves (reading.with_var (program_view names.now.program.now) (derivation_view d.old) text.now) (derivation_view d.new) result }
 {
     if !d.nodes.is_empty() {
         return Err(Unread::NotSpelled);
     }
-    let var = read_var(alloc, program, d.vars.len(), text)?;
+    let var = read_var(alloc, names, d.vars.len(), text)?;
     d.vars.push(var)?;
     Ok(())
 }
 
 /// A node more.
-fn add_node(alloc: Global, program: &Program, d: &mut Derivation, text: &[u8]) -> Result<(), Unread>
-    requires { length program.now.interfaces < number_count }
-    ensures { Leaves (reading.with_node (program_view program.now) (derivation_view d.old) text.now) (derivation_view d.new) result }
+fn add_node(
+    alloc: Global,
+    names: &InterfaceNames,
+    d: &mut Derivation,
+    text: &[u8],
+) -> Result<(), Unread>
+    ensures { Leaves (reading.with_node (program_view names.now.program.now) (derivation_view d.old) text.now) (derivation_view d.new) result }
 {
-    let node = read_node(alloc, program, d.nodes.len(), text)?;
+    let node = read_node(alloc, names, d.nodes.len(), text)?;
     d.nodes.push(node)?;
     Ok(())
 }
@@ -177,17 +179,16 @@ fn add_node(alloc: Global, program: &Program, d: &mut Derivation, text: &[u8]) -
 /// The derivation with a line more, behind the first line: a variable, as long as there is no node, or a node, with the next number.
 pub fn read_line(
     alloc: Global,
-    program: &Program,
+    names: &InterfaceNames,
     d: &mut Derivation,
     line: &[u8],
 ) -> Result<(), Unread>
-    requires { length program.now.interfaces < number_count }
-    ensures { Leaves (reading.with_line (program_view program.now) (derivation_view d.old) line.now) (derivation_view d.new) result }
+    ensures { Leaves (reading.with_line (program_view names.now.program.now) (derivation_view d.old) line.now) (derivation_view d.new) result }
 {
     match behind(line, b"var ") {
-        Some(more) => add_var(alloc, program, d, more),
+        Some(more) => add_var(alloc, names, d, more),
         None => match behind(line, b"node ") {
-            Some(more) => add_node(alloc, program, d, more),
+            Some(more) => add_node(alloc, names, d, more),
             None => Err(Unread::NotSpelled),
         },
     }

@@ -19,7 +19,7 @@ pub loop-rest-preserved : goal.loop-rest-preserved
 loop-rest-preserved c =
     let cut_is : cut 10 c.loop-rest.rest.now ≡ Some (c.in-Some.line.now, c.in-Some.more.now) = search rules in
     let shorter = (subst (CutInPieces 10 c.loop-rest.rest.now) cut_is (cut_pieces 10 c.loop-rest.rest.now)).1 in
-    let line_is : with_line (program_view c.args.program.now) (derivation_view c.loop-rest.d) c.in-Some.line.now ≡ Some (derivation_view c.read_line.new.d) = search rules in
+    let line_is : with_line (program_view c.args.names.now.program.now) (derivation_view c.loop-rest.d) c.in-Some.line.now ≡ Some (derivation_view c.read_line.new.d) = search rules in
     record {
       reads = another c.loop-rest.invariant.reads cut_is line_is;
       within = omega (arith, shorter, c.loop-rest.invariant.within);
@@ -28,10 +28,10 @@ loop-rest-preserved c =
 pub returns-in-Err-NotSpelled : goal.returns-in-Err-NotSpelled
 returns-in-Err-NotSpelled c =
     let cut_is : cut 10 c.loop-rest.rest.now ≡ Some (c.in-Some.line.now, c.in-Some.more.now) = search rules in
-    let line_is : with_line (program_view c.args.program.now) (derivation_view c.loop-rest.d) c.in-Some.line.now ≡ None = search rules in
-    (length c.args.text.now - length c.loop-rest.rest.now, refl, unread_line (program_view c.args.program.now) c.args.text.now (derivation_view c.loop-rest.d) c.loop-rest.rest.now c.in-Some.line.now c.in-Some.more.now c.loop-rest.invariant.reads (grind (arith, nat_tests)) c.loop-rest.invariant.within cut_is line_is)
+    let line_is : with_line (program_view c.args.names.now.program.now) (derivation_view c.loop-rest.d) c.in-Some.line.now ≡ None = search rules in
+    (length c.args.text.now - length c.loop-rest.rest.now, refl, unread_line (program_view c.args.names.now.program.now) c.args.text.now (derivation_view c.loop-rest.d) c.loop-rest.rest.now c.in-Some.line.now c.in-Some.more.now c.loop-rest.invariant.reads (grind (arith, nat_tests)) c.loop-rest.invariant.within cut_is line_is)
 
 pub returns-in-None : goal.returns-in-None
 returns-in-None c =
     let cut_is : cut 10 c.loop-rest.rest.now ≡ None = search rules in
-    (length c.args.text.now - length c.loop-rest.rest.now, refl, unread_end (program_view c.args.program.now) c.args.text.now (derivation_view c.loop-rest.d) c.loop-rest.rest.now c.loop-rest.invariant.reads (grind (arith, nat_tests)) c.loop-rest.invariant.within cut_is)
+    (length c.args.text.now - length c.loop-rest.rest.now, refl, unread_end (program_view c.args.names.now.program.now) c.args.text.now (derivation_view c.loop-rest.d) c.loop-rest.rest.now c.loop-rest.invariant.reads (grind (arith, nat_tests)) c.loop-rest.invariant.within cut_is)

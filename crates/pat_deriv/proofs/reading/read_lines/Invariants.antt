@@ -6,7 +6,7 @@ use Rattle.pat_deriv.proofs.reading.read_lines.Given as goal
 
 abbrev pub invariant-loop-rest : goal.invariant-loop-rest
 invariant-loop-rest l = record {
-  reads : ReadsTo (program_view l.program) l.text (derivation_view l.d) l.rest;
+  reads : ReadsTo (program_view l.names.program.now) l.text (derivation_view l.d) l.rest;
   within : length l.rest < length l.text + 1;
 }
 

@@ -1,8 +1,8 @@
-use Rattle.std.proofs.Common.{rules, arith, map}
+use Rattle.std.proofs.Common.{rules, map}
 use Rattle.pat_core.specs.Views.{interface_view}
 use Rattle.pat_derivation_text_spec.specs.LineReading.{found}
 use Rattle.pat_derivation_lines.proofs.Names.{found_at}
-use Rattle.pat_derivation_lines.proofs.types.find_interface.Goals as goal
+use Rattle.pat_derivation_lines.proofs.tables.find_interface.Goals as goal
 
 pub returns-then-eq : goal.returns-then-eq
 returns-then-eq c =
