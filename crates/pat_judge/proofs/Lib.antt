@@ -4,3 +4,4 @@ mod FirstBad
 mod Counted
 mod Shaped
 mod Scoped
+mod Sound

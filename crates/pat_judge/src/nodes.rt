@@ -13,7 +13,7 @@ ghost use Rattle.pat_judge_nodes.specs.scopes.Upwards.{AreScopedBefore};
 ghost use Rattle.pat_judge_nodes.specs.uses.Views.{demands_view};
 ghost use Rattle.pat_judge.specs.Views.{rule_view, AreTables, after_alias};
 
-use crate::shape::{guard_covers, has_shape, has_words};
+use crate::shape::{guard_covers, has_shape, has_words, tested_needs};
 use crate::tables::Tables;
 use pat_certificate_checks::are_shown;
 use pat_core::{Function, Node, Program};
@@ -94,8 +94,17 @@ fn broken_in_place(
     let above = tables.above.as_slice();
     let env = line.of.env.as_slice();
     let scoped = names_in_scope(above, program, derivation, number, env);
+    let needs = tested_needs(program, derivation, &tables.tests, function, env);
     if !has_shape(
-        program, derivation, signatures, scoped, number, node, function, line,
+        program,
+        derivation,
+        signatures,
+        scoped,
+        needs.are_well,
+        number,
+        node,
+        function,
+        line,
     ) {
         return Ok(Some(Rule::Shape));
     }
@@ -104,6 +113,7 @@ fn broken_in_place(
         derivation,
         &tables.tests,
         signatures,
+        needs.have_words,
         number,
         node,
         function,

@@ -45,7 +45,7 @@ fn has_kind(of: &TypeOf, kind: Kind) -> bool
 }
 
 /// Whether the variable is there, and names a mailbox of the interface.
-fn names_mailbox(kinds: &[Kind], variable: u32, interface: u32) -> bool
+pub fn names_mailbox(kinds: &[Kind], variable: u32, interface: u32) -> bool
     ensures { result ≡ is_mailbox_of interface (slice_get (map kind_view kinds.now) variable) }
 {
     match kind_of(kinds, variable) {
@@ -55,7 +55,7 @@ fn names_mailbox(kinds: &[Kind], variable: u32, interface: u32) -> bool
 }
 
 /// Whether the variables of the function name mailboxes of the interfaces of their types, and the patterns are ones of them.
-fn names_are_well(
+pub fn names_are_well(
     program: &Program,
     derivation: &Derivation,
     function: &Function,
@@ -80,6 +80,7 @@ fn are_named_well(
     program: &Program,
     derivation: &Derivation,
     names_are_in_scope: bool,
+    names_are_well: bool,
     number: usize,
     node: &Node,
     function: &Function,
@@ -88,10 +89,12 @@ fn are_named_well(
     requires node { node_at (program_view program.now) number ≡ Some (node_view node.now) }
     requires function { function_at (program_view program.now) node.now.function ≡ Some (function_view function.now) }
     requires scope { names_are_in_scope ≡ list_all (λ e. is_in_scope (program_view program.now) number e.0) (needs_view env.now) }
+    requires well { names_are_well ≡ list_all (λ e. is_mailbox_of e.1.interface (slice_get (function_view function.now).vars e.0)
+        && is_formed_of (scope_of (program_view program.now) (derivation_view derivation.now)) e.1.interface e.1.pattern)
+        (needs_view env.now) }
     ensures { result ≡ list_all (is_named_well (program_view program.now) (derivation_view derivation.now) number) (needs_view env.now) }
 {
-    let well = names_are_well(program, derivation, function, env);
-    both(names_are_in_scope, well)
+    both(names_are_in_scope, names_are_well)
 }
 
 fn type_is_formed(program: &Program, derivation: &Derivation, of: &TypeOf) -> bool
@@ -195,12 +198,14 @@ fn first_agrees(
 }
 
 /// Whether the line is one for the node. The signatures are those of the program's functions, the variables have values, and
-/// `names_are_in_scope` says whether each variable that the line names is in scope at the node.
+/// `names_are_in_scope` says whether each variable that the line names is in scope at the node, and `names_are_well` whether they
+/// name mailboxes of the interfaces of their types, with patterns of them.
 pub fn has_shape(
     program: &Program,
     derivation: &Derivation,
     signatures: &[Signature],
     names_are_in_scope: bool,
+    names_are_well: bool,
     number: usize,
     node: &Node,
     function: &Function,
@@ -211,6 +216,9 @@ pub fn has_shape(
     requires node { node_at (program_view program.now) number ≡ Some (node_view node.now) }
     requires function { function_at (program_view program.now) node.now.function ≡ Some (function_view function.now) }
     requires scope { names_are_in_scope ≡ list_all (λ e. is_in_scope (program_view program.now) number e.0) (needs_view line.now.of.env) }
+    requires well { names_are_well ≡ list_all (λ e. is_mailbox_of e.1.interface (slice_get (function_view function.now).vars e.0)
+        && is_formed_of (scope_of (program_view program.now) (derivation_view derivation.now)) e.1.interface e.1.pattern)
+        (needs_view line.now.of.env) }
     ensures { result
         ≡ has_shape_of (program_view program.now) (derivation_view derivation.now)
         (place number (node_view node.now) (function_view function.now) (line_view line.now)) }
@@ -223,6 +231,7 @@ pub fn has_shape(
         program,
         derivation,
         names_are_in_scope,
+        names_are_well,
         number,
         node,
         function,

@@ -99,7 +99,7 @@ fn params_have_words(
 }
 
 /// Whether each variable's sending pattern has a word.
-fn needs_have_words(
+pub fn needs_have_words(
     program: &Program,
     derivation: &Derivation,
     tests: &Tests,
@@ -179,12 +179,13 @@ fn all_three(of: bool, needs: bool, first: bool) -> bool
 }
 
 /// Whether each sending pattern of the line, and at the first node of a function of its signature, has a word. The signatures are
-/// those of the program's functions.
+/// those of the program's functions, and `needs_have_words` says it of the variables' patterns.
 pub fn has_words(
     program: &Program,
     derivation: &Derivation,
     tests: &Tests,
     signatures: &[Signature],
+    needs_have_words: bool,
     number: usize,
     node: &Node,
     function: &Function,
@@ -193,15 +194,15 @@ pub fn has_words(
     requires tests { IsTested (scope_of (program_view program.now) (derivation_view derivation.now)) tests.now }
     requires signatures { map signature_view signatures.now ≡ opened_from 1 (program_view program.now).functions }
     requires function { function_at (program_view program.now) node.now.function ≡ Some (function_view function.now) }
+    requires needs { needs_have_words ≡ list_all (λ e. has_a_word_of
+        (scope_of (program_view program.now) (derivation_view derivation.now)) e.1.polarity e.1.pattern) (needs_view line.now.of.env) }
     ensures { result
         ≡ has_words_of (program_view program.now) (derivation_view derivation.now)
         (place number (node_view node.now) (function_view function.now) (line_view line.now)) }
 {
-    let env = line.of.env.as_slice();
     let of = type_has_word(program, derivation, tests, &line.of.result);
-    let needs = needs_have_words(program, derivation, tests, env);
     let first = first_has_words(
         program, derivation, tests, signatures, number, node, function, line,
     );
-    all_three(of, needs, first)
+    all_three(of, needs_have_words, first)
 }

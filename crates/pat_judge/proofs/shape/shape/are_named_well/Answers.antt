@@ -8,5 +8,5 @@ use Rattle.pat_judge.proofs.shape.shape.are_named_well.Goals as goal
 pub returns : goal.returns
 returns c =
     c.both.ensures
-    ∙ ap₂ (λ a b. a && b) c.requires.scope c.names_are_well-well.ensures
+    ∙ ap₂ (λ a b. a && b) c.requires.scope c.requires.well
     ∙ names_are (program_view c.args.program.now) (derivation_view c.args.derivation.now) c.args.number (node_view c.args.node.now) (function_view c.args.function.now) (needs_view c.args.env.now) c.requires.node c.requires.function
