@@ -4,8 +4,8 @@ use Rattle.pat_replay.specs.Replays.{HasRoom}
 use Rattle.pat_replay_input.proofs.Giving.{entries_few, room_for}
 use Rattle.pat_replay_input.proofs.histories.replay_part.Goals as goal
 
-pub replay_from-requires-clause-numbers : goal.replay_from-requires-clause-numbers
-replay_from-requires-clause-numbers c =
+pub replay_from-requires-clause-room : goal.replay_from-requires-clause-room
+replay_from-requires-clause-room c =
     subst (λ l. HasRoom (config_view c.args.config) (length l)) (sym c.deref.ensures.value)
     (room_for c.args.part.now c.args.from c.in-Ok.entries.items (config_view c.args.config) c.in-Ok.ensures c.requires.room c.requires.numbers)
 

@@ -8,8 +8,11 @@ use Rattle.pat_replay_input.proofs.histories.replay_part_from_start.Goals as goa
 pub replay_from_start-requires : goal.replay_from_start-requires
 replay_from_start-requires c =
     let p = program_view c.args.code.program in
-    subst (λ l. HasRoom (start p) (length l)) (sym c.deref.ensures.value)
-    (room_for c.args.part.now c.args.from c.in-Ok.entries.items (start p) c.in-Ok.ensures c.requires.room (room_at_start p))
+    record {
+      room =
+          subst (λ l. HasRoom (start p) (length l)) (sym c.deref.ensures.value)
+          (room_for c.args.part.now c.args.from c.in-Ok.entries.items (start p) c.in-Ok.ensures c.requires.room (room_at_start p));
+    }
 
 pub returns-in-Ok-replay_from_start-clause-few : goal.returns-in-Ok-replay_from_start-clause-few
 returns-in-Ok-replay_from_start-clause-few c = entries_few c.args.part.now c.args.from c.in-Ok.entries.items c.in-Ok.ensures c.requires.room
