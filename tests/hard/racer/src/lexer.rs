@@ -135,6 +135,7 @@ impl<'a> Lexer<'a> {
             '(' | ')' | '{' | '}' | '[' | ']' | ',' | ';' | ':' | '.' | '+' | '-' | '*' | '<' | '!' | '?' | '=' => {
                 Ok(self.mark(1, Kind::Mark(first as u8)))
             }
+            // The standard library's classes: a few characters, as U+07A6, begin a name here and none in `pat`.
             _ if first == '_' || first.is_alphabetic() => Ok(self.name()),
             _ => Err(Refusal::syntax(self.place)),
         }
