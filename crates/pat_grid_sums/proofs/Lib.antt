@@ -3,6 +3,7 @@ mod Splitting
 mod Shifting
 mod Summing
 mod Alike
+mod Holding
 mod Stepping
 mod Looking
 mod Writing

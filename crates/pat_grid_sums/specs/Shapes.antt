@@ -1,5 +1,5 @@
 -- How the points of a grid are divided, and their sums.
-use Rattle.std.specs.Prelude.{◌≡◌, ℕ, ◌+◌, ◌<◌, ◌≤◌, List, [], length, get_or}
+use Rattle.std.specs.Prelude.{◌≡◌, ℕ, ◌+◌, ◌*◌, ◌<◌, ◌≤◌, List, [], length, get_or}
 use Rattle.std.specs.Int.{bit_at}
 use Rattle.pat_inclusion_spec.specs.bounds.Numbers.{points_in}
 use Rattle.pat_grid_points.specs.Views.{summed}
@@ -27,6 +27,11 @@ RowTo k n v c row = (length row ≡ c) × FilledTo k n v c row
 -- the sums of the point with each point
 abbrev pub IsRow : ℕ → ℕ → ℕ → List ℕ → Type 0
 IsRow k n v row = RowTo k n v (points_in k n) row
+
+-- the words at the sums of the point with each point have the bits
+abbrev pub HasSums : ℕ → ℕ → ℕ → List ℕ → ℕ → ℕ → ℕ → Type 0
+HasSums k n v words bits from scale =
+    (w q : ℕ) → w < points_in k n → bit_at bits q ≡ 1 → In words (from + summed k n v w * scale) q
 
 -- in each word the bits are moved by the place
 abbrev pub IsSum : List ℕ → Shape → ℕ → ℕ → ℕ → Type 0

@@ -1,6 +1,7 @@
 // Sums of sets of points.
 
 ghost use Rattle.std.specs.Prelude.{◌≡◌, ◌<◌, ◌≤◌, ◌/◌, ℕ, List, [], length, get_or, IfOk, OnOk, IsTrue, IsFalse};
+ghost use Rattle.std.specs.Int.{bit_at};
 ghost use Rattle.pat_inclusion_spec.specs.Points.{grid_fits};
 ghost use Rattle.pat_inclusion_spec.specs.bounds.Numbers.{points_in};
 ghost use Rattle.pat_grid_sums.specs.Sets.{In, Puts, AnyBefore, AtNumber, IsJoined, IsAdded};
@@ -8,8 +9,8 @@ ghost use Rattle.pat_grid_sums.specs.Shapes.{IsShape, IsRow, Has, IsGathered, Is
 ghost use Rattle.pat_grid_sums.specs.Systems.{IsSumOf};
 
 use crate::bits::{has, join, list_all, no_bits, put_all};
-use crate::moving::moved_by_each;
-use crate::rows::row_of;
+use crate::moving::{all_bits, moved_by_each};
+use crate::rows::{has_sums, row_of};
 use crate::shape::{Shape, shape_of};
 use pat_sequences::Sequence;
 use std::alloc::{AllocError, Global};
@@ -112,8 +113,18 @@ fn add_alike(
     }
     let mut words = no_bits(alloc, shape.words)?;
     add_word(ones, word, moved, still, &mut words);
+    let bits = all_bits(words.as_slice());
     for other in 0..ones.len() {
-        add_if_alike(alloc, ones, word, other, words.as_slice(), shape, sums)?;
+        add_if_alike(
+            alloc,
+            ones,
+            word,
+            other,
+            words.as_slice(),
+            bits,
+            shape,
+            sums,
+        )?;
     }
     Ok(())
 }
@@ -132,13 +143,15 @@ fn has_before(ones: &[u64], word: usize) -> bool
     false
 }
 
-/// Adds those of the points of the other word, if it is the same as the one for which the words were gathered.
+/// Adds those of the points of the other word, if it is the same as the one for which the words were gathered. Where the sums have all of
+/// the gathered words' bits already, nothing is new.
 fn add_if_alike(
     alloc: Global,
     ones: &[u64],
     word: usize,
     other: usize,
     gathered: &[u64],
+    bits: u64,
     shape: Shape,
     sums: &mut Sequence<u64>,
 ) -> Result<(), AllocError>
@@ -147,10 +160,14 @@ fn add_if_alike(
     requires other { other < length ones.now }
     requires long { length sums.old ≡ shape.words }
     requires gathered { length gathered.now ≡ shape.words }
+    requires bits { (h q : ℕ) → h < length gathered.now → In gathered.now h q → bit_at bits q ≡ 1 }
     ensures { (moved : List (List ℕ)) → IsGathered moved shape (get_or ones.now word 0) gathered.now
         → OnOk result (Puts (IsAlikeSum ones.now moved shape word other) sums.old sums.new) }
 {
     if ones[other] != ones[word] {
+        return Ok(());
+    }
+    if has_sums(sums.as_slice(), bits, other, shape.k, shape.high, 0, 1) {
         return Ok(());
     }
     let row = row_of(alloc, other, shape.k, shape.high)?;
