@@ -2,6 +2,8 @@ mod Putting
 mod Splitting
 mod Shifting
 mod Summing
+mod Alike
+mod Holding
 mod Stepping
 mod Looking
 mod Writing

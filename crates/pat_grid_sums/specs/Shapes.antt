@@ -1,11 +1,11 @@
 -- How the points of a grid are divided, and their sums.
-use Rattle.std.specs.Prelude.{◌≡◌, ℕ, ◌+◌, ◌<◌, ◌≤◌, List, [], length, get_or}
+use Rattle.std.specs.Prelude.{◌≡◌, ℕ, ◌+◌, ◌*◌, ◌<◌, ◌≤◌, List, [], length, get_or}
 use Rattle.std.specs.Int.{bit_at}
 use Rattle.pat_inclusion_spec.specs.bounds.Numbers.{points_in}
 use Rattle.pat_grid_points.specs.Views.{summed}
 use Rattle.pat_limits.specs.Limits.{most_points}
 use Rattle.pat_grid_sums.specs.declared.shape.Shape.{Shape}
-use Rattle.pat_grid_sums.specs.Sets.{In, IsListed}
+use Rattle.pat_grid_sums.specs.Sets.{In, AnyBefore, IsListed}
 
 -- the first tags' points number the words, and those of the last tags the places in a word
 pub record IsShape (k n : ℕ) (s : Shape) : Type 0 where
@@ -27,6 +27,11 @@ RowTo k n v c row = (length row ≡ c) × FilledTo k n v c row
 -- the sums of the point with each point
 abbrev pub IsRow : ℕ → ℕ → ℕ → List ℕ → Type 0
 IsRow k n v row = RowTo k n v (points_in k n) row
+
+-- the words at the sums of the point with each point have the bits
+abbrev pub HasSums : ℕ → ℕ → ℕ → List ℕ → ℕ → ℕ → ℕ → Type 0
+HasSums k n v words bits from scale =
+    (w q : ℕ) → w < points_in k n → bit_at bits q ≡ 1 → In words (from + summed k n v w * scale) q
 
 -- in each word the bits are moved by the place
 abbrev pub IsSum : List ℕ → Shape → ℕ → ℕ → ℕ → Type 0
@@ -53,6 +58,18 @@ IsGathered moved s bits words =
 abbrev pub IsRowSum : List ℕ → List (List ℕ) → Shape → ℕ → ℕ → ℕ → Type 0
 IsRowSum ones moved s i h q =
     (l w : ℕ) × (l < length moved) × In ones i l × (w < s.words) × (h ≡ summed s.k s.high i w) × In (get_or moved l []) w q
+
+-- no word before it is the same
+abbrev pub IsFirst : List ℕ → ℕ → Type 0
+IsFirst ones i = (j : ℕ) → j < i → get_or ones j 0 ≡ get_or ones i 0 → ⊥
+
+-- those of the other word, which is the same
+abbrev pub IsAlikeSum : List ℕ → List (List ℕ) → Shape → ℕ → ℕ → ℕ → ℕ → Type 0
+IsAlikeSum ones moved s i j h q = (get_or ones j 0 ≡ get_or ones i 0) × IsRowSum ones moved s j h q
+
+-- those of all words that are the same as this one, which is the first of them
+abbrev pub IsFirstSum : List ℕ → List (List ℕ) → Shape → ℕ → ℕ → ℕ → Type 0
+IsFirstSum ones moved s i h q = IsFirst ones i × AnyBefore (IsAlikeSum ones moved s i) (length ones) h q
 
 -- the numbers are those of the sums of a point of the one list with one of the other
 pub record AreSums (k n : ℕ) (firsts seconds numbers : List ℕ) : Type 0 where

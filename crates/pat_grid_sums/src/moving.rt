@@ -31,7 +31,7 @@ pub fn moved_by_each(
 }
 
 /// The bits that one of the words has.
-fn all_bits(words: &[u64]) -> u64
+pub fn all_bits(words: &[u64]) -> u64
     ensures { (h q : ℕ) → h < length words.now → In words.now h q → bit_at result q ≡ 1 }
 {
     let mut bits = 0;

@@ -1,9 +1,10 @@
 // Sums of one point with each point.
 
-ghost use Rattle.std.specs.Prelude.{◌≡◌, ◌<◌, ◌≤◌, ◌+◌, ◌*◌, ◌/◌, ◌%◌, ℕ, length, set, replicate, IfOk};
+ghost use Rattle.std.specs.Prelude.{◌≡◌, ◌<◌, ◌≤◌, ◌+◌, ◌*◌, ◌/◌, ◌%◌, ℕ, length, set, replicate, IfOk, IsTrue};
+ghost use Rattle.std.specs.Int.{bit_at};
 ghost use Rattle.pat_inclusion_spec.specs.bounds.Numbers.{points_in};
 ghost use Rattle.pat_grid_points.specs.Views.{summed};
-ghost use Rattle.pat_grid_sums.specs.Shapes.{FilledTo, IsRow};
+ghost use Rattle.pat_grid_sums.specs.Shapes.{FilledTo, IsRow, HasSums};
 ghost use Rattle.pat_limits.specs.Limits.{most_points};
 
 use pat_sequences::Sequence;
@@ -33,6 +34,41 @@ pub fn row_of(alloc: Global, point: usize, k: u32, tags: u8) -> Result<Sequence<
         );
     }
     Ok(row)
+}
+
+/// Whether a set has all of these bits at the sums of the point with each point; the words of the sums are `scale` apart, from `from` on.
+pub fn has_sums(
+    words: &[u64],
+    bits: u64,
+    point: usize,
+    k: u32,
+    tags: u8,
+    from: usize,
+    scale: usize,
+) -> bool
+    requires few { points_in k tags * scale ≤ most_points }
+    requires long { length words.now ≤ most_points }
+    requires room { (v : ℕ) → v < points_in k tags → from + summed k tags point v * scale < length words.now }
+    ensures { IsTrue result → HasSums k tags point words.now bits from scale }
+{
+    if tags == 0 {
+        return has_bits(words[from], bits);
+    }
+    let base = k as usize + 1;
+    for digit in point % base..base {
+        let next = from + digit * scale;
+        if !has_sums(words, bits, point / base, k, tags - 1, next, scale * base) {
+            return false;
+        }
+    }
+    true
+}
+
+/// Whether the word has all of the bits.
+fn has_bits(word: u64, bits: u64) -> bool
+    ensures { IsTrue result → (q : ℕ) → bit_at bits q ≡ 1 → bit_at word q ≡ 1 }
+{
+    word & bits == bits
 }
 
 /// So many numbers, each of them 0.

@@ -1,26 +1,19 @@
 // Sums of sets of points.
 
-ghost use Rattle.std.specs.Prelude.{◌≡◌, ◌<◌, ◌≤◌, ◌/◌, ℕ, [], length, get_or, IfOk, OnOk, IsTrue};
+ghost use Rattle.std.specs.Prelude.{◌≡◌, ◌<◌, ◌≤◌, ◌/◌, ℕ, List, [], length, get_or, IfOk, OnOk, IsTrue, IsFalse};
+ghost use Rattle.std.specs.Int.{bit_at};
 ghost use Rattle.pat_inclusion_spec.specs.Points.{grid_fits};
 ghost use Rattle.pat_inclusion_spec.specs.bounds.Numbers.{points_in};
 ghost use Rattle.pat_grid_sums.specs.Sets.{In, Puts, AnyBefore, AtNumber, IsJoined, IsAdded};
-ghost use Rattle.pat_grid_sums.specs.Shapes.{IsShape, IsRow, Has, IsGathered, IsRowSum, AreSums};
+ghost use Rattle.pat_grid_sums.specs.Shapes.{IsShape, IsRow, Has, IsGathered, IsFirst, IsRowSum, IsAlikeSum, IsFirstSum, AreSums};
 ghost use Rattle.pat_grid_sums.specs.Systems.{IsSumOf};
 
 use crate::bits::{has, join, list_all, no_bits, put_all};
-use crate::moving::moved_by_each;
-use crate::rows::row_of;
+use crate::moving::{all_bits, moved_by_each};
+use crate::rows::{has_sums, row_of};
 use crate::shape::{Shape, shape_of};
 use pat_sequences::Sequence;
 use std::alloc::{AllocError, Global};
-
-/// What was moved by places of a word, all together.
-#[derive(Drop)]
-struct Gathered {
-    /// The bit of each such place.
-    bits: u64,
-    words: Sequence<u64>,
-}
 
 /// The numbers of the sums of a point of the one list with one of the other. Both become sets, as words of bits of all points, and it
 /// takes time in proportion to the square of these words at most; where `k` is 64 or more a word has one point alone.
@@ -86,86 +79,100 @@ fn sums_of(
     ensures { IfOk result (Has (AnyBefore (IsRowSum ones.now moved.now shape) (length ones.now)) shape.words) }
 {
     let mut sums = no_bits(alloc, shape.words)?;
-    let nothing = no_bits(alloc, shape.words)?;
-    let mut gathered = Gathered {
-        bits: 0,
-        words: nothing,
-    };
     let still = row_of(alloc, 0, shape.k, shape.high)?;
     for word in 0..ones.len() {
-        gathered = add_row(
-            alloc,
-            ones,
-            word,
-            moved,
-            still.as_slice(),
-            shape,
-            gathered,
-            &mut sums,
-        )?;
+        add_alike(alloc, ones, word, moved, still.as_slice(), shape, &mut sums)?;
     }
     Ok(sums)
 }
 
-/// Adds those of the points of one word, and answers what was gathered last; many words are the same as the one before.
-fn add_row(
+/// Adds those of the points of all words that are the same as this one, if it is the first of them: what was moved by the places of such
+/// a word is put together once. `still` is the row of no point.
+fn add_alike(
     alloc: Global,
     ones: &[u64],
     word: usize,
     moved: &[Sequence<u64>],
     still: &[usize],
     shape: Shape,
-    last: Gathered,
     sums: &mut Sequence<u64>,
-) -> Result<Gathered, AllocError>
+) -> Result<(), AllocError>
     requires shape { (n : ℕ) × IsShape shape.k n shape }
     requires word { word < length ones.now }
     requires few { length moved.now ≤ 64 }
     requires moved { (l : ℕ) → l < length moved.now → length (get_or moved.now l []) ≡ shape.words }
     requires long { length sums.old ≡ shape.words }
     requires still { IsRow shape.k shape.high 0 still.now }
-    requires last { IsGathered moved.now shape last.bits last.words }
-    ensures sums { OnOk result (Puts (IsRowSum ones.now moved.now shape word) sums.old sums.new) }
-    ensures gathered { IfOk result (λ g. IsGathered moved.now shape g.bits g.words) }
+    ensures { OnOk result (Puts (IsFirstSum ones.now moved.now shape word) sums.old sums.new) }
 {
     if ones[word] == 0 {
-        return Ok(last);
+        return Ok(());
     }
-    let gathered = gather(alloc, ones, word, moved, still, shape, last)?;
-    let row = row_of(alloc, word, shape.k, shape.high)?;
-    add_moved(gathered.words.as_slice(), row.as_slice(), sums);
-    Ok(gathered)
-}
-
-/// Puts together what was moved by the places of the word, if that isn't what was gathered last; `still` is the row of no
-/// point.
-fn gather(
-    alloc: Global,
-    ones: &[u64],
-    word: usize,
-    moved: &[Sequence<u64>],
-    still: &[usize],
-    shape: Shape,
-    last: Gathered,
-) -> Result<Gathered, AllocError>
-    requires shape { (n : ℕ) × IsShape shape.k n shape }
-    requires word { word < length ones.now }
-    requires few { length moved.now ≤ 64 }
-    requires moved { (l : ℕ) → l < length moved.now → length (get_or moved.now l []) ≡ shape.words }
-    requires still { IsRow shape.k shape.high 0 still.now }
-    requires last { IsGathered moved.now shape last.bits last.words }
-    ensures bits { IfOk result (λ g. g.bits ≡ get_or ones.now word 0) }
-    ensures words { IfOk result (λ g. IsGathered moved.now shape (get_or ones.now word 0) g.words) }
-{
-    if ones[word] == last.bits {
-        return Ok(last);
+    if has_before(ones, word) {
+        return Ok(());
     }
     let mut words = no_bits(alloc, shape.words)?;
     add_word(ones, word, moved, still, &mut words);
-    Ok(Gathered {
-        bits: ones[word],
-        words,
-    })
+    let bits = all_bits(words.as_slice());
+    for other in 0..ones.len() {
+        add_if_alike(
+            alloc,
+            ones,
+            word,
+            other,
+            words.as_slice(),
+            bits,
+            shape,
+            sums,
+        )?;
+    }
+    Ok(())
+}
+
+/// Whether an earlier word is the same.
+fn has_before(ones: &[u64], word: usize) -> bool
+    requires { word < length ones.now }
+    ensures no { IsFalse result → IsFirst ones.now word }
+    ensures yes { IsTrue result → IsFirst ones.now word → ⊥ }
+{
+    for earlier in 0..word {
+        if ones[earlier] == ones[word] {
+            return true;
+        }
+    }
+    false
+}
+
+/// Adds those of the points of the other word, if it is the same as the one for which the words were gathered. Where the sums have all of
+/// the gathered words' bits already, nothing is new.
+fn add_if_alike(
+    alloc: Global,
+    ones: &[u64],
+    word: usize,
+    other: usize,
+    gathered: &[u64],
+    bits: u64,
+    shape: Shape,
+    sums: &mut Sequence<u64>,
+) -> Result<(), AllocError>
+    requires shape { (n : ℕ) × IsShape shape.k n shape }
+    requires word { word < length ones.now }
+    requires other { other < length ones.now }
+    requires long { length sums.old ≡ shape.words }
+    requires gathered { length gathered.now ≡ shape.words }
+    requires bits { (h q : ℕ) → h < length gathered.now → In gathered.now h q → bit_at bits q ≡ 1 }
+    ensures { (moved : List (List ℕ)) → IsGathered moved shape (get_or ones.now word 0) gathered.now
+        → OnOk result (Puts (IsAlikeSum ones.now moved shape word other) sums.old sums.new) }
+{
+    if ones[other] != ones[word] {
+        return Ok(());
+    }
+    if has_sums(sums.as_slice(), bits, other, shape.k, shape.high, 0, 1) {
+        return Ok(());
+    }
+    let row = row_of(alloc, other, shape.k, shape.high)?;
+    add_moved(gathered, row.as_slice(), sums);
+    Ok(())
 }
 
 /// Puts what was moved by the places of one word in where the row says.
