@@ -7,6 +7,7 @@ ghost use Rattle.pat_solve_bounded.specs.Views.{limited_view, parts_view};
 ghost use Rattle.pat_words_spec.specs.Sizes.{size_of};
 ghost use Rattle.pat_solve_bounded.specs.replacing.Replacing.{replaced_by, IsReplacement, Stays, outcome, work};
 
+use crate::part::square;
 use crate::replacing::derivatives::copied;
 use crate::replacing::joining::{join_product, join_star, join_sum};
 use crate::replacing::replacement::Replacement;
@@ -47,7 +48,7 @@ pub fn replaced<'a>(
 }
 
 /// The same by at most so many calls, one in the other.
-#[tactic(auto, using(crate::proofs::Turns::sum_turn, crate::proofs::Turns::prod_turn))]
+#[tactic(auto, using(crate::proofs::Turns::sum_turn, crate::proofs::Turns::prod_turn, crate::proofs::Turns::square_turn))]
 fn replaced_by_calls<'a>(
     alloc: Global,
     p: &Pattern,
@@ -71,9 +72,12 @@ fn replaced_by_calls<'a>(
             sum(alloc, left, right)
         }
         Pattern::Prod(left, right) => {
-            let left = replaced_by_calls(alloc, left, by, calls - 1)?;
-            let right = replaced_by_calls(alloc, right, by, calls - 1)?;
-            product(alloc, left, right)
+            let first = replaced_by_calls(alloc, left, by, calls - 1)?;
+            if left.is_same(right) {
+                return square(alloc, first);
+            }
+            let second = replaced_by_calls(alloc, right, by, calls - 1)?;
+            product(alloc, first, second)
         }
         Pattern::Star(part) => {
             let part = replaced_by_calls(alloc, part, by, calls - 1)?;
