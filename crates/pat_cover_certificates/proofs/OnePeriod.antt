@@ -1,13 +1,16 @@
 -- How often one period alone makes a word.
-use Rattle.std.proofs.Common.{◌≡◌, ℕ, ◌+◌, ◌*◌, ◌/◌, ◌<◌, ◌≤◌, true, false, ◌&&◌, nat_eq, List, [], ◌∷◌, refl, sym, ap, ◌∙◌, subst, arith, mul-zero}
+use Rattle.std.proofs.Common.{◌≡◌, ℕ, ◌+◌, ◌*◌, ◌/◌, ◌<◌, ◌≤◌, true, false, ◌&&◌, nat_eq, List, [], ◌∷◌, length, None, refl, sym, ap, ◌∙◌, subst, arith, mul-zero}
 use Rattle.std.specs.Prelude.{nat_lt}
 use Rattle.std.proofs.lemmas.Nat.{div-mul-add}
-use Rattle.std.proofs.lemmas.Bool.{ltb-true}
-use Rattle.pat_words_spec.specs.Words.{Word}
-use Rattle.pat_inclusion_spec.specs.Counts.{most_tags}
-use Rattle.pat_inclusion_spec.specs.Covers.{makes}
+use Rattle.std.proofs.lemmas.Bool.{ltb-true, eqb-true, and_parts}
+use Rattle.pat_words_spec.specs.Words.{Word, plus}
+use Rattle.pat_inclusion_spec.specs.Counts.{most_tags, same_below}
+use Rattle.pat_inclusion_spec.specs.LinearSets.{combined}
+use Rattle.pat_inclusion_spec.specs.Covers.{makes, makes_from}
 use Rattle.pat_inclusion_spec.specs.Points.{comes_before}
 use Rattle.pat_linear.proofs.Exact.{tags_are}
+use Rattle.pat_linear.proofs.Spans.{same_counts}
+use Rattle.pat_cover_certificates.specs.Firsts.{FindsFrom}
 use Rattle.pat_cover_certificates.specs.coefficients.Numbers.{NoNumbers, MakesFirst, IsLeastTimes}
 use Rattle.pat_cover_certificates.proofs.Making.{made, makes_by, differ}
 use Rattle.pat_cover_certificates.proofs.Ending.{not_before, both_true}
@@ -62,3 +65,19 @@ pub times_not : (p w : Word) (m : ℕ) → IsLeastTimes p w m → makes most_tag
 times_not p w m least h cs k =
     let one = one_number p w cs k in
     differ (makes most_tags (p ∷ []) (m ∷ []) w) (least one.0 (subst (λ x. makes most_tags (p ∷ []) x w ≡ true) one.1 k)).1 h
+
+-- ---- from a base
+
+one_alone : (base p w : Word) (cs : List ℕ) → makes_from most_tags base (p ∷ []) cs w ≡ true → length cs ≡ 1
+one_alone base p w cs h =
+    eqb-true (length cs) 1 (and_parts (nat_eq (length cs) 1) (same_below most_tags w (plus base (combined cs (p ∷ [])))) h).0
+
+-- no number leads to the word's count of a tag
+pub missed : (base p w : Word) (t from step to : ℕ) → t < 32 → from ≡ base t → step ≡ p t → to ≡ w t → ((c : ℕ) → to ≡ from + c * step → ⊥) → FindsFrom most_tags base (p ∷ []) w None
+missed base p w t from step to l eb ep ew never [] h = let n = one_alone base p w [] h in absurd (omega arith)
+missed base p w t from step to l eb ep ew never (c ∷ d ∷ cs) h = let n = one_alone base p w (c ∷ d ∷ cs) h in absurd (omega arith)
+missed base p w t from step to l eb ep ew never (c ∷ []) h =
+    let both = and_parts (nat_eq (length (c ∷ [])) 1) (same_below most_tags w (plus base (combined (c ∷ []) (p ∷ [])))) h in
+    let at = same_counts most_tags w (plus base (combined (c ∷ []) (p ∷ []))) both.1 t (subst (λ n. t < n) (sym tags_are) l) in
+    let same : c * step ≡ c * p t = ap (λ x. c * x) ep in
+    never c (omega arith)

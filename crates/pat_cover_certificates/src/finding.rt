@@ -1,5 +1,5 @@
 // The search for a direct cover.
-ghost use Rattle.std.specs.Prelude.{◌≡◌, ◌↔◌, true, ◌<◌, ◌^◌, Some, None, length, IfOk, IfSome, IsSome, IsTrue};
+ghost use Rattle.std.specs.Prelude.{◌≡◌, ◌↔◌, true, ◌<◌, ◌+◌, ◌*◌, ◌^◌, ℕ, [], ◌∷◌, Some, None, length, IfOk, IfSome, IsSome, IsTrue};
 ghost use Rattle.pat_bags.specs.Views.{word_of};
 ghost use Rattle.pat_inclusion_spec.specs.Counts.{most_tags};
 ghost use Rattle.pat_inclusion_spec.specs.Covers.{is_cover, IsDirectlyCovered};
@@ -146,15 +146,38 @@ fn entry_in(
     }
 }
 
-/// Whether there are no periods, and the word isn't the base.
+/// Whether it is seen that the periods don't make the word from the base, where there is one at most.
 fn is_apart(base: &Bag, periods: &[Bag], word: &Bag) -> bool
     ensures { IsTrue result → FindsFrom most_tags (word_of base.now) (words_of periods.now) (word_of word.now) None }
 {
-    if periods.is_empty() {
-        !same_counts(word, base)
-    } else {
-        false
+    match periods {
+        [] => !same_counts(word, base),
+        [period] => is_missed(base, period, word),
+        _ => false,
     }
+}
+
+/// Whether it is seen that the period doesn't make the word from the base: its first tag tells.
+fn is_missed(base: &Bag, period: &Bag, word: &Bag) -> bool
+    ensures { IsTrue result → FindsFrom most_tags (word_of base.now) (word_of period.now ∷ []) (word_of word.now) None }
+{
+    for t in 0..32u8 {
+        let step = period.get(t);
+        if step > 0 {
+            let from = base.get(t);
+            let to = word.get(t);
+            return steps_miss(from, step, to);
+        }
+    }
+    false
+}
+
+/// Whether the step doesn't lead from the one count to the other, however often it is taken.
+fn steps_miss(from: u32, step: u32, to: u32) -> bool
+    requires { 0 < step }
+    ensures { IsTrue result → (times : ℕ) → to ≡ from + times * step → ⊥ }
+{
+    from > to || (to - from) % step != 0
 }
 
 /// The first numbers by which the periods make the word from the base, if there are any.

@@ -3,3 +3,4 @@ pub mod Limited
 mod Turns
 mod Lookups
 mod Slopes
+mod Staying

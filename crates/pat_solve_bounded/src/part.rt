@@ -43,6 +43,16 @@ impl<'a> Part<'a> {
             Part::Held(held) => held.copy(),
         }
     }
+
+    /// A second part, the same.
+    fn copy(&self) -> Result<Part<'a>, AllocError>
+        ensures { IfOk result (λ p. part_view p ≡ part_view self.now) }
+    {
+        match self {
+            Part::Made(own) => Ok(Part::Made(own.copy()?)),
+            Part::Held(held) => Ok(Part::Held(held)),
+        }
+    }
 }
 
 /// How many nodes and levels a sum or a product of the two has as it stands; `None` where that is too large.
@@ -137,6 +147,19 @@ pub fn product<'a>(
         (Some(left), Some(right)) => product_of_parts(alloc, left, right),
         (Some(part), None) | (None, Some(part)) => Ok(zero_if(part)),
         (None, None) => Ok(None),
+    }
+}
+
+/// The product of a part with itself, which is made once.
+pub fn square<'a>(alloc: Global, part: Option<Part<'a>>) -> Result<Option<Part<'a>>, AllocError>
+    ensures { IfOk result (λ p. limited_view p ≡ prod_within (limited_view part.entry) (limited_view part.entry)) }
+{
+    match part {
+        Some(part) => {
+            let second = part.copy()?;
+            product_of_parts(alloc, part, second)
+        }
+        None => Ok(None),
     }
 }
 

@@ -191,6 +191,27 @@ same_product before after a b own e f l r k m left right first second sets words
     let bound = λ (few : own.sets ≤ most_sets). product_bound a b own k m (from_none none a k refl refl first.1) (from_none none b m refl refl second.1) sets few words in
     (sym left ∙ ap₂ Prod first.0 second.0 ∙ right, subst (Adds before after) right (added bound))
 
+-- a tag before it changes nothing
+abbrev word : SetBound
+word = record { sets = 1; are_words = true }
+
+pub same_after_tag : (before after : SetBound) (e f l r k m : Pat) (t : ℕ) → Prod l r ≡ e → Prod k m ≡ f → l ≡ Tag t → k ≡ Tag t → SameAdds before after r m → SameAdds before after e f
+same_after_tag before after e f l r k m t left right first second rest = (
+  sym left ∙ ap₂ Prod (first ∙ sym second) rest.0 ∙ right,
+  subst (Adds before after) (ap (λ x. Prod x m) (sym second) ∙ right) (behind rest.1),
+)
+  where
+    behind : Adds before after m → Adds before after (Prod (Tag t) m)
+    behind h =
+        let few = h.bound.within in
+        record {
+          own = h.own;
+          bound = product_bound word h.own h.own (Tag t) m (tag_bound word t refl) h.bound (omega arith) few refl;
+          sets = h.sets;
+          words = h.words;
+          within = h.within;
+        }
+
 pub same_star : (before after a own : SetBound) (e f p q : Pat) → Star p ≡ e → Star q ≡ f → SameAdds none a p q → a.are_words ≡ true → own.sets ≡ 1 → own.are_words ≡ false → ((own.sets ≤ most_sets → IsBound own (Star q)) → Adds before after (Star q)) → SameAdds before after e f
 same_star before after a own e f p q left right part words one periods added =
     let bound = λ (few : own.sets ≤ most_sets). star_bound a own q (from_none none a q refl refl part.1) words one periods in

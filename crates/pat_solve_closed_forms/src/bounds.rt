@@ -1,6 +1,6 @@
 // Patterns that are the same, and how many sets their closed form has at most, by their parts alone: none of them is made.
-ghost use Rattle.std.specs.Prelude.{◌≡◌, ◌≤◌, ◌*◌, ◌-◌, ◌^◌, ◌&&◌, min, IsTrue};
-ghost use Rattle.pat_words_spec.specs.Patterns.{Pat};
+ghost use Rattle.std.specs.Prelude.{◌≡◌, ℕ, ◌≤◌, ◌*◌, ◌-◌, ◌^◌, ◌&&◌, min, IsTrue};
+ghost use Rattle.pat_words_spec.specs.Patterns.{Pat, Tag};
 ghost use Rattle.pat_patterns.specs.Views.{pattern_view};
 ghost use Rattle.pat_limits.specs.Limits.{most_sets};
 ghost use Rattle.pat_solve_closed_forms.specs.declared.same.Comparison.TheVariants.{SameWithForm};
@@ -68,6 +68,10 @@ fn add_same(left: &Pattern, right: &Pattern, bound: &mut SetBound) -> bool
             add_same(left, other_left, bound) && add_same(right, other_right, bound)
         }
         (Pattern::Prod(left, right), Pattern::Prod(other_left, other_right)) => {
+            // Left parts are mostly tags, which leave the sets as many as they are.
+            if are_same_tag(left, other_left) {
+                return add_same(right, other_right, bound);
+            }
             let mut first = NONE;
             if !add_same(left, other_left, &mut first) {
                 return false;
@@ -82,6 +86,16 @@ fn add_same(left: &Pattern, right: &Pattern, bound: &mut SetBound) -> bool
             }
             words.are_words && bound.add(STAR)
         }
+        _ => false,
+    }
+}
+
+/// Whether the patterns are the same tag.
+fn are_same_tag(left: &Pattern, right: &Pattern) -> bool
+    ensures { IsTrue result → (tag : ℕ) × (pattern_view left.now ≡ Tag tag) × (pattern_view right.now ≡ Tag tag) }
+{
+    match (left, right) {
+        (Pattern::Tag(tag), Pattern::Tag(other)) => tag == other,
         _ => false,
     }
 }

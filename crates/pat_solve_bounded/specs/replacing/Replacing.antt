@@ -31,6 +31,10 @@ IsReplacement (One k v) = Unit {0}
 IsReplacement (All ks vs) = IsAscending ks.now × (length ks.now ≡ length vs.now)
 IsReplacement (Listed ks vs) = IsAscending ks.now × (length ks.now ≡ length vs.now)
 
+-- whatever its variables give way to, the pattern stays as it is
+abbrev pub Stays : Pat → Type 0
+Stays e = (values : ℕ → Pat) → subst_of values e ≡ e
+
 -- what is made once the tasks are done
 abbrev pub outcome : (ℕ → Pat) → List Task → List (Option Pat) → List (Option Pat)
 outcome values [] made = made

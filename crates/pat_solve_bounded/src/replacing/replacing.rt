@@ -1,12 +1,14 @@
 // Variables replaced.
-ghost use Rattle.std.specs.Prelude.{◌≡◌, ◌<◌, ◌+◌, ◌*◌, ◌∷◌, ℕ, List, Option, IfOk, OnOk};
-ghost use Rattle.pat_words_spec.specs.Patterns.{Pat, subst_of};
+ghost use Rattle.std.specs.Prelude.{◌≡◌, ◌<◌, ◌+◌, ◌*◌, ◌∷◌, ◌||◌, ℕ, List, Option, IfOk, OnOk, IsTrue};
+ghost use Rattle.pat_words_spec.specs.Patterns.{Pat, subst_of, is_zero, is_one};
 ghost use Rattle.pat_patterns.specs.Views.{pattern_view};
 ghost use Rattle.pat_solve_bounded.specs.Limits.{within};
 ghost use Rattle.pat_solve_bounded.specs.Views.{limited_view, parts_view};
 ghost use Rattle.pat_words_spec.specs.Sizes.{size_of};
-ghost use Rattle.pat_solve_bounded.specs.replacing.Replacing.{replaced_by, IsReplacement, outcome, work};
+ghost use Rattle.pat_solve_bounded.specs.replacing.Replacing.{replaced_by, IsReplacement, Stays, outcome, work};
 
+use crate::part::square;
+use crate::replacing::derivatives::copied;
 use crate::replacing::joining::{join_product, join_star, join_sum};
 use crate::replacing::replacement::Replacement;
 use crate::{Measured, Part, product, star, sum};
@@ -39,11 +41,14 @@ pub fn replaced<'a>(
     requires { IsReplacement by.now }
     ensures { IfOk result (λ part. limited_view part ≡ within (subst_of (replaced_by by.now) (pattern_view p.now))) }
 {
+    if stays(p, MOST_CALLS) {
+        return copied(p);
+    }
     replaced_by_calls(alloc, p, by, MOST_CALLS)
 }
 
 /// The same by at most so many calls, one in the other.
-#[tactic(auto, using(crate::proofs::Turns::sum_turn, crate::proofs::Turns::prod_turn))]
+#[tactic(auto, using(crate::proofs::Turns::sum_turn, crate::proofs::Turns::prod_turn, crate::proofs::Turns::square_turn))]
 fn replaced_by_calls<'a>(
     alloc: Global,
     p: &Pattern,
@@ -67,9 +72,12 @@ fn replaced_by_calls<'a>(
             sum(alloc, left, right)
         }
         Pattern::Prod(left, right) => {
-            let left = replaced_by_calls(alloc, left, by, calls - 1)?;
-            let right = replaced_by_calls(alloc, right, by, calls - 1)?;
-            product(alloc, left, right)
+            let first = replaced_by_calls(alloc, left, by, calls - 1)?;
+            if left.is_same(right) {
+                return square(alloc, first);
+            }
+            let second = replaced_by_calls(alloc, right, by, calls - 1)?;
+            product(alloc, first, second)
         }
         Pattern::Star(part) => {
             let part = replaced_by_calls(alloc, part, by, calls - 1)?;
@@ -166,4 +174,37 @@ fn put_parts<'p>(
     tasks.push(joining)?;
     tasks.push(Task::Visit(right))?;
     tasks.push(Task::Visit(left))
+}
+
+/// Whether so many calls, one in the other, show that the pattern stays as it is: it has no variable, and is as the simplifying forms
+/// make it.
+#[tactic(auto, using(crate::proofs::Staying::sum_stays, crate::proofs::Staying::prod_stays, crate::proofs::Staying::star_stays))]
+fn stays(p: &Pattern, calls: u32) -> bool
+    ensures { IsTrue result → Stays (pattern_view p.now) }
+{
+    if calls == 0 {
+        return false;
+    }
+    match p {
+        Pattern::Zero | Pattern::One | Pattern::Tag(_) => true,
+        Pattern::Var(_) => false,
+        Pattern::Sum(left, right) => {
+            !left.is_zero()
+                && !right.is_zero()
+                && stays(left, calls - 1)
+                && stays(right, calls - 1)
+                && !left.is_same(right)
+        }
+        Pattern::Prod(left, right) => {
+            !is_unit(left) && !is_unit(right) && stays(left, calls - 1) && stays(right, calls - 1)
+        }
+        Pattern::Star(part) => !is_unit(part) && stays(part, calls - 1),
+    }
+}
+
+/// Whether the pattern is 0 or 1.
+fn is_unit(p: &Pattern) -> bool
+    ensures { result ≡ (is_zero (pattern_view p.now) || is_one (pattern_view p.now)) }
+{
+    p.is_zero() || p.is_one()
 }
