@@ -1,5 +1,5 @@
 // Types of terms and of variables.
-ghost use Rattle.std.specs.Prelude.{◌≡◌, option_map};
+ghost use Rattle.std.specs.Prelude.{◌≡◌, true, option_map};
 ghost use Rattle.pat_core.specs.Views.{program_view};
 ghost use Rattle.pat_semantics_spec.specs.Programs.{Program};
 ghost use Rattle.pat_primitives.specs.Views.{base_view, polarity_view};
@@ -182,12 +182,29 @@ fn read_like(
     ensures { Gives type_view (reading.read_used (program_view names.now.program.now) text.now) result }
 {
     match needs.last() {
-        Some((_, of)) if text == last => {
+        Some((_, of)) if are_same(text, last) => {
             let copy = of.copy()?;
             Ok(copy)
         }
         _ => read_used(alloc, names, text),
     }
+}
+
+/// Whether the texts are the same. Those of types are short, so they are compared byte by byte.
+fn are_same(first: &[u8], second: &[u8]) -> bool
+    ensures { result ≡ true → first.now ≡ second.now }
+{
+    if first.len() != second.len() {
+        return false;
+    }
+    let mut place = 0;
+    while place < first.len() {
+        if first[place] != second[place] {
+            return false;
+        }
+        place += 1;
+    }
+    true
 }
 
 /// A variable and its type more, if there is one. Gives the text of its type.

@@ -1,3 +1,4 @@
+mod Ordered
 mod Entries
 mod Gets
 mod Joined

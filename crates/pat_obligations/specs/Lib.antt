@@ -1,4 +1,5 @@
 pub use Rattle.pat_derivations.specs.environments.Lists
 pub mod Views
 pub mod Listed
+pub mod Ordered
 pub mod of_terms

@@ -1,6 +1,7 @@
 //! What each node of a derivation asks of the types that it has.
 #![tactic(auto)]
 
+mod along;
 mod asking;
 mod demand;
 mod looking;

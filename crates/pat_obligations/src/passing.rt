@@ -57,44 +57,27 @@ pub fn pass_names(
     put_passed(names, given, asked, &mut out.items)
 }
 
-/// The types of the variable in both parts of a let.
-fn find_in_both<'a>(
-    first: &LookUps<'a>,
-    second: &LookUps<'a>,
-    near: &mut (usize, usize),
-    variable: u32,
-) -> (Option<&'a MailboxType>, Option<&'a MailboxType>)
-    ensures first { option_map type_view (option_copied result.0) ≡ need_of (needs_view first.now.env.now) variable }
-    ensures second { option_map type_view (option_copied result.1) ≡ need_of (needs_view second.now.env.now) variable }
-{
-    let bound = first.find(&mut near.0, variable);
-    let body = second.find(&mut near.1, variable);
-    (bound, body)
-}
-
-/// So unless the variable is the name of the let.
-fn find_in_parts<'a>(
+/// The type of the variable in a part of a let, unless it is the let's own name.
+fn find_but<'a>(
     but: Option<u32>,
-    first: &LookUps<'a>,
-    second: &LookUps<'a>,
-    near: &mut (usize, usize),
+    part: &LookUps<'a>,
+    near: &mut usize,
     variable: u32,
-) -> (Option<&'a MailboxType>, Option<&'a MailboxType>)
-    ensures first { option_map type_view (option_copied result.0) ≡ without_name but (need_of (needs_view first.now.env.now)) variable }
-    ensures second { option_map type_view (option_copied result.1) ≡ without_name but (need_of (needs_view second.now.env.now)) variable }
+) -> Option<&'a MailboxType>
+    ensures { option_map type_view (option_copied result) ≡ without_name but (need_of (needs_view part.now.env.now)) variable }
 {
     match but {
-        None => find_in_both(first, second, near, variable),
+        None => part.find(near, variable),
         Some(name) => if name == variable {
-            (None, None)
+            None
         } else {
-            find_in_both(first, second, near, variable)
+            part.find(near, variable)
         },
     }
 }
 
 /// Each of the names is divided among the parts of a let of this name. There is room for all.
-fn put_divided<'a>(
+pub fn put_divided<'a>(
     names: &[u32],
     but: Option<u32>,
     given: &'a [(u32, MailboxType)],
@@ -113,26 +96,10 @@ fn put_divided<'a>(
     let mut near_parts = (0, 0);
     for name in names {
         let given = whole.find(&mut near, *name);
-        let (bound, body) = find_in_parts(but, &first, &second, &mut near_parts, *name);
+        let bound = find_but(but, &first, &mut near_parts.0, *name);
+        let body = find_but(but, &second, &mut near_parts.1, *name);
         out.push_reserved(Demand::Divide { given, bound, body });
     }
-}
-
-/// Each of the names is divided among the parts of a let of this name. Behind them there is room for the demand of the name.
-pub fn divide_names<'a>(
-    names: &[u32],
-    but: Option<u32>,
-    given: &'a [(u32, MailboxType)],
-    bound: &'a [(u32, MailboxType)],
-    body: &'a [(u32, MailboxType)],
-    out: &mut Sequence<Demand<'a>>,
-) -> Result<(), AllocError>
-    ensures { OnOk result (demands_view out.new
-        ≡ demands_view out.old ++ divides_in names.now but (needs_view given.now) (needs_view bound.now) (needs_view body.now)) }
-{
-    out.items.reserve(names.len() + 1)?;
-    put_divided(names, but, given, bound, body, &mut out.items);
-    Ok(())
 }
 
 /// The names that a part has, but that of its let.
@@ -169,20 +136,6 @@ fn put_there<'a>(
     }
 }
 
-fn there_names<'a>(
-    names: &[u32],
-    given: &'a [(u32, MailboxType)],
-    part: &'a [(u32, MailboxType)],
-    out: &mut Sequence<Demand<'a>>,
-) -> Result<(), AllocError>
-    ensures { OnOk result (demands_view out.new ≡ demands_view out.old
-        ++ theres_in names.now (needs_view given.now) (needs_view part.now)) }
-{
-    out.items.reserve(names.len())?;
-    put_there(names, given, part, &mut out.items);
-    Ok(())
-}
-
 /// The names of one part of a let are there, but that of the let.
 pub fn part_there<'a>(
     alloc: Global,
@@ -194,7 +147,9 @@ pub fn part_there<'a>(
     ensures { OnOk result (demands_view out.new ≡ demands_view out.old ++ listed_part (needs_view given.now) but (needs_view part.now)) }
 {
     let names = names_but(alloc, but, part)?;
-    there_names(names.as_slice(), given, part, out)
+    out.items.reserve(names.len())?;
+    put_there(names.as_slice(), given, part, &mut out.items);
+    Ok(())
 }
 
 fn pass_to_env(

@@ -10,11 +10,12 @@ ghost use Rattle.pat_types.specs.Views.{type_view, result_view, needs_view};
 ghost use Rattle.pat_obligations.specs.Lists.{with_others};
 ghost use Rattle.pat_derivations.specs.Views.{line_view, derivation_view};
 ghost use Rattle.pat_obligations.specs.Views.{demands_view, signature_view};
-ghost use Rattle.pat_obligations.specs.Listed.{listed_name, listed_named, listed_call, listed_send, listed_target, listed_let, listed_clause, listed_free, free_before, waits_after, free_last, listed_one, listed_clauses, listed_bodies, listed_guard, listed_first};
+ghost use Rattle.pat_obligations.specs.Listed.{listed_name, listed_call, listed_send, listed_target, listed_let, let_names, divides_in, listed_clause, listed_free, free_before, waits_after, free_last, listed_one, listed_clauses, listed_bodies, listed_guard, listed_first};
 
+use crate::along::divide_along;
 use crate::asking::{clause_given, params_given, value_asked};
 use crate::passing::{
-    divide_names, drop_all, part_there, pass_asked, pass_names, pass_result, pass_to_part,
+    drop_all, part_there, pass_asked, pass_names, pass_result, pass_to_part, put_divided,
 };
 use crate::{Demand, Signature, kind_of, line_of, push_arguments, signature_of, tag_of};
 use pat_core::{Clause, Expr, Kind, Program, TagDecl};
@@ -135,28 +136,6 @@ fn name_of_kind<'a>(
     }
 }
 
-fn name<'a>(
-    kinds: &[Kind],
-    bound: &'a DerivedNode,
-    body: &'a DerivedNode,
-    name: Option<u32>,
-    out: &mut Sequence<Demand<'a>>,
-) -> Result<(), AllocError>
-    ensures { OnOk result (demands_view out.new ≡ demands_view out.old
-        ++ listed_named (map kind_view kinds.now) (line_view bound.now) (line_view body.now) name) }
-{
-    match name {
-        None => Ok(()),
-        Some(name) => name_of_kind(
-            kind_of(kinds, name),
-            &bound.of.result,
-            body.of.env.as_slice(),
-            name,
-            out,
-        ),
-    }
-}
-
 /// A let, whose parts have these lines.
 pub fn let_in<'a>(
     alloc: Global,
@@ -179,35 +158,52 @@ pub fn let_in<'a>(
         },
         Some(bound) => match body {
             None => part_there(alloc, but, env, bound.of.env.as_slice(), out),
-            Some(body) => both_parts(alloc, kinds, env, but, bound, body, out),
+            Some(body) => {
+                divide(
+                    alloc,
+                    but,
+                    env,
+                    bound.of.env.as_slice(),
+                    body.of.env.as_slice(),
+                    out,
+                )?;
+                match but {
+                    None => Ok(()),
+                    Some(name) => name_of_kind(
+                        kind_of(kinds, name),
+                        &bound.of.result,
+                        body.of.env.as_slice(),
+                        name,
+                        out,
+                    ),
+                }
+            }
         },
     }
 }
 
-fn both_parts<'a>(
+/// All names are divided among the parts of a let of this name. Mostly one walk does it.
+fn divide<'a>(
     alloc: Global,
-    kinds: &[Kind],
-    env: &'a [(u32, MailboxType)],
     but: Option<u32>,
-    bound: &'a DerivedNode,
-    body: &'a DerivedNode,
+    env: &'a [(u32, MailboxType)],
+    bound: &'a [(u32, MailboxType)],
+    body: &'a [(u32, MailboxType)],
     out: &mut Sequence<Demand<'a>>,
 ) -> Result<(), AllocError>
     ensures { OnOk result (demands_view out.new ≡ demands_view out.old
-        ++ listed_let (map kind_view kinds.now) (needs_view env.now) but (Some (line_view bound.now)) (Some (line_view body.now))) }
+        ++ divides_in (let_names (needs_view env.now) but (needs_view bound.now) (needs_view body.now)) but (needs_view env.now)
+        (needs_view bound.now) (needs_view body.now)) }
 {
+    if divide_along(but, env, bound, body, out)? {
+        return Ok(());
+    }
     let own = names_of(alloc, env)?;
-    let first = with_names_of(alloc, own, but, bound.of.env.as_slice())?;
-    let all = with_names_of(alloc, first, but, body.of.env.as_slice())?;
-    divide_names(
-        all.as_slice(),
-        but,
-        env,
-        bound.of.env.as_slice(),
-        body.of.env.as_slice(),
-        out,
-    )?;
-    name(kinds, bound, body, but, out)
+    let first = with_names_of(alloc, own, but, bound)?;
+    let all = with_names_of(alloc, first, but, body)?;
+    out.items.reserve(all.len())?;
+    put_divided(all.as_slice(), but, env, bound, body, &mut out.items);
+    Ok(())
 }
 
 /// A receive clause of a guard.
@@ -453,19 +449,9 @@ pub fn first(
         ≡ demands_view out.old ++ listed_first count (map (option_map type_view) types.now) (needs_view env.now)) }
 {
     let given = params_given(alloc, types)?;
-    let names = first_names(alloc, count, env)?;
-    pass_names(names.as_slice(), given.as_slice(), env, out)
-}
-
-fn first_names(
-    alloc: Global,
-    count: usize,
-    env: &[(u32, MailboxType)],
-) -> Result<Sequence<u32>, AllocError>
-    ensures { IfOk result (λ names. names ≡ with_others (range_with_len 0 count) (keys_of (needs_view env.now))) }
-{
     let parameters = numbers(alloc, count)?;
-    with_names_of(alloc, parameters, None, env)
+    let names = with_names_of(alloc, parameters, None, env)?;
+    pass_names(names.as_slice(), given.as_slice(), env, out)
 }
 
 /// The numbers below the count.
