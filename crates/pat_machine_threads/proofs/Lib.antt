@@ -11,3 +11,4 @@ pub use Rattle.pat_machine_laws.proofs.Steps
 mod Apart
 mod Copying
 mod InPlace
+mod Lets

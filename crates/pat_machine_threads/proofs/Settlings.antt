@@ -16,7 +16,7 @@ use Rattle.pat_machine_threads.specs.declared.settling.Settled.{Settled}
 use Rattle.pat_machine_threads.specs.Settling.{IsRunOnTop, IsBegun, IsRunOn, RunsOn, Uncovers}
 
 -- local steps, and further ones from there
-locals_on : (p : Program) (j k : ℕ) (s b r : Thread) → locally p j s ≡ Some b → locally p k b ≡ Some r → locally p (j + k) s ≡ Some r
+pub locals_on : (p : Program) (j k : ℕ) (s b r : Thread) → locally p j s ≡ Some b → locally p k b ≡ Some r → locally p (j + k) s ≡ Some r
 locals_on p zero k s b r h g =
     let same : s ≡ b = cc in
     let all : 0 + k ≡ k = omega arith in

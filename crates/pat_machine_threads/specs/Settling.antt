@@ -1,7 +1,8 @@
 -- A thread after local steps of its top.
-use Rattle.std.specs.Prelude.{◌≡◌, ℕ, ◌+◌, ◌-◌, ◌<◌, ◌≤◌, ◌⊎◌, [], length, take, Some}
+use Rattle.std.specs.Prelude.{◌≡◌, ℕ, ◌+◌, ◌-◌, ◌<◌, ◌≤◌, ◌⊎◌, [], length, take, Some, None}
 use Rattle.pat_semantics_spec.specs.Programs.{Program}
 use Rattle.pat_semantics_spec.specs.Configs.{Thread}
+use Rattle.pat_semantics_spec.specs.Steps.{local_step}
 use Rattle.pat_reduce.specs.threads.ThreadViews.{thread_view}
 use Rattle.pat_machine_spec.specs.Commits.{IsLocalRun, locally}
 use Rattle.pat_machine_spec.specs.Tops.{below, over, top_of}
@@ -35,3 +36,9 @@ pub record Uncovers (kept : Thread) (old new : Settled) : Type 0 where
   pub gone : new.gone ≡ old.gone + 1
   pub steps : new.steps ≡ old.steps
   pub below : thread_view new.end ≡ over (thread_view old.end) (take 1 (below old.gone kept))
+
+-- so many local steps within the allowance; none only where there is none
+pub record Advances (p : Program) (allowance : ℕ) (s : Thread) (k : ℕ) (r : Thread) : Type 0 where
+  pub taken : locally p k s ≡ Some r
+  pub within : k ≤ allowance
+  pub none : k ≡ 0 → local_step p r ≡ None

@@ -1,14 +1,19 @@
 // Local steps of a thread outside a configuration.
-ghost use Rattle.std.specs.Prelude.{◌≡◌, IfOk, IfErr};
+ghost use Rattle.std.specs.Prelude.{◌≡◌, ◌<◌, [], ◌∷◌, Some, filter, not, IfOk, IfErr, OnOk, IsTrue, IsFalse};
+ghost use Rattle.pat_semantics_spec.specs.Programs.{is_among, keep};
+ghost use Rattle.pat_semantics_spec.specs.Steps.{bind_name, frame_of};
 ghost use Rattle.pat_reduce.specs.threads.Views.{program_view};
 ghost use Rattle.pat_reduce.specs.threads.ThreadViews.{thread_view};
-ghost use Rattle.pat_machine_spec.specs.Commits.{IsLocalRun};
+ghost use Rattle.pat_reduce_values.specs.ValueViews.{env_view, value_view};
+ghost use Rattle.pat_machine_spec.specs.Commits.{IsLocalRun, locally};
 ghost use Rattle.pat_machine_threads.specs.Handed.{hands_back};
+ghost use Rattle.pat_machine_threads.specs.Settling.{Advances};
 
 use crate::copies::copy_state;
 use crate::error::LocalError;
-use pat_reduce::{StepError, ThreadState};
-use pat_reduce_values::Executable;
+use pat_reduce::{Control, Core, StepError, ThreadState, Value, core_of};
+use pat_reduce_values::{Executable, bind, keep_free, value_for};
+use pat_sequences::Sequence;
 use std::alloc::{AllocError, Global};
 
 /// The state that local steps began with, what they made of it, and how many they were.
@@ -52,12 +57,97 @@ pub fn run_locally(
 ) -> Result<u32, AllocError>
     ensures { IfOk result (λ n. IsLocalRun (program_view code.now.program) allowance (thread_view state.old) n (thread_view state.new)) }
 {
-    for steps in 0..allowance {
-        match state.step_locally(alloc, code) {
-            Ok(()) => {}
-            Err(StepError::Disabled) => return Ok(steps),
-            Err(StepError::NoMemory) => return Err(AllocError),
+    let mut steps = 0;
+    while steps < allowance {
+        let more = advance(alloc, code, state, allowance - steps)?;
+        if more == 0 {
+            return Ok(steps);
+        }
+        steps += more;
+    }
+    Ok(steps)
+}
+
+// A local step, or the two of a `let` of a value where both are allowed; none only where there is none.
+fn advance(
+    alloc: Global,
+    code: &Executable,
+    state: &mut ThreadState,
+    allowance: u32,
+) -> Result<u32, AllocError>
+    requires { 0 < allowance }
+    ensures { IfOk result (λ n. Advances (program_view code.now.program) allowance (thread_view state.old) n (thread_view state.new)) }
+{
+    // Most steps stand at no `let`, which takes no call.
+    let is_let = match &state.control {
+        Control::Node { node, .. } => matches!(core_of(code, *node), Some(Core::Let { .. })),
+        Control::Returned(_) => false,
+    };
+    if is_let && allowance > 1 {
+        let is_bound = bind_value(alloc, code, state)?;
+        if is_bound {
+            return Ok(2);
         }
     }
-    Ok(allowance)
+    match state.step_locally(alloc, code) {
+        Ok(()) => Ok(1),
+        Err(StepError::Disabled) => Ok(0),
+        Err(StepError::NoMemory) => Err(AllocError),
+    }
+}
+
+// Whether a `let` of an expression that has a value stands there, whose two steps are then taken, with no frame between them.
+fn bind_value(alloc: Global, code: &Executable, state: &mut ThreadState) -> Result<bool, AllocError>
+    ensures yes { IfOk result (λ b. IsTrue b → locally (program_view code.now.program) 2 (thread_view state.old) ≡ Some (thread_view state.new)) }
+    ensures no { IfOk result (λ b. IsFalse b → thread_view state.new ≡ thread_view state.old) }
+{
+    let Control::Node { node, env } = &mut state.control else {
+        return Ok(false);
+    };
+    let Some(Core::Let { var, bound, body }) = core_of(code, *node) else {
+        return Ok(false);
+    };
+    let Some(Core::Value(e)) = core_of(code, *bound) else {
+        return Ok(false);
+    };
+    match value_for(alloc, e, env.as_slice()) {
+        Ok(value) => {
+            enter_body(code, *body, *var, value, env)?;
+            *node = *body;
+            Ok(true)
+        }
+        Err(StepError::Disabled) => Ok(false),
+        Err(StepError::NoMemory) => Err(AllocError),
+    }
+}
+
+// The body of a `let` goes on with its part of the values and the value that was bound. An error may leave anything.
+fn enter_body(
+    code: &Executable,
+    body: u32,
+    var: Option<u32>,
+    value: Value,
+    env: &mut Sequence<(u32, Value)>,
+) -> Result<(), AllocError>
+    ensures { OnOk result (env_view env.new ≡ keep (program_view code.now.program) body
+        (bind_name (frame_of (program_view code.now.program) var body (env_view env.old)).env var (value_view value))) }
+{
+    keep_free(code, body, env);
+    match var {
+        Some(variable) => {
+            drop_variable(env, variable);
+            if code.is_free(variable, body) {
+                bind(env, variable, value)?;
+            }
+            Ok(())
+        }
+        None => Ok(()),
+    }
+}
+
+// An earlier value of the variable is left out.
+fn drop_variable(env: &mut Sequence<(u32, Value)>, variable: u32)
+    ensures { env_view env.new ≡ filter (λ b. not (is_among b.0 (variable ∷ []))) (env_view env.old) }
+{
+    env.items.retain(|entry| entry.0 != variable);
 }

@@ -83,8 +83,7 @@ fn uncover(alloc: Global, kept: &ThreadState, settled: &mut Settled) -> Result<(
     Ok(())
 }
 
-// A copy of the kept control, and no step; or first steps that are taken without a copy of the control: a frame goes on with the value
-// that is there, a call enters its function, and a let goes on with its bound term.
+// A copy of the kept control; or first steps without one: a frame goes on with the value, a call is entered, a let goes to its bound term.
 fn begin(
     alloc: Global,
     code: &Executable,
@@ -134,8 +133,7 @@ fn unmoved(alloc: Global, kept: &ThreadState) -> Result<Settled, AllocError>
     })
 }
 
-// Whether the frame goes on at a let or a call with the values that it has, none of them left out, and with no name for the one that it
-// waits for.
+// Whether the frame goes on at a let or a call with just the values that it has, and with no name for the one that it waits for.
 fn leads_on(code: &Executable, frame: &Frame) -> bool
     ensures { IsTrue result → (v : ValueOf) → at_node (program_view code.now.program) frame.now.body (bind_name (frame_view frame.now).env (frame_view frame.now).var v) ≡ Running frame.now.body (env_view frame.now.env) }
 {

@@ -1,4 +1,4 @@
-use Rattle.std.proofs.Common.{arith, ◌≡◌, ◌++◌, ap, sym, ◌∙◌, nat_eq, drop, length, map}
+use Rattle.std.proofs.Common.{arith, ◌≡◌, ◌++◌, ap, sym, ◌∙◌, nat_eq, drop, map}
 use Rattle.std.specs.Map.{set_value}
 use Rattle.std.proofs.lemmas.List.{length-map, map-append, drop-map}
 use Rattle.pat_semantics_spec.specs.Configs.{Thread}
