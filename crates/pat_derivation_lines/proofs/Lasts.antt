@@ -40,7 +40,7 @@ pub read_again : (p : Program) (needs : List (ℕ × CodeType)) (text last : Lis
 read_again p needs text last n copy there is_last same copied =
     let place : length (needs_view needs) - 1 ≡ length needs - 1 = ap (λ (k : ℕ). k - 1) (length-map needs need_view) in
     let seen : slice_get (needs_view needs) (length (needs_view needs) - 1) ≡ Some (need_view n) =
-      ap (slice_get (needs_view needs)) place ∙ slice_get-map need_view needs (length needs - 1) ∙ ap (option_map need_view) (sym there) in
+    ap (slice_get (needs_view needs)) place ∙ slice_get-map need_view needs (length needs - 1) ∙ ap (option_map need_view) (sym there) in
     ap (read_used p) same ∙ is_last (need_view n) seen ∙ ap Some (sym copied)
 
 -- a variable more
