@@ -62,6 +62,34 @@ found_read board entries s r c had has b best none made =
       );
     }
 
+-- ---- what is within the limit, and what is larger
+
+module _ (g : Setting) (entries : List ℕ) (s r : ℕ) where
+  more_missing : (d : ℕ) → IsMissing g entries s r g.limit d → IsMissing g entries s r (g.limit + 1) d
+  more_missing d missing = (missing.0, (let l = missing.1 in omega arith), missing.2)
+
+  pub within_limit : (c : ℕ) → IsFirstLeast g entries s r (g.limit + 1) c → entry_at g entries s c ≤ g.limit → IsFirstLeast g entries s r g.limit c
+  within_limit c best small = record {
+    missing = (best.missing.0, small, best.missing.2);
+    least = λ d missing. best.least d (more_missing d missing);
+    first = λ d before missing. best.first d before (more_missing d missing);
+  }
+
+module _ (b : Board) (entries : List ℕ) (s r : ℕ) where
+  pub larger_alone : (c : ℕ) → IsFirstLeast (setting_of b) entries s r (b.limit + 1) c → b.limit < entry_at (setting_of b) entries s c → IsReading b entries s r LargeAnswer
+  larger_alone c best more = record {
+    read = (
+      (c, best.missing),
+      λ d missing. let k = best.least d (more_missing (setting_of b) entries s r d missing) in let l = missing.1 in omega arith,
+    );
+  }
+
+  pub not_larger : (c : ℕ) → IsMissing (setting_of b) entries s r (b.limit + 1) c → entry_at (setting_of b) entries s c ≤ b.limit → IsReading b entries s r LargeAnswer → ⊥
+  not_larger c missing small h = h.read.1 c (missing.0, small, missing.2)
+
+  pub none_larger : ((c : ℕ) → IsMissing (setting_of b) entries s r (b.limit + 1) c → ⊥) → IsReading b entries s r LargeAnswer → ⊥
+  none_larger none h = none h.read.0.0 h.read.0.1
+
 -- ---- by the law of searches
 
 module _ (g : Setting) (entries : List ℕ) (lower : ℕ → Pat) (left right : Pat) (s r : ℕ) (law : SearchLaw) (done : IsDone g (table_of g entries)) (flat : IsFlatOf lower g.flat) (sl : Stands g.flat.symbols LowerSymbol left s) (sr : Stands g.flat.symbols LowerSymbol right r) (fr : is_flat right ≡ true) (dr : degree_of right < g.bound) where

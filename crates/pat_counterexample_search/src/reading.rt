@@ -35,8 +35,11 @@ pub fn read_answer(
     requires { IsReady board.now entries.now }
     ensures { IfOk result (λ answer. IsReading board.now entries.now left right (search_view answer)) }
 {
-    match find_missing(board, entries, left, right, board.limit) {
+    match find_missing(board, entries, left, right) {
         Some(number) => {
+            if entry(board, entries, left, number) > board.limit {
+                return Ok(Search::Large);
+            }
             let mut word = Bag::empty();
             let place = Place {
                 symbol: left,
@@ -45,10 +48,7 @@ pub fn read_answer(
             let tree = rebuild(alloc, board, entries, place, &mut word)?;
             Ok(Search::Found(Refutation { word, tree }))
         }
-        None => match find_missing(board, entries, left, right, board.limit + 1) {
-            Some(_) => Ok(Search::Large),
-            None => Ok(Search::Inside),
-        },
+        None => Ok(Search::Inside),
     }
 }
 
@@ -58,39 +58,26 @@ pub fn is_large(board: &Board, entries: &SparseList<u16>, left: usize, right: us
     requires all { HasAllEntries (setting_of board.now) entries.now }
     ensures { IsFalse result → IsReading board.now entries.now left right LargeAnswer → ⊥ }
 {
-    match find_missing(board, entries, left, right, board.limit) {
-        Some(_) => false,
-        None => is_any_missing(board, entries, left, right),
-    }
-}
-
-/// Whether the left side has a tree at a point at which the right side has none.
-fn is_any_missing(board: &Board, entries: &SparseList<u16>, left: usize, right: usize) -> bool
-    requires board { IsBoard board.now }
-    requires all { HasAllEntries (setting_of board.now) entries.now }
-    ensures { IsFalse result → (c : ℕ) → IsMissing (setting_of board.now) entries.now left right (board.now.limit + 1) c → ⊥ }
-{
-    match find_missing(board, entries, left, right, board.limit + 1) {
-        Some(_) => true,
+    match find_missing(board, entries, left, right) {
+        Some(number) => entry(board, entries, left, number) > board.limit,
         None => false,
     }
 }
 
-/// The number of a point at which the left side has a tree of this size at most, and the right side has none: of these one
-/// whose tree is least, and of those the first.
+/// The number of a point at which the left side has a tree, and the right side has none: of these one whose tree is least, and of those
+/// the first. A tree larger than the limit counts as one more.
 fn find_missing(
     board: &Board,
     entries: &SparseList<u16>,
     left: usize,
     right: usize,
-    most: u16,
 ) -> Option<usize>
     requires board { IsBoard board.now }
     requires all { HasAllEntries (setting_of board.now) entries.now }
-    requires most { most ≤ board.now.limit + 1 }
-    ensures some { IfSome result (λ number. IsFirstLeast (setting_of board.now) entries.now left right most number) }
-    ensures none { IfNone result ((c : ℕ) → IsMissing (setting_of board.now) entries.now left right most c → ⊥) }
+    ensures some { IfSome result (λ number. IsFirstLeast (setting_of board.now) entries.now left right (board.now.limit + 1) number) }
+    ensures none { IfNone result ((c : ℕ) → IsMissing (setting_of board.now) entries.now left right (board.now.limit + 1) c → ⊥) }
 {
+    let most = board.limit + 1;
     let mut best = Best {
         found: None,
         above: most + 1,

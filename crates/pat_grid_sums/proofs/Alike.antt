@@ -44,33 +44,7 @@ firsts_are_all s ones moved sums h =
     (f.0, omega arith, (f.3, (t.0, t.1, (sym f.2, t.2)))))
     (has_all (AnyBefore (IsFirstSum ones moved s) (length ones)) s.words sums h)
 
--- a word without a bit
-pub none_alike : (s : Shape) (ones : List ℕ) (moved : List (List ℕ)) (i : ℕ) (x : List ℕ) → get_or ones i 0 ≡ 0 → Puts (IsFirstSum ones moved s i) x x
-none_alike s ones moved i x none =
-    puts_none (IsFirstSum ones moved s i) x
-    (λ a q t.
-    let own = t.1.2 in
-    let sum = own.1 in
-    let zero_is : get_or ones t.1.0 0 ≡ 0 = own.0 ∙ none in
-    let one = subst (λ b. bit_at b sum.0 ≡ 1) zero_is sum.3 in
-    let z = bit_at-zero sum.0 in
-    absurd (omega arith))
-
--- a word that isn't the first
-pub not_first : (s : Shape) (ones : List ℕ) (moved : List (List ℕ)) (i : ℕ) (x : List ℕ) → (IsFirst ones i → ⊥) → Puts (IsFirstSum ones moved s i) x x
-not_first s ones moved i x n = puts_none (IsFirstSum ones moved s i) x (λ a q t. n t.0)
-
 -- a word that is
 pub are_first : (s : Shape) (ones : List ℕ) (moved : List (List ℕ)) (i : ℕ) (x y : List ℕ) → IsFirst ones i → Puts (AnyBefore (IsAlikeSum ones moved s i) (length ones)) x y → Puts (IsFirstSum ones moved s i) x y
 are_first s ones moved i x y first h =
     puts_as (AnyBefore (IsAlikeSum ones moved s i) (length ones)) (IsFirstSum ones moved s i) x y (λ a q t. (first, t)) (λ a q t. t.1) h
-
--- another word that isn't the same
-pub not_alike : (s : Shape) (ones : List ℕ) (moved : List (List ℕ)) (i j : ℕ) (x : List ℕ) → (get_or ones j 0 ≡ get_or ones i 0 → ⊥) → Puts (IsAlikeSum ones moved s i j) x x
-not_alike s ones moved i j x n = puts_none (IsAlikeSum ones moved s i j) x (λ a q t. n t.0)
-
--- another word that is
-pub are_alike : (s : Shape) (ones : List ℕ) (moved : List (List ℕ)) (words row x y : List ℕ) (i j : ℕ) → s.words ≡ points_in s.k s.high → get_or ones j 0 ≡ get_or ones i 0 → IsRow s.k s.high j row → IsGathered moved s (get_or ones i 0) words → Puts (AnyBefore (IsJoined words row) (length row)) x y → Puts (IsAlikeSum ones moved s i j) x y
-are_alike s ones moved words row x y i j count same row_is gathered h =
-    puts_as (IsRowSum ones moved s j) (IsAlikeSum ones moved s i j) x y (λ a q t. (same, t)) (λ a q t. t.1)
-    (row_sums s ones moved words row x y j count row_is (subst (λ b. IsGathered moved s b words) (sym same) gathered) h)

@@ -8,8 +8,8 @@ loop-number-init c =
     let g = setting_of c.args.board.now in
     let first = c.next_known-number.ensures in (
       first.within,
-      goes_on g c.args.entries.now c.args.left c.args.right c.args.most 0 c.next_known-number.result None (c.args.most + 1) c.requires.most first.before
-          (begins g c.args.entries.now c.args.left c.args.right c.args.most),
+      goes_on g c.args.entries.now c.args.left c.args.right (c.args.board.now.limit + 1) 0 c.next_known-number.result None (c.args.board.now.limit + 1 + 1) (omega arith) first.before
+          (begins g c.args.entries.now c.args.left c.args.right (c.args.board.now.limit + 1)),
     )
 
 pub loop-number-preserved : goal.loop-number-preserved
@@ -17,18 +17,18 @@ loop-number-preserved c =
     let g = setting_of c.args.board.now in
     let next = c.next_known-number-in-loop-number.ensures in (
       next.within,
-      goes_on g c.args.entries.now c.args.left c.args.right c.args.most (c.loop-number.number + 1) c.next_known-number-in-loop-number.result c.better-best.result.found c.better-best.result.above c.requires.most next.before
-          (c.better-best.ensures c.args.most c.loop-number.invariant.1),
+      goes_on g c.args.entries.now c.args.left c.args.right (c.args.board.now.limit + 1) (c.loop-number.number + 1) c.next_known-number-in-loop-number.result c.better-best.result.found c.better-best.result.above (omega arith) next.before
+          (c.better-best.ensures (c.args.board.now.limit + 1) c.loop-number.invariant.1),
     )
 
 pub returns-clause-some : goal.returns-clause-some
 returns-clause-some c =
     let past = c.loop-number-test.false in
     let points = c.requires.board.points in
-    some_end (setting_of c.args.board.now) c.args.entries.now c.args.left c.args.right c.args.most c.loop-number.number c.loop-number.best.above c.loop-number.best.found (omega (arith, past, points)) c.loop-number.invariant.1
+    some_end (setting_of c.args.board.now) c.args.entries.now c.args.left c.args.right (c.args.board.now.limit + 1) c.loop-number.number c.loop-number.best.above c.loop-number.best.found (omega (arith, past, points)) c.loop-number.invariant.1
 
 pub returns-clause-none : goal.returns-clause-none
 returns-clause-none c =
     let past = c.loop-number-test.false in
     let points = c.requires.board.points in
-    none_end (setting_of c.args.board.now) c.args.entries.now c.args.left c.args.right c.args.most c.loop-number.number c.loop-number.best.above c.loop-number.best.found (omega (arith, past, points)) c.loop-number.invariant.1
+    none_end (setting_of c.args.board.now) c.args.entries.now c.args.left c.args.right (c.args.board.now.limit + 1) c.loop-number.number c.loop-number.best.above c.loop-number.best.found (omega (arith, past, points)) c.loop-number.invariant.1
