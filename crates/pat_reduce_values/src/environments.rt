@@ -120,8 +120,8 @@ pub fn keep_free(code: &Executable, node: u32, env: &mut Sequence<(u32, Value)>)
     env.items.retain(|entry| free.contains(entry.0));
 }
 
-/// Whether each of these values is one of a free variable of the node.
-pub fn are_free(code: &Executable, node: u32, env: &[(u32, Value)]) -> bool
+// Whether each of these values is one of a free variable of the node.
+fn are_free(code: &Executable, node: u32, env: &[(u32, Value)]) -> bool
     ensures { IsTrue result → keep (program_view code.now.program) node (env_view env.now) ≡ env_view env.now }
 {
     let free = code.free_in(node);
