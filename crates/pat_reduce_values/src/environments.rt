@@ -1,14 +1,14 @@
 // Environments: values of variables, in ascending order of variable.
-ghost use Rattle.std.specs.Prelude.{◌≡◌, [], ◌∷◌, ◌++◌, length, map, slice_get, IfOk, OnOk};
+ghost use Rattle.std.specs.Prelude.{◌≡◌, [], ◌∷◌, ◌++◌, length, map, slice_get, IfOk, OnOk, IsTrue};
 ghost use Rattle.pat_primitives.specs.Values.{bind, bind_all};
 ghost use Rattle.pat_primitives.specs.Programs.{keep};
 ghost use Rattle.pat_primitives.specs.Steps.{bind_name};
 ghost use Rattle.pat_core.specs.Views.{program_view};
-ghost use Rattle.pat_reduce_values.specs.ValueViews.{value_view, env_view};
+ghost use Rattle.pat_reduce_values.specs.ValueViews.{value_view, reference_view, env_view};
 ghost use Rattle.pat_reduce_values.specs.Environments.{keep_but, IsPlaceFor, stands_at};
 
-use crate::Value;
 use crate::programs::Executable;
+use crate::{Value, ValueRef};
 use pat_sequences::Sequence;
 use std::alloc::{AllocError, Global};
 
@@ -43,36 +43,56 @@ pub fn kept_but(
     };
     own.items
         .reserve(free.listed.len().saturating_sub(left_out))?;
+    let mut place = 0;
     for entry in env {
-        if free.contains(entry.0) && var != Some(entry.0) {
-            push_copy(alloc, &mut own, entry)?;
+        let (is_free, next) = free.look_up(place, entry.0);
+        place = next;
+        if is_free && var != Some(entry.0) {
+            push_value(alloc, &mut own, entry.0, entry.1.borrow())?;
         }
     }
     Ok(own)
 }
 
+/// Puts a copy of a value behind those of an environment.
 #[inline(always)]
+pub fn push_value(
+    alloc: Global,
+    values: &mut Sequence<(u32, Value)>,
+    variable: u32,
+    value: ValueRef<'_>,
+) -> Result<(), AllocError>
+    ensures { OnOk result (env_view values.new ≡ env_view values.old ++ (variable, reference_view value.entry) ∷ []) }
+{
+    // Most are integers and mailboxes: these are put in place at once, with no result between that may be an error.
+    match value {
+        ValueRef::Int(n) => {
+            values.items.reserve(1)?;
+            values.items.push_reserved((variable, Value::Int(n)));
+            Ok(())
+        }
+        ValueRef::Mailbox(mailbox) => {
+            values.items.reserve(1)?;
+            values
+                .items
+                .push_reserved((variable, Value::Mailbox(mailbox)));
+            Ok(())
+        }
+        value => push_copy(alloc, values, variable, value),
+    }
+}
+
 fn push_copy(
     alloc: Global,
-    own: &mut Sequence<(u32, Value)>,
-    entry: &(u32, Value),
+    values: &mut Sequence<(u32, Value)>,
+    variable: u32,
+    value: ValueRef<'_>,
 ) -> Result<(), AllocError>
-    ensures { OnOk result (env_view own.new ≡ env_view own.old ++ (entry.now.0, value_view entry.now.1) ∷ []) }
+    ensures { OnOk result (env_view values.new ≡ env_view values.old ++ (variable, reference_view value.entry) ∷ []) }
 {
-    own.items.reserve(1)?;
-    // Most are integers and mailboxes: these are put in place at once, with no result between that may be an error.
-    let value = match &entry.1 {
-        Value::Int(n) => {
-            own.items.push_reserved((entry.0, Value::Int(*n)));
-            return Ok(());
-        }
-        Value::Mailbox(mailbox) => {
-            own.items.push_reserved((entry.0, Value::Mailbox(*mailbox)));
-            return Ok(());
-        }
-        value => value.copy(alloc)?,
-    };
-    own.items.push_reserved((entry.0, value));
+    values.items.reserve(1)?;
+    let own = value.to_value(alloc)?;
+    values.items.push_reserved((variable, own));
     Ok(())
 }
 
@@ -83,7 +103,7 @@ pub fn copied(alloc: Global, env: &[(u32, Value)]) -> Result<Sequence<(u32, Valu
     let mut own = Sequence::new(alloc);
     own.items.reserve(env.len())?;
     for entry in env {
-        push_copy(alloc, &mut own, entry)?;
+        push_value(alloc, &mut own, entry.0, entry.1.borrow())?;
     }
     Ok(own)
 }
@@ -92,11 +112,32 @@ pub fn copied(alloc: Global, env: &[(u32, Value)]) -> Result<Sequence<(u32, Valu
 pub fn keep_free(code: &Executable, node: u32, env: &mut Sequence<(u32, Value)>)
     ensures { env_view env.new ≡ keep (program_view code.now.program) node (env_view env.old) }
 {
+    // Mostly there are no others.
+    if are_free(code, node, env.as_slice()) {
+        return;
+    }
     let free = code.free_in(node);
     env.items.retain(|entry| free.contains(entry.0));
 }
 
+// Whether each of these values is one of a free variable of the node.
+fn are_free(code: &Executable, node: u32, env: &[(u32, Value)]) -> bool
+    ensures { IsTrue result → keep (program_view code.now.program) node (env_view env.now) ≡ env_view env.now }
+{
+    let free = code.free_in(node);
+    let mut place = 0;
+    for entry in env {
+        let (is_free, next) = free.look_up(place, entry.0);
+        place = next;
+        if !is_free {
+            return false;
+        }
+    }
+    true
+}
+
 /// The environment where the variable, if there is one, has this value.
+#[inline(always)]
 pub fn bound(
     alloc: Global,
     env: &[(u32, Value)],

@@ -7,6 +7,7 @@ ghost use Rattle.pat_reduce_values.specs.ValueViews.{value_view, reference_view,
 ghost use Rattle.pat_reduce_values.specs.Environments.{parameter, parameters_from};
 ghost use Rattle.pat_reduce_values.specs.Results.{Gives};
 
+use crate::environments::push_value;
 use crate::lookups::{is_by_halves, value_in};
 use crate::{StepError, Value, ValueRef};
 use pat_core::Expr;
@@ -41,8 +42,8 @@ pub fn evaluate<'a>(e: &'a Expr, env: &'a [(u32, Value)]) -> Option<ValueRef<'a>
     }
 }
 
-// The same of an argument: most are variables, which take no call.
-fn argument<'a>(e: &'a Expr, env: &'a [(u32, Value)]) -> Option<ValueRef<'a>>
+/// The same of an argument: most are variables, which take no call.
+pub fn argument<'a>(e: &'a Expr, env: &'a [(u32, Value)]) -> Option<ValueRef<'a>>
     ensures { option_map reference_view result ≡ eval (env_view env.now) (expr_view e.now) }
 {
     match e {
@@ -121,7 +122,10 @@ pub fn values_of(
     let by_halves = is_by_halves(args, env);
     let mut values = Sequence::new(alloc);
     for e in args {
-        values.push(value_in(alloc, e, env, by_halves)?)?;
+        match value_in(e, env, by_halves) {
+            Some(value) => values.push(value.to_value(alloc)?)?,
+            None => return Err(StepError::Disabled),
+        }
     }
     Ok(values)
 }
@@ -137,25 +141,27 @@ pub fn parameters(
 {
     let by_halves = is_by_halves(args, env);
     let mut values = Sequence::new(alloc);
+    values.items.reserve(args.len())?;
     for (number, e) in args.iter().enumerate() {
-        push_parameter(&mut values, number, value_in(alloc, e, env, by_halves)?)?;
+        match value_in(e, env, by_halves) {
+            Some(value) => push_parameter(alloc, &mut values, number, value)?,
+            None => return Err(StepError::Disabled),
+        }
     }
     Ok(values)
 }
 
+#[inline(always)]
 fn push_parameter(
+    alloc: Global,
     values: &mut Sequence<(u32, Value)>,
     number: usize,
-    value: Value,
+    value: ValueRef<'_>,
 ) -> Result<(), AllocError>
-    ensures { OnOk result (env_view values.new ≡ env_view values.old ++ parameter number (value_view value)) }
+    ensures { OnOk result (env_view values.new ≡ env_view values.old ++ parameter number (reference_view value.entry)) }
 {
     match u32::try_from(number) {
-        Ok(variable) => {
-            values.items.reserve(1)?;
-            values.items.push_reserved((variable, value));
-            Ok(())
-        }
+        Ok(variable) => push_value(alloc, values, variable, value),
         Err(_) => Ok(()),
     }
 }

@@ -4,12 +4,11 @@ ghost use Rattle.pat_primitives.specs.Values.{eval, value_at};
 ghost use Rattle.pat_core.specs.Views.{expr_view};
 ghost use Rattle.pat_reduce_values.specs.declared.values.Value.{Value as CodeValue};
 ghost use Rattle.pat_reduce_values.specs.Environments.{ascends_from};
-ghost use Rattle.pat_reduce_values.specs.Results.{Gives};
-ghost use Rattle.pat_reduce_values.specs.ValueViews.{env_view, reference_view, value_view};
+ghost use Rattle.pat_reduce_values.specs.ValueViews.{env_view, reference_view};
 
-use crate::{StepError, Value, ValueRef, value_for};
+use crate::evaluation::argument;
+use crate::{Value, ValueRef};
 use pat_core::Expr;
-use std::alloc::Global;
 
 /// Up to how many expressions it is quicker to look through the values for each variable.
 const FEW: usize = 8;
@@ -21,22 +20,15 @@ pub fn is_by_halves(args: &[Expr], env: &[(u32, Value)]) -> bool
     args.len() > FEW && ascends(env)
 }
 
-/// The value of an expression, where it has one; that of a variable is looked up by halves, if this is said.
-pub fn value_in(
-    alloc: Global,
-    e: &Expr,
-    env: &[(u32, Value)],
-    by_halves: bool,
-) -> Result<Value, StepError>
+/// The value of an expression, if it has one; that of a variable is looked up by halves, if this is said.
+#[inline(always)]
+pub fn value_in<'a>(e: &'a Expr, env: &'a [(u32, Value)], by_halves: bool) -> Option<ValueRef<'a>>
     requires { IsTrue by_halves → ascends_from 0 (env_view env.now) ≡ true }
-    ensures { Gives value_view (eval (env_view env.now) (expr_view e.now)) result }
+    ensures { option_map reference_view result ≡ eval (env_view env.now) (expr_view e.now) }
 {
     match e {
-        Expr::Var(variable) if by_halves => match value_by_halves(env, *variable) {
-            Some(value) => Ok(value.to_value(alloc)?),
-            None => Err(StepError::Disabled),
-        },
-        e => value_for(alloc, e, env),
+        Expr::Var(variable) if by_halves => value_by_halves(env, *variable),
+        e => argument(e, env),
     }
 }
 

@@ -81,6 +81,20 @@ impl<'a> AtHand<'a> {
     {
         stands_in_row(self.listed, variable) || place_of(self.listed, variable).is_ok()
     }
+
+    /// The same, quickly where the variable stands at this place; and the place at which to look for the next greater one.
+    #[inline(always)]
+    pub fn look_up(&self, place: usize, variable: u32) -> (bool, usize)
+        ensures { result.0 ≡ is_among variable self.now.listed.now }
+    {
+        if self.listed.get(place) == Some(&variable) {
+            return (true, place + 1);
+        }
+        match place_of(self.listed, variable) {
+            Ok(own) => (true, own + 1),
+            Err(next) => (false, next),
+        }
+    }
 }
 
 // Whether the variable stands where it does if none is left out from it to the last one, which is mostly so.
