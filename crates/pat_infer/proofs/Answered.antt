@@ -1,13 +1,11 @@
 -- A problem that is made function after function is the program's, and what it gives.
-use Rattle.std.proofs.Common.{◌≡◌, ℕ, zero, suc, ◌+◌, ◌<◌, true, false, nat_eq, List, [], ◌∷◌, length, map, Option, Some, None, Result, Ok, Err, refl, sym, ap, ◌∙◌, subst, arith, ⊎_elim, slice_set}
-use Rattle.std.specs.Prelude.{slice_get, IfOk, OnOk, IfErr, option_map}
+use Rattle.std.proofs.Common.{◌≡◌, ℕ, zero, suc, ◌<◌, true, false, nat_eq, List, [], ◌∷◌, length, map, Some, None, Result, Ok, Err, refl, sym, ap, ◌∙◌, subst, arith, ⊎_elim, slice_set}
+use Rattle.std.specs.Prelude.{slice_get, IfOk, OnOk, IfErr}
 use Rattle.std.specs.Map.{lookup}
 use Rattle.std.specs.List.{AllByRecursion}
 use Rattle.std.proofs.lemmas.Bool.{eqb-true, eq-eqb, cond-false, cases_Bool}
 use Rattle.std.proofs.lemmas.List.{length-map}
 use Rattle.std.proofs.lemmas.Option.{slice_get_within}
-use Rattle.pat_semantics_spec.specs.Programs as core
-use Rattle.pat_semantics_spec.specs.Programs.{node_at}
 use Rattle.pat_semantics_spec.specs.WellFormed.{WellFormed}
 use Rattle.pat_type_schemes_spec.specs.NodeTypes.{NodeType}
 use Rattle.pat_infer_spec.specs.Constraints.{Finding}

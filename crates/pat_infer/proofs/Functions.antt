@@ -1,14 +1,12 @@
 -- Functions that are walked one after another.
-use Rattle.std.proofs.Common.{◌≡◌, ℕ, zero, suc, ◌+◌, ◌<◌, List, [], ◌∷◌, ◌++◌, length, map, Some, None, Result, Ok, Err, refl, sym, ap, ◌∙◌, subst, arith, drop, get_or}
+use Rattle.std.proofs.Common.{◌≡◌, ℕ, zero, suc, ◌+◌, ◌<◌, List, [], ◌∷◌, ◌++◌, length, map, Some, refl, sym, ap, ◌∙◌, subst, arith, drop, get_or}
 use Rattle.std.specs.Prelude.{slice_get, option_map}
 use Rattle.std.proofs.lemmas.List.{append-nil, append_assoc, map-append, length-map, at_drop_more}
 use Rattle.std.proofs.lemmas.Option.{slice_get_within, get_or_from_slice_get, slice_get-map, slice_get_read}
-use Rattle.pat_semantics_spec.specs.Programs as core
 use Rattle.pat_semantics_spec.specs.Programs.{Function}
-use Rattle.pat_type_schemes_spec.specs.NodeTypes.{NodeType}
 use Rattle.pat_type_schemes_spec.specs.Signatures.{signature_vars}
 use Rattle.pat_infer_spec.specs.Constraints.{Found}
-use Rattle.pat_infer_spec.specs.Walk.{walk_function, walk_functions, inferred, all_vars}
+use Rattle.pat_infer_spec.specs.Walk.{walk_function, walk_functions, inferred}
 use Rattle.pat_core.specs.declared.program.Program.{Program}
 use Rattle.pat_core.specs.Views.{program_view}
 use Rattle.pat_types.specs.Views.{node_type_view}

@@ -4,3 +4,4 @@ mod SignedNumbers
 mod Climbing
 mod Parts
 mod WalkFunctions
+mod Alone

@@ -1,7 +1,6 @@
 -- What is found in parts that are walked one behind the other, and then added.
-use Rattle.std.proofs.Common.{◌≡◌, ℕ, suc, ◌+◌, List, [], ◌∷◌, ◌++◌, length, map, Option, Some, None, Result, Ok, Err, refl, sym, ap, ◌∙◌, subst, arith, drop, slice_set, get_or, ◌<◌}
-use Rattle.std.specs.Prelude.{option_map}
-use Rattle.std.proofs.lemmas.List.{append-nil, append_assoc, map-append, length-append, length-map, at_drop_more}
+use Rattle.std.proofs.Common.{◌≡◌, ℕ, suc, ◌+◌, List, [], ◌∷◌, ◌++◌, length, map, Option, Some, None, Result, Ok, Err, refl, sym, ap, ◌∙◌, subst, drop, get_or, ◌<◌}
+use Rattle.std.proofs.lemmas.List.{append-nil, append_assoc, map-append, at_drop_more}
 use Rattle.pat_semantics_spec.specs.Programs as core
 use Rattle.pat_semantics_spec.specs.Programs.{node_at, Node}
 use Rattle.pat_type_system_spec.specs.Types.{TypeOf}
@@ -17,12 +16,11 @@ use Rattle.pat_core.specs.Views.{program_view, clause_view}
 use Rattle.pat_patterns.specs.Views.{pattern_view}
 use Rattle.pat_types.specs.Views.{needs_view, node_type_view}
 use Rattle.pat_types.specs.declared.types.MailboxType.{MailboxType}
-use Rattle.pat_infer_problems.specs.Views.{placed_variable, placed_variable_of, PlacedConstraint, placed_constraint, constraint_view, placed_finding}
+use Rattle.pat_infer_problems.specs.Views.{placed_variable, placed_variable_of, placed_constraint, constraint_view}
 use Rattle.pat_infer_problems.specs.Results.{first_of, Refuses}
 use Rattle.pat_infer_problems.specs.Growing.{Grows, settled}
 use Rattle.pat_infer_problems.specs.declared.problem.Problem.{Problem}
 use Rattle.pat_infer_problems.specs.declared.error.InferError.{InferError}
-use Rattle.pat_infer_problems.specs.declared.error.InferError.TheVariants.{Untypable, NoMemory}
 use Rattle.pat_infer_environments.specs.Gathering.{IsGathered}
 use Rattle.pat_infer_environments.specs.lets.Lets.{own_let}
 use Rattle.pat_infer_terms.specs.Adding.{IsAdded}

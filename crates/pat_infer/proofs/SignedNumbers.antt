@@ -2,14 +2,14 @@
 use Rattle.std.proofs.Common.{◌≡◌, ℕ, zero, suc, ◌+◌, List, [], ◌∷◌, ◌++◌, length, map, Some, None, Result, Ok, Err, refl, sym, ap, ◌∙◌, subst}
 use Rattle.std.specs.Prelude.{slice_get, option_and_then, not, IfOk}
 use Rattle.pat_words_spec.specs.Patterns.{Var}
-use Rattle.pat_semantics_spec.specs.Values.{Expr, VarExpr, Literal, OpExpr}
+use Rattle.pat_semantics_spec.specs.Values.{Expr}
 use Rattle.pat_semantics_spec.specs.Programs.{Sort, Function, Program}
-use Rattle.pat_type_system_spec.specs.Types.{TypeEnv, TypeOf}
-use Rattle.pat_type_system_spec.specs.Typings.{sort_type, result_of, if_mailbox, mailbox_args}
+use Rattle.pat_type_system_spec.specs.Types.{TypeOf}
+use Rattle.pat_type_system_spec.specs.Typings.{sort_type, result_of, mailbox_args}
 use Rattle.pat_type_schemes_spec.specs.NodeTypes.{Needs}
 use Rattle.pat_type_schemes_spec.specs.Signatures.{omits, number_at, result_number, function_number, open_param, open_result}
 use Rattle.pat_infer_spec.specs.Constraints.{AtNode, AliasRule, PolarityRule, unless, Found}
-use Rattle.pat_infer_spec.specs.Needs.{put_option, args_needs}
+use Rattle.pat_infer_spec.specs.Needs.{args_needs}
 use Rattle.pat_infer_spec.specs.Walk.{has_twice, result_agrees, result_constraints, call_found}
 use Rattle.pat_core.specs.declared.program.Program.{Program as CodeProgram}
 use Rattle.pat_types.specs.Views.{needs_view, node_type_view}

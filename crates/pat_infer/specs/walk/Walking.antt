@@ -1,5 +1,5 @@
 -- What the walk of a term does to a problem, against what the definition finds.
-use Rattle.std.specs.Prelude.{◌≡◌, ℕ, List, map, None, Result, Ok, Err, option_map}
+use Rattle.std.specs.Prelude.{◌≡◌, List, map, None, Result, Ok, Err, option_map}
 use Rattle.pat_infer_spec.specs.Constraints.{Found}
 use Rattle.pat_infer_spec.specs.Branches as branches
 use Rattle.pat_infer_spec.specs.Walk.{Arms}

@@ -13,7 +13,8 @@ ghost use Rattle.pat_patterns.specs.Views.{pattern_view};
 ghost use Rattle.pat_types.specs.Views.{needs_view, result_view};
 ghost use Rattle.pat_infer_problems.specs.Growing.{Grows};
 ghost use Rattle.pat_infer_problems.specs.declared.problem.Problem.{Problem as GhostProblem};
-ghost use Rattle.pat_infer.specs.walk.Chains.{core_body, node_body, next_body, node_bound, let_around, climbed};
+ghost use Rattle.pat_infer.specs.walk.Chains.{core_body, node_body, next_body, node_bound, let_around, climbed, ascend_from};
+ghost use Rattle.pat_infer_environments.specs.lets.Lets.{own_let};
 ghost use Rattle.pat_infer.specs.walk.Walking.{IsSigned, InfersArms, branch_view};
 ghost use Rattle.pat_infer_problems.specs.Walked.{IsWalked, Infers};
 
@@ -502,18 +503,51 @@ fn close_let(
             let wanted = asked_of(signed.program, part, name, body.as_slice())?;
             let bound = walk(alloc, signed, levels, part, &wanted, problem)?;
             let inner = beside(name, body);
-            let needs = join_let(
+            let needs = join_parts(
                 alloc,
                 signed.program,
                 node,
                 bound.as_slice(),
-                inner.as_slice(),
+                inner,
                 problem,
             )?;
             keep_node(alloc, node, asked, needs.as_slice(), problem)?;
             Ok(needs)
         }
     }
+}
+
+/// The rules of the let at a node, and what it needs. Where its bound part needs nothing, that is what its body needs beside the name.
+#[tactic(auto, using(crate::proofs::Alone::nothing_joined))]
+fn join_parts(
+    alloc: Global,
+    program: &Program,
+    node: u32,
+    bound: &[(u32, MailboxType)],
+    body: Sequence<(u32, MailboxType)>,
+    problem: &mut Problem,
+) -> Result<Sequence<(u32, MailboxType)>, InferError>
+    ensures { Infers program.now problem.old problem.new result
+        (own_let node (1 + length problem.old.vars) (needs_view bound.now) (needs_view body)) }
+{
+    if bound.is_empty() && ascend(body.as_slice()) {
+        return Ok(body);
+    }
+    join_let(alloc, program, node, bound, body.as_slice(), problem)
+}
+
+/// Whether the variables are in ascending order.
+fn ascend(needs: &[(u32, MailboxType)]) -> bool
+    ensures { result ≡ ascend_from 0 (needs_view needs.now) }
+{
+    let mut least: u64 = 0;
+    for (variable, _) in needs {
+        if least > *variable as u64 {
+            return false;
+        }
+        least = *variable as u64 + 1;
+    }
+    true
 }
 
 /// The name and the bound part of a let.
