@@ -69,6 +69,7 @@ pub fn run_locally(
 }
 
 // A local step, or the two of a `let` of a value where both are allowed; none only where there is none.
+#[inline(always)]
 fn advance(
     alloc: Global,
     code: &Executable,
@@ -78,7 +79,6 @@ fn advance(
     requires { 0 < allowance }
     ensures { IfOk result (λ n. Advances (program_view code.now.program) allowance (thread_view state.old) n (thread_view state.new)) }
 {
-    // Most steps stand at no `let`, which takes no call.
     let is_let = match &state.control {
         Control::Node { node, .. } => matches!(core_of(code, *node), Some(Core::Let { .. })),
         Control::Returned(_) => false,
