@@ -1,9 +1,10 @@
 // Patterns within the limits, with their sizes.
-ghost use Rattle.std.specs.Prelude.{◌≡◌, IfOk, IfSome, IfNone, false};
+ghost use Rattle.std.specs.Prelude.{ℕ, ◌≡◌, IfOk, IfSome, IfNone, false};
 ghost use Rattle.pat_words_spec.specs.Patterns.{Zero, One, Tag, Var};
 ghost use Rattle.pat_patterns.specs.Views.{pattern_view};
 ghost use Rattle.pat_inclusion_spec.specs.ClosedForms.{is_small};
 ghost use Rattle.pat_solve_bounded.specs.Limits.{IsMeasured};
+ghost use Rattle.pat_solve_bounded.specs.Variables.{has_var};
 
 use pat_limits::{MOST_LEVELS, MOST_NODES};
 use pat_patterns::{Pattern, levels, size};
@@ -84,6 +85,19 @@ impl Measured {
             nodes: 1,
             levels: 1,
             least: number,
+        }
+    }
+
+    /// The same pattern, in which no variable occurs.
+    pub fn without_variables(self) -> Measured
+        requires { (k : ℕ) → has_var k (pattern_view self.pattern) ≡ false }
+        ensures { pattern_view result.pattern ≡ pattern_view self.pattern }
+    {
+        Measured {
+            pattern: self.pattern,
+            nodes: self.nodes,
+            levels: self.levels,
+            least: u32::MAX,
         }
     }
 

@@ -1,5 +1,5 @@
 -- What replacing is still to do, and what it makes in the end.
-use Rattle.std.specs.Prelude.{◌≡◌, ℕ, ◌+◌, ◌*◌, nat_eq, if◌then◌else◌, List, [], ◌∷◌, length, Option}
+use Rattle.std.specs.Prelude.{◌≡◌, ℕ, false, ◌+◌, ◌*◌, nat_eq, if◌then◌else◌, List, [], ◌∷◌, length, Option}
 use Rattle.std.specs.Map.{lookup}
 use Rattle.std.specs.Option.{unwrap_or}
 use Rattle.pat_words_spec.specs.Patterns.{Pat, Var, subst_of}
@@ -7,6 +7,7 @@ use Rattle.pat_words_spec.specs.Sizes.{size_of}
 use Rattle.pat_patterns.specs.Views.{pattern_view}
 use Rattle.pat_solve_spec.specs.Assignments.{Values, value_in}
 use Rattle.pat_solve_bounded.specs.Limits.{within, sum_within, prod_within, star_within}
+use Rattle.pat_solve_bounded.specs.Variables.{has_var}
 use Rattle.pat_solve_bounded.specs.Views.{measured_view, measured_list}
 use Rattle.pat_solve_bounded.specs.replacing.Ascending.{paired, IsAscending}
 use Rattle.pat_solve_bounded.specs.replacing.Stacks.{joined, joined_one}
@@ -31,9 +32,9 @@ IsReplacement (One k v) = Unit {0}
 IsReplacement (All ks vs) = IsAscending ks.now × (length ks.now ≡ length vs.now)
 IsReplacement (Listed ks vs) = IsAscending ks.now × (length ks.now ≡ length vs.now)
 
--- whatever its variables give way to, the pattern stays as it is
+-- the pattern has no variable, and is as the simplifying forms make it
 abbrev pub Stays : Pat → Type 0
-Stays e = (values : ℕ → Pat) → subst_of values e ≡ e
+Stays e = ((values : ℕ → Pat) → subst_of values e ≡ e) × ((k : ℕ) → has_var k e ≡ false)
 
 -- what is made once the tasks are done
 abbrev pub outcome : (ℕ → Pat) → List Task → List (Option Pat) → List (Option Pat)

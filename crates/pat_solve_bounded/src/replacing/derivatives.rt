@@ -281,7 +281,7 @@ fn slope_is_zero(slope: &Option<Part>) -> bool
 }
 
 /// A copy of the pattern, unless it is too large.
-pub fn copied<'a>(p: &Pattern) -> Result<Option<Part<'a>>, AllocError>
+fn copied<'a>(p: &Pattern) -> Result<Option<Part<'a>>, AllocError>
     ensures { IfOk result (λ part. limited_view part ≡ within (pattern_view p.now)) }
 {
     match measure(p.copy()?) {

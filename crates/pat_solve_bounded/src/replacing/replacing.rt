@@ -1,17 +1,17 @@
 // Variables replaced.
-ghost use Rattle.std.specs.Prelude.{◌≡◌, ◌<◌, ◌+◌, ◌*◌, ◌∷◌, ◌||◌, ℕ, List, Option, IfOk, OnOk, IsTrue};
+ghost use Rattle.std.specs.Prelude.{◌≡◌, ◌<◌, ◌+◌, ◌*◌, ◌∷◌, ◌||◌, false, ℕ, List, Option, IfOk, OnOk, IsTrue};
 ghost use Rattle.pat_words_spec.specs.Patterns.{Pat, subst_of, is_zero, is_one};
 ghost use Rattle.pat_patterns.specs.Views.{pattern_view};
 ghost use Rattle.pat_solve_bounded.specs.Limits.{within};
 ghost use Rattle.pat_solve_bounded.specs.Views.{limited_view, parts_view};
+ghost use Rattle.pat_solve_bounded.specs.Variables.{has_var};
 ghost use Rattle.pat_words_spec.specs.Sizes.{size_of};
 ghost use Rattle.pat_solve_bounded.specs.replacing.Replacing.{replaced_by, IsReplacement, Stays, outcome, work};
 
 use crate::part::square;
-use crate::replacing::derivatives::copied;
 use crate::replacing::joining::{join_product, join_star, join_sum};
 use crate::replacing::replacement::Replacement;
-use crate::{Measured, Part, product, star, sum};
+use crate::{Measured, Part, measure, product, star, sum};
 use pat_patterns::Pattern;
 use pat_sequences::Stack;
 use std::alloc::{AllocError, Global};
@@ -42,7 +42,7 @@ pub fn replaced<'a>(
     ensures { IfOk result (λ part. limited_view part ≡ within (subst_of (replaced_by by.now) (pattern_view p.now))) }
 {
     if stays(p, MOST_CALLS) {
-        return copied(p);
+        return kept_whole(p);
     }
     replaced_by_calls(alloc, p, by, MOST_CALLS)
 }
@@ -174,6 +174,17 @@ fn put_parts<'p>(
     tasks.push(joining)?;
     tasks.push(Task::Visit(right))?;
     tasks.push(Task::Visit(left))
+}
+
+/// A copy of the pattern, in which no variable occurs, unless it is too large.
+fn kept_whole<'a>(p: &Pattern) -> Result<Option<Part<'a>>, AllocError>
+    requires { (k : ℕ) → has_var k (pattern_view p.now) ≡ false }
+    ensures { IfOk result (λ part. limited_view part ≡ within (pattern_view p.now)) }
+{
+    match measure(p.copy()?) {
+        Some(copy) => Ok(Some(Part::Made(copy.without_variables()))),
+        None => Ok(None),
+    }
 }
 
 /// Whether so many calls, one in the other, show that the pattern stays as it is: it has no variable, and is as the simplifying forms
