@@ -1,4 +1,5 @@
 // Mailboxes called in a row, with answers by hand.
 
 mod mailboxes;
-mod tests;
+
+pub use mailboxes::a_message_is_found_and_taken;

@@ -1,3 +1,4 @@
+// All in one test: each costs the gate a third of a minute.
 use crate::holding::{two_workers, two_workers_of_a_load};
 use crate::{hostile, rows};
 use std::test::Fail;
@@ -16,12 +17,7 @@ fn calls(rt: HostRuntime) -> Result<(), Fail> {
     rows::a_program_has_1048576_bytes_at_most(&rt, alloc)?;
     rows::each_read_and_each_write_fails_in_turn(&rt, alloc)?;
     two_workers(&rt, alloc)?;
-    two_workers_of_a_load(&rt, alloc)
-}
-
-#[test]
-fn hostile_calls(rt: HostRuntime) -> Result<(), Fail> {
-    let alloc = rt.alloc();
+    two_workers_of_a_load(&rt, alloc)?;
     hostile::a_program_cut_at_each_byte(&rt, alloc)?;
     hostile::programs_that_are_refused(&rt, alloc)?;
     hostile::ports_that_fail_at_each_call(&rt, alloc)?;

@@ -1,4 +1,6 @@
 // Texts of derivations, read and judged: each rule broken once, bad lines, and the fronts of a text. Tests only.
 
 mod judged;
-mod tests;
+mod rows;
+
+pub use rows::derivations_are_judged;

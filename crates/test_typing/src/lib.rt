@@ -10,4 +10,6 @@ mod checks;
 #[cfg(test)]
 mod derivations;
 #[cfg(test)]
+mod tests;
+#[cfg(test)]
 mod verify;

@@ -1,3 +1,5 @@
 // `verify` on whole inputs.
 
 mod rows;
+
+pub use rows::both_parts_are_verified;

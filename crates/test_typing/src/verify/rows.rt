@@ -107,8 +107,7 @@ fn answers(
     Ok(())
 }
 
-#[test]
-fn verify_rows(rt: HostRuntime) -> Result<(), Fail> {
-    inputs_of_two_parts(&rt, rt.alloc())?;
-    a_program_before_the_mark_has_1048576_bytes_at_most(&rt, rt.alloc())
+pub fn both_parts_are_verified(rt: &impl Abort, alloc: Global) -> Result<(), Fail> {
+    inputs_of_two_parts(rt, alloc)?;
+    a_program_before_the_mark_has_1048576_bytes_at_most(rt, alloc)
 }

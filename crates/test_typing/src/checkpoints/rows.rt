@@ -135,8 +135,7 @@ fn try_rows(rt: &impl Abort, alloc: Global) -> Result<(), AllocError> {
     Ok(())
 }
 
-#[test]
-fn checkpoints_are_read_and_looked_at(rt: HostRuntime) -> Result<(), Fail> {
-    try_rows(&rt, rt.alloc())?;
+pub fn checkpoints_are_examined(rt: &impl Abort, alloc: Global) -> Result<(), Fail> {
+    try_rows(rt, alloc)?;
     Ok(())
 }

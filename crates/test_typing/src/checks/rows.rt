@@ -103,8 +103,7 @@ fn derive_rows(rt: &impl Abort, alloc: Global) -> Result<(), Fail> {
     try_rows(rt, alloc, true, &rows)
 }
 
-#[test]
-fn rows(rt: HostRuntime) -> Result<(), Fail> {
-    check_rows(&rt, rt.alloc())?;
-    derive_rows(&rt, rt.alloc())
+pub fn programs_are_checked(rt: &impl Abort, alloc: Global) -> Result<(), Fail> {
+    check_rows(rt, alloc)?;
+    derive_rows(rt, alloc)
 }
