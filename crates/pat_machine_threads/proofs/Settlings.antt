@@ -87,6 +87,19 @@ module _ (p : Program) (a : ℕ) (x : Thread) where
     frame = λ less. left;
   }
 
+  -- it stays one where the end takes less room
+  pub run_with_less_room : (s t : Settled) → t.gone ≡ s.gone → t.steps ≡ s.steps → thread_view t.end ≡ thread_view s.end → IsRunOnTop p a x s → IsRunOnTop p a x t
+  run_with_less_room s t gone steps end h = record {
+    local =
+        subst (λ n. IsLocalRun p a x t.steps (over (thread_view t.end) (below n x))) (sym gone)
+        (subst (λ n. IsLocalRun p a x n (over (thread_view t.end) (below s.gone x))) (sym steps)
+        (subst (λ v. IsLocalRun p a x s.steps (over v (below s.gone x))) (sym end) h.local));
+    frame = λ less.
+        subst (λ n. (0 < length (thread_view t.end).frames) ⊎ (below n x ≡ [])) (sym gone)
+        (subst (λ v. (0 < length v.frames) ⊎ (below s.gone x ≡ [])) (sym end)
+        (h.frame (subst (λ n. n < a) steps less)));
+  }
+
 -- a run on a frame for each step
 pub run_on_enough : (p : Program) (a : ℕ) (x : Thread) (s : Settled) → s.gone ≡ a → IsLocalRun p a (top_of a x) s.steps (thread_view s.end) → IsRunOnTop p a x s
 run_on_enough p a x s gone h = record {

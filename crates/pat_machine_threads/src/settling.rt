@@ -11,7 +11,7 @@ ghost use Rattle.pat_machine_spec.specs.Tops.{below, top_of};
 ghost use Rattle.pat_machine_threads.specs.Settling.{IsBegun, IsRunOnTop, RunsOn, Uncovers};
 
 use crate::copies::{copy_frame, copy_top};
-use crate::run::run_locally;
+use crate::run::{give_back_room, run_locally};
 use crate::tops::{frame_below, has_at_most};
 use pat_reduce::{Control, Core, Frame, StepError, ThreadState, Value, core_of, enter, node_with};
 use pat_reduce_values::{Executable, bound, keep_free, kept_but};
@@ -42,6 +42,7 @@ pub fn settle_top(
         uncover(alloc, kept, &mut settled)?;
         run_on(alloc, code, &mut settled, allowance)?;
     }
+    give_back_room(&mut settled.end);
     Ok(settled)
 }
 
@@ -95,26 +96,16 @@ fn begin(
     match (&kept.control, kept.frames.top()) {
         (Control::Returned(_), Some(frame)) if allowance > 1 && leads_on(code, frame) => {
             match first_step(alloc, code, frame.body, frame.env.as_slice())? {
-                Some(end) => Ok(Settled {
-                    end,
-                    gone: 1,
-                    steps: 2,
-                }),
+                Some(end) => Ok(settled_after(end, 1, 2)),
                 None => unmoved(alloc, kept),
             }
         }
-        (Control::Returned(value), Some(frame)) if allowance > 0 => Ok(Settled {
-            end: resumed(alloc, code, value, frame)?,
-            gone: 1,
-            steps: 1,
-        }),
+        (Control::Returned(value), Some(frame)) if allowance > 0 => {
+            Ok(settled_after(resumed(alloc, code, value, frame)?, 1, 1))
+        }
         (Control::Node { node, env }, _) if allowance > 0 => {
             match first_step(alloc, code, *node, env.as_slice())? {
-                Some(end) => Ok(Settled {
-                    end,
-                    gone: 0,
-                    steps: 1,
-                }),
+                Some(end) => Ok(settled_after(end, 0, 1)),
                 None => unmoved(alloc, kept),
             }
         }
@@ -126,11 +117,13 @@ fn begin(
 fn unmoved(alloc: Global, kept: &ThreadState) -> Result<Settled, AllocError>
     ensures { IfOk result (λ s. (s.gone ≡ 0) × (s.steps ≡ 0) × (thread_view s.end ≡ top_of 0 (thread_view kept.now))) }
 {
-    Ok(Settled {
-        end: copy_top(alloc, kept, 0)?,
-        gone: 0,
-        steps: 0,
-    })
+    Ok(settled_after(copy_top(alloc, kept, 0)?, 0, 0))
+}
+
+fn settled_after(end: ThreadState, gone: u32, steps: u32) -> Settled
+    ensures { result ≡ record { end = end; gone = gone; steps = steps } }
+{
+    Settled { end, gone, steps }
 }
 
 // Whether the frame goes on at a let or a call with just the values that it has, and with no name for the one that it waits for.
@@ -230,8 +223,6 @@ fn resumed(
         node: frame.body,
         env,
     };
-    Ok(ThreadState {
-        control,
-        frames: Stack::new(alloc),
-    })
+    let frames = Stack::new(alloc);
+    Ok(ThreadState { control, frames })
 }

@@ -39,10 +39,9 @@ pub(crate) fn set_apart(
 fn hollow(alloc: Global) -> ThreadState
     ensures { thread_view result ≡ hollow }
 {
-    ThreadState {
-        control: Control::Returned(Value::Unit),
-        frames: Stack::new(alloc),
-    }
+    let control = Control::Returned(Value::Unit);
+    let frames = Stack::new(alloc);
+    ThreadState { control, frames }
 }
 
 /// Puts what is left of a thread in its place, and who came behind the others. It takes no memory.

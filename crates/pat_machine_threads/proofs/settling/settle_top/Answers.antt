@@ -1,6 +1,7 @@
+use Rattle.std.proofs.Common.{refl}
 use Rattle.pat_reduce.specs.threads.Views.{program_view}
 use Rattle.pat_reduce.specs.threads.ThreadViews.{thread_view}
-use Rattle.pat_machine_threads.proofs.Settlings.{begun_runs, uncovered_begins, run_on_those}
+use Rattle.pat_machine_threads.proofs.Settlings.{begun_runs, uncovered_begins, run_on_those, run_with_less_room}
 use Rattle.pat_machine_threads.proofs.settling.settle_top.Goals as goal
 
 pub loop-alloc-init : goal.loop-alloc-init
@@ -16,4 +17,7 @@ loop-alloc-preserved c =
 
 pub returns : goal.returns
 returns c =
-    run_on_those (program_view c.args.code.now.program) c.args.allowance (thread_view c.args.kept.now) c.loop-alloc.settled c.loop-alloc.invariant (c.needs_more.ensures.no c.loop-alloc-test.false)
+    let p = program_view c.args.code.now.program in
+    let x = thread_view c.args.kept.now in
+    let run = run_on_those p c.args.allowance x c.loop-alloc.settled c.loop-alloc.invariant (c.needs_more.ensures.no c.loop-alloc-test.false) in
+    run_with_less_room p c.args.allowance x c.loop-alloc.settled _ refl refl c.give_back_room.ensures run

@@ -1,6 +1,6 @@
 use Rattle.std.proofs.Common.{arith, sym, ◌∙◌}
 use Rattle.pat_machine_threads.proofs.Slots.{there, has_slot, stood, set_there, counted_set}
-use Rattle.pat_machine_threads.proofs.table.table.Table.swap.Goals as goal
+use Rattle.pat_machine_threads.proofs.table.Table.swap.Goals as goal
 
 pub replace_at-requires : goal.replace_at-requires
 replace_at-requires c = has_slot c.self.inside.slots.items c.self.inside.spare c.args.self.now c.args.thread c.self.view_is c.requires

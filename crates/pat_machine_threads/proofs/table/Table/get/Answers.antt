@@ -2,7 +2,7 @@ use Rattle.std.proofs.Common.{◌∙◌, ap, None, get_or}
 use Rattle.std.specs.Prelude.{option_map}
 use Rattle.pat_reduce.specs.threads.ThreadViews.{thread_view}
 use Rattle.pat_machine_threads.proofs.Slots.{found}
-use Rattle.pat_machine_threads.proofs.table.table.Table.get.Goals as goal
+use Rattle.pat_machine_threads.proofs.table.Table.get.Goals as goal
 
 pub returns : goal.returns
 returns c =

@@ -4,7 +4,7 @@ use Rattle.pat_semantics_spec.specs.Configs.{Thread}
 use Rattle.pat_reduce.specs.threads.ThreadViews.{control_view, thread_view}
 use Rattle.pat_reduce.specs.Views.{threads_view}
 use Rattle.pat_machine_threads.proofs.Slots.{there, stood, set_there, counted_set, as_many}
-use Rattle.pat_machine_threads.proofs.table.table.Table.set_control.Goals as goal
+use Rattle.pat_machine_threads.proofs.table.Table.set_control.Goals as goal
 
 pub set_control_at-requires : goal.set_control_at-requires
 set_control_at-requires c = there c.self.inside.slots.items c.self.inside.spare c.args.self.now c.args.thread c.self.view_is c.requires

@@ -1,7 +1,7 @@
 use Rattle.std.proofs.Common.{ap, arith}
 use Rattle.pat_machine_threads.specs.table.Entries.{Threads}
 use Rattle.pat_machine_threads.proofs.Slots.{at_most, counted_added, seen_added}
-use Rattle.pat_machine_threads.proofs.table.table.Table.add.Goals as goal
+use Rattle.pat_machine_threads.proofs.table.Table.add.Goals as goal
 
 pub overflow_add-self : goal.overflow_add-self
 overflow_add-self c =

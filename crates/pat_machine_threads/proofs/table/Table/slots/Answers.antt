@@ -5,7 +5,7 @@ use Rattle.pat_semantics_spec.specs.Orders.{AscendsFrom}
 use Rattle.pat_reduce.specs.Views.{threads_view}
 use Rattle.pat_machine_threads.specs.table.Entries.{Threads}
 use Rattle.pat_machine_threads.proofs.Slots.{ascends, below}
-use Rattle.pat_machine_threads.proofs.table.table.Table.slots.Goals as goal
+use Rattle.pat_machine_threads.proofs.table.Table.slots.Goals as goal
 
 pub returns-clause-ascends : goal.returns-clause-ascends
 returns-clause-ascends c = subst (λ (w : Threads). AscendsFrom 0 (keys_of (threads_view w.entries))) c.self.view_is (ascends 0 0 c.self.inside.slots.items (omega arith))

@@ -5,7 +5,7 @@ use Rattle.pat_semantics_spec.specs.Configs.{Thread}
 use Rattle.pat_reduce.specs.threads.ThreadViews.{frame_view, thread_view}
 use Rattle.pat_reduce.specs.Views.{threads_view}
 use Rattle.pat_machine_threads.proofs.Slots.{there, stood, set_there, counted_set, as_many}
-use Rattle.pat_machine_threads.proofs.table.table.Table.cover.Goals as goal
+use Rattle.pat_machine_threads.proofs.table.Table.cover.Goals as goal
 
 pub cover_at-requires-clause-there : goal.cover_at-requires-clause-there
 cover_at-requires-clause-there c = there c.self.inside.slots.items c.self.inside.spare c.args.self.now c.args.thread c.self.view_is c.requires.there
