@@ -6,3 +6,4 @@ mod Numbered
 pub mod Arms
 mod Alike
 mod Notes
+mod Becoming

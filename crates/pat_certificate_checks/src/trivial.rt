@@ -1,6 +1,6 @@
 // Trivial inclusions.
-ghost use Rattle.std.specs.Prelude.{◌≡◌, ℕ, length, IsTrue, IfOk};
-ghost use Rattle.pat_words_spec.specs.Patterns.{is_zero, subst_of};
+ghost use Rattle.std.specs.Prelude.{◌≡◌, ◌||◌, ℕ, length, IsTrue, IfOk};
+ghost use Rattle.pat_words_spec.specs.Patterns.{Sum, is_zero, is_one, sum_of, subst_of};
 ghost use Rattle.pat_words_spec.specs.Substitutions.{has_values};
 ghost use Rattle.pat_inclusion_spec.specs.Values.{Scope, is_formed};
 ghost use Rattle.pat_inclusion_spec.specs.Certificates.{is_arm as is_arm_of, is_trivial as is_trivial_of};
@@ -85,6 +85,46 @@ pub fn plain_values(alloc: Global, derivation: &Derivation) -> Result<Sequence<P
     Ok(plain)
 }
 
+/// Whether the pattern is 0 or 1.
+fn is_unit(pattern: &Pattern) -> bool
+    ensures { result ≡ (is_zero (pattern_view pattern.now) || is_one (pattern_view pattern.now)) }
+{
+    pattern.is_zero() || pattern.is_one()
+}
+
+/// Whether the sum of these two keeps both.
+fn is_kept_sum(left: &Pattern, right: &Pattern) -> bool
+    ensures { IsTrue result → sum_of (pattern_view left.now) (pattern_view right.now) ≡ Sum (pattern_view left.now) (pattern_view right.now) }
+{
+    !left.is_zero() && !right.is_zero() && !same_pattern(left, right)
+}
+
+/// Whether it is seen without putting in these values that then the side is this pattern.
+#[tactic(auto, using(crate::proofs::Becoming::sum_becomes, crate::proofs::Becoming::prod_becomes, crate::proofs::Becoming::star_becomes))]
+fn becomes(side: &Pattern, whole: &Pattern, values: &[Pattern]) -> bool
+    requires { IsTrue (has_values (length values.now) (pattern_view side.now)) }
+    ensures { IsTrue result → subst_of (value_at (patterns_view values.now)) (pattern_view side.now) ≡ pattern_view whole.now }
+{
+    match (side, whole) {
+        (Pattern::Zero, Pattern::Zero) | (Pattern::One, Pattern::One) => true,
+        (Pattern::Tag(tag), Pattern::Tag(own)) => tag == own,
+        (Pattern::Var(number), _) => same_pattern(&values[*number as usize], whole),
+        (Pattern::Sum(left, right), Pattern::Sum(first, second)) => {
+            is_kept_sum(first, second)
+                && becomes(left, first, values)
+                && becomes(right, second, values)
+        }
+        (Pattern::Prod(left, right), Pattern::Prod(first, second)) => {
+            !is_unit(first)
+                && !is_unit(second)
+                && becomes(left, first, values)
+                && becomes(right, second, values)
+        }
+        (Pattern::Star(part), Pattern::Star(own)) => !is_unit(own) && becomes(part, own, values),
+        _ => false,
+    }
+}
+
 /// The side with the values that are patterns put in. That of a variable is lent, and so is a side without parts.
 fn with_values<'a>(
     alloc: Global,
@@ -104,7 +144,7 @@ fn with_values<'a>(
 }
 
 /// Whether the left side is the right one or one of its arms, once the values that are patterns are put in. Both are patterns of
-/// an interface. Mostly it is an arm as it is written, and nothing has to be put in.
+/// an interface. Mostly it is an arm as it is written, or is the right one then, and nothing has to be put in on the left.
 pub fn is_trivial(
     alloc: Global,
     plain: &[Pattern],
@@ -120,7 +160,10 @@ pub fn is_trivial(
     if stays_arm(left, right, plain) {
         return Ok(true);
     }
-    let left = with_values(alloc, left, plain)?;
     let right = with_values(alloc, right, plain)?;
+    if becomes(left, right.as_pattern(), plain) {
+        return Ok(true);
+    }
+    let left = with_values(alloc, left, plain)?;
     Ok(is_arm(left.as_pattern(), right.as_pattern()))
 }

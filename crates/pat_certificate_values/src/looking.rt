@@ -9,6 +9,7 @@ ghost use Rattle.pat_core.specs.Views.{program_view};
 ghost use Rattle.pat_derivations.specs.Views.{var_view, vars_view, derivation_view};
 ghost use Rattle.pat_certificate_values.specs.Symbols.{scope_with};
 
+use crate::types::same_pattern;
 use pat_core::Program;
 use pat_derivations::{Derivation, VarValue};
 use pat_patterns::Pattern;
@@ -131,13 +132,7 @@ fn are_same_with(
         && is_formed_of (scope_with tags (vars_view vars.now)) interface (pattern_view left.now)) }
 {
     match (left, right) {
-        (Pattern::Zero, Pattern::Zero) | (Pattern::One, Pattern::One) => true,
-        (Pattern::Tag(tag), Pattern::Tag(other)) => tag == other && (*tag as usize) < tags,
-        (Pattern::Var(number), Pattern::Var(other)) => {
-            number == other && has_interface(vars, interface, *number)
-        }
-        (Pattern::Sum(first, second), Pattern::Sum(other_first, other_second))
-        | (Pattern::Prod(first, second), Pattern::Prod(other_first, other_second)) => {
+        (Pattern::Prod(first, second), Pattern::Prod(other_first, other_second)) => {
             match (&**first, &**other_first) {
                 (Pattern::Tag(tag), Pattern::Tag(other)) => {
                     tag == other
@@ -150,9 +145,6 @@ fn are_same_with(
                 }
             }
         }
-        (Pattern::Star(part), Pattern::Star(other)) => {
-            are_same_with(tags, vars, interface, part, other)
-        }
-        _ => false,
+        _ => same_pattern(left, right) && is_formed_with(tags, vars, interface, left),
     }
 }

@@ -65,16 +65,12 @@ pub fn same_kind(left: Kind, right: Kind) -> bool
     }
 }
 
-/// Whether the patterns are the same, as they are written. Left parts are mostly tags, which need no call.
+/// Whether the patterns are the same, as they are written. Long ones are products of tags, which need no call.
 pub fn same_pattern(left: &Pattern, right: &Pattern) -> bool
     ensures { result ≡ pat_eq (pattern_view left.now) (pattern_view right.now) }
 {
     match (left, right) {
-        (Pattern::Zero, Pattern::Zero) | (Pattern::One, Pattern::One) => true,
-        (Pattern::Tag(tag), Pattern::Tag(other)) => tag == other,
-        (Pattern::Var(number), Pattern::Var(other)) => number == other,
-        (Pattern::Sum(first, second), Pattern::Sum(other_first, other_second))
-        | (Pattern::Prod(first, second), Pattern::Prod(other_first, other_second)) => {
+        (Pattern::Prod(first, second), Pattern::Prod(other_first, other_second)) => {
             match (&**first, &**other_first) {
                 (Pattern::Tag(tag), Pattern::Tag(other)) => {
                     tag == other && same_pattern(second, other_second)
@@ -82,8 +78,7 @@ pub fn same_pattern(left: &Pattern, right: &Pattern) -> bool
                 _ => same_pattern(first, other_first) && same_pattern(second, other_second),
             }
         }
-        (Pattern::Star(part), Pattern::Star(other)) => same_pattern(part, other),
-        _ => false,
+        _ => left.is_same(right),
     }
 }
 
