@@ -78,6 +78,9 @@ pub fn same_pattern(left: &Pattern, right: &Pattern) -> bool
                 _ => same_pattern(first, other_first) && same_pattern(second, other_second),
             }
         }
+        (Pattern::Sum(first, second), Pattern::Sum(other_first, other_second)) => {
+            same_pattern(first, other_first) && same_pattern(second, other_second)
+        }
         _ => left.is_same(right),
     }
 }
