@@ -1,10 +1,11 @@
 -- Rows, one entry and one symbol after another.
-use Rattle.std.proofs.Common.{◌≡◌, ℕ, zero, suc, ◌+◌, ◌<◌, ◌≤◌, ◌↔◌, Bool, true, false, List, [], ◌∷◌, ◌++◌, length, length-set, get_or, set, replicate, take, Some, refl, sym, ap, ◌∙◌, subst, arith, ⊎_elim}
+use Rattle.std.proofs.Common.{◌≡◌, ℕ, zero, suc, ◌+◌, ◌<◌, ◌≤◌, ◌↔◌, Bool, true, false, List, [], ◌∷◌, ◌++◌, length, get_or, replicate, take, Some, refl, sym, ap, ◌∙◌, subst, arith, ⊎_elim, ◌-◌, inl, inr}
 use Rattle.std.specs.Prelude.{slice_get}
-use Rattle.std.proofs.lemmas.Bool.{cases_lt, cases_eq}
-use Rattle.std.proofs.lemmas.List.{get_or-set_same, get_or-set_other, get_or-replicate, get_or_past, length-replicate, take_more}
+use Rattle.std.proofs.lemmas.Bool.{cases_lt}
+use Rattle.std.proofs.lemmas.List.{get_or-replicate, get_or_past, length-replicate, take_more}
 use Rattle.pat_inclusion_spec.specs.bounds.Tables.{IsKnown}
 use Rattle.pat_grid_points.specs.declared.grid.Grid.{Grid}
+use Rattle.pat_grid_points.specs.Sparse.{IsFilled}
 use Rattle.pat_grid.specs.declared.tables.board.Board.{Board}
 use Rattle.pat_grid.specs.tables.Views.{setting_of}
 use Rattle.pat_grid.specs.tables.Moves.{entry_at}
@@ -30,26 +31,21 @@ tested_begun b entries s to held e none =
       free = λ c l. none_at b.points c;
     })
 
-pub tested_walked : (b : Board) (entries : List ℕ) (s m to : ℕ) (old new : List Bool) → m < b.points → Tested b entries s old m → IsKnown b.limit (entry_at (setting_of b) entries s m) → new ≡ set old m true → m + 1 ≤ to → ((c : ℕ) → m + 1 ≤ c → c < to → IsKnown b.limit (entry_at (setting_of b) entries s c) → ⊥) → Tested b entries s new to
-tested_walked b entries s m to old new room h known e past none =
-    subst (λ hs. Tested b entries s hs to) (sym e) (record {
-      count = length-set old m true ∙ h.count;
-      right = λ c l. ⊎_elim
-          (λ same. subst (Right) (sym same) (λ t. known, λ k. get_or-set_same old m true false (let n = h.count in omega arith)))
-          (λ d. subst (λ x. (x ≡ true) ↔ IsKnown b.limit (entry_at (setting_of b) entries s c)) (sym (get_or-set_other old m c true false d))
-          (⊎_elim
-          (λ below. h.right c below)
-          (λ above. (
-            λ t. let f = h.free c above in absurd (cc),
-            λ k. absurd (none c (omega arith) l k),
-          ))
-          (cases_lt c m)))
-          (cases_eq c m);
-      free = λ c l. get_or-set_other old m c true false (λ same. absurd (omega arith)) ∙ h.free c (omega arith);
-    })
-  where
-    Right : ℕ → Type 0
-    Right c = (get_or (set old m true) c false ≡ true) ↔ IsKnown b.limit (entry_at (setting_of b) entries s c)
+pub tested_filled : (b : Board) (entries : List ℕ) (s m end to : ℕ) (old new : List Bool) → m < end → end ≤ b.points → Tested b entries s old m → ((c : ℕ) → m ≤ c → c < end → IsKnown b.limit (entry_at (setting_of b) entries s c)) → IsFilled m (end - m) true old new → end ≤ to → ((c : ℕ) → end ≤ c → c < to → IsKnown b.limit (entry_at (setting_of b) entries s c) → ⊥) → Tested b entries s new to
+tested_filled b entries s m end to old new some room h known f past none = record {
+  count = f.as_long ∙ h.count;
+  right = λ c l. ⊎_elim
+      (λ (below : c < m). subst (λ x. (x ≡ true) ↔ IsKnown b.limit (entry_at (setting_of b) entries s c)) (sym (f.elsewhere c false (inl below))) (h.right c below))
+      (λ (from : m ≤ c). ⊎_elim
+      (λ (within : c < end). (λ t. known c from within, λ k. f.here c false from (omega arith)))
+      (λ (above : end ≤ c). (
+        λ t. let o = f.elsewhere c false (inr (omega arith)) in let n = h.free c from in absurd (cc),
+        λ k. absurd (none c above l k),
+      ))
+      (cases_lt c end))
+      (cases_lt c m);
+  free = λ c l. f.elsewhere c false (inr (omega arith)) ∙ h.free c (omega arith);
+}
 
 pub tested_row : (b : Board) (entries : List ℕ) (s m : ℕ) (held : List Bool) (g : Grid) → b.points ≤ m → Tested b entries s held m → (g.k ≡ b.k) × (g.tags ≡ b.tags) × (g.held ≡ held) → IsRow b entries s g
 tested_row b entries s m held g past h is = record {

@@ -4,7 +4,7 @@ ghost use Rattle.pat_inclusion_spec.specs.bounds.Numbers.{HasAllEntries};
 ghost use Rattle.pat_grid.specs.tables.Views.{setting_of, IsBoard};
 ghost use Rattle.pat_grid.specs.Rows.{IsRow, AreRows};
 
-use crate::tables::{Board, next_known};
+use crate::tables::{Board, alike_until, next_known};
 use pat_grid_points::{Grid, SparseList};
 use pat_sequences::Sequence;
 use std::alloc::{AllocError, Global};
@@ -23,8 +23,9 @@ pub fn row(
     let mut held = SparseList::repeat(alloc, false, board.points)?;
     let mut number = next_known(board, entries, s, 0);
     while number < board.points {
-        held.set(number, true)?;
-        number = next_known(board, entries, s, number + 1);
+        let end = alike_until(board, entries, s, number);
+        held.fill(number, end - number, true)?;
+        number = next_known(board, entries, s, end);
     }
     Ok(Grid::from_held(board.k, board.tags, held))
 }

@@ -11,5 +11,5 @@ mod symbols;
 mod users;
 
 pub use board::Board;
-pub use entries::{entry, next_known};
+pub use entries::{alike_until, entry, next_known};
 pub use passes::least_sizes;

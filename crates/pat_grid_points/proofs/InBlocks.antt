@@ -2,7 +2,7 @@
 use Rattle.std.proofs.Common.{◌≡◌, ℕ, zero, suc, ◌+◌, ◌*◌, ◌-◌, ◌/◌, ◌%◌, ◌^◌, ◌<◌, ◌≤◌, ◌⊎◌, inl, inr, ⊎_elim, List, ◌∷◌, length, length-set, get_or, set, replicate, take, ◌++◌, refl, sym, ap, ap₂, ◌∙◌, subst, arith}
 use Rattle.std.proofs.lemmas.Bool.{cases_eq, cases_lt}
 use Rattle.std.proofs.lemmas.List.{get_or-set_same, get_or-set_other, get_or-replicate, length-replicate, get_or_past, get_or_default, get_or_append_left, get_or-append-add, get_or-take, length-append, length-take-le}
-use Rattle.pat_grid_points.specs.Sparse.{by_places, spot, sparse, AreBlocks}
+use Rattle.pat_grid_points.specs.Sparse.{by_places, spot, sparse, AreBlocks, IsFilled}
 use Rattle.pat_grid_points.proofs.Digits.{zero_at}
 
 -- ---- lists by places
@@ -226,6 +226,85 @@ module _ {A : Type 0} (count : ℕ) (common : A) (starts : List ℕ) (blocks : L
       one j e =
           let starts_same : get_or starts (j / 16) 0 ≡ get_or starts (place / 16) 0 = omega arith in
           ⊎_elim (λ same. omega arith) (λ z. absurd (own (sym starts_same ∙ z))) (h.apart (j / 16) (place / 16) starts_same)
+
+-- ---- a run of items written
+
+pub filled_none : {A : Type 0} (from : ℕ) (x : A) (xs : List A) → IsFilled from 0 x xs xs
+filled_none from x xs = record { as_long = refl; here = λ i d l m. absurd (omega arith); elsewhere = λ i d o. refl }
+
+pub filled_more : {A : Type 0} (from n m : ℕ) (x : A) (old mid new : List A) → IsFilled from n x old mid → IsFilled (from + n) m x mid new → IsFilled from (n + m) x old new
+filled_more from n m x old mid new f g = record {
+  as_long = g.as_long ∙ f.as_long;
+  here = λ i d l k. ⊎_elim
+      (λ (less : i < from + n). g.elsewhere i d (inl less) ∙ f.here i d l less)
+      (λ (past : from + n ≤ i). g.here i d past (omega arith))
+      (cases_lt i (from + n));
+  elsewhere = λ i d o.
+      g.elsewhere i d (⊎_elim (λ l. inl (omega arith)) (λ l. inr (omega arith)) o)
+      ∙ f.elsewhere i d (⊎_elim (λ l. inl l) (λ l. inr (omega arith)) o);
+}
+
+pub filled_one : {A : Type 0} (place : ℕ) (x : A) (old new : List A) → place < length old → new ≡ set old place x → IsFilled place 1 x old new
+filled_one place x old new room e =
+    subst (IsFilled place 1 x old) (sym e) (record {
+      as_long = length-set old place x;
+      here = λ i d l m. let is : place ≡ i = omega arith in subst (λ j. get_or (set old place x) j d ≡ x) is (get_or-set_same old place x d room);
+      elsewhere = λ i d o. get_or-set_other old place i x d (λ same. ⊎_elim (λ l. absurd (omega arith)) (λ l. absurd (omega arith)) o);
+    })
+
+module _ {A : Type 0} (count : ℕ) (common : A) (starts : List ℕ) (blocks new : List A) (place n : ℕ) (x : A) (h : AreBlocks count common starts blocks) (own : get_or starts (place / 16) 0 ≡ 0 → ⊥) (within : place % 16 + n ≤ 16) (f : IsFilled (spot starts place) n x blocks new) where
+  some_start : 1 ≤ get_or starts (place / 16) 0
+  some_start = ⊎_elim (λ l. absurd (own (omega arith))) (λ l. l) (cases_lt (get_or starts (place / 16) 0) 1)
+
+  pub run_blocks : AreBlocks count common starts new
+  run_blocks =
+      let same = f.as_long in
+      let some = some_start in
+      let whole = h.whole in
+      record {
+        fits = h.fits;
+        as_many = h.as_many;
+        whole = subst (λ m. m / 16 * 16 ≡ m) (sym same) whole;
+        within = λ a. let w = h.within a in omega arith;
+        shared = λ i l. f.elsewhere i common (inl (omega arith)) ∙ h.shared i l;
+        apart = h.apart;
+      }
+
+  pub run_filled : place + n ≤ count → IsFilled place n x (sparse count common starts blocks) (sparse count common starts new)
+  run_filled room = record {
+    as_long = by_length count (λ i. get_or new (spot starts i) common) ∙ sym (by_length count (λ i. get_or blocks (spot starts i) common));
+    here = λ i d l m.
+        let block : i / 16 ≡ place / 16 = omega arith in
+        let same = ap (λ a. get_or starts a 0) block in
+        by_at count (λ j. get_or new (spot starts j) common) i d (omega arith)
+        ∙ f.here (spot starts i) common (omega arith) (omega arith);
+    elsewhere = λ i d o. ⊎_elim
+        (λ (l : i < count).
+        by_at count (λ j. get_or new (spot starts j) common) i d l
+        ∙ f.elsewhere (spot starts i) common (other i l o)
+        ∙ sym (by_at count (λ j. get_or blocks (spot starts j) common) i d l))
+        (λ (l : count ≤ i).
+        get_or_past (sparse count common starts new) i d (let e = by_length count (λ j. get_or new (spot starts j) common) in omega arith)
+        ∙ sym (get_or_past (sparse count common starts blocks) i d (let e = by_length count (λ j. get_or blocks (spot starts j) common) in omega arith)))
+        (cases_lt i count);
+  }
+    where
+      apart_blocks : (i : ℕ) → (i / 16 ≡ place / 16 → ⊥) → get_or starts (i / 16) 0 ≡ get_or starts (place / 16) 0 → ⊥
+      apart_blocks i d e = ⊎_elim (λ same. d same) (λ z. own (sym e ∙ z)) (h.apart (i / 16) (place / 16) e)
+
+      other : (i : ℕ) → i < count → (i < place) ⊎ (place + n ≤ i) → (spot starts i < spot starts place) ⊎ (spot starts place + n ≤ spot starts i)
+      other i l o = ⊎_elim
+          (λ (same : i / 16 ≡ place / 16).
+          let e = ap (λ a. get_or starts a 0) same in
+          ⊎_elim (λ less. inl (omega arith)) (λ past. inr (omega arith)) o)
+          (λ differs.
+          let d = apart_blocks i differs in
+          ⊎_elim
+          (λ (less : get_or starts (i / 16) 0 < get_or starts (place / 16) 0). inl (omega arith))
+          (λ (past : get_or starts (place / 16) 0 ≤ get_or starts (i / 16) 0).
+          ⊎_elim (λ eq. absurd (d eq)) (λ ne. inr (omega arith)) (cases_eq (get_or starts (i / 16) 0) (get_or starts (place / 16) 0)))
+          (cases_lt (get_or starts (i / 16) 0) (get_or starts (place / 16) 0)))
+          (cases_eq (i / 16) (place / 16))
 
 -- a copy of the first block at the end
 pub grown : {A : Type 0} (common : A) (old new : List A) → 16 ≤ length old → new ≡ old ++ take 16 old → Grown common old new

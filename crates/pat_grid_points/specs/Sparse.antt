@@ -22,3 +22,9 @@ pub record AreBlocks {A : Type 0} (count : ℕ) (common : A) (starts : List ℕ)
   pub within : (a : ℕ) → get_or starts a 0 * 16 + 16 ≤ length blocks
   pub shared : (i : ℕ) → i < 16 → get_or blocks i common ≡ common
   pub apart : (a b : ℕ) → get_or starts a 0 ≡ get_or starts b 0 → (a ≡ b) ⊎ (get_or starts a 0 ≡ 0)
+
+-- at so many places from one on stands the item, and elsewhere what stood there
+pub record IsFilled {A : Type 0} (from count : ℕ) (x : A) (old new : List A) : Type 0 where
+  pub as_long : length new ≡ length old
+  pub here : (i : ℕ) (d : A) → from ≤ i → i < from + count → get_or new i d ≡ x
+  pub elsewhere : (i : ℕ) (d : A) → (i < from) ⊎ (from + count ≤ i) → get_or new i d ≡ get_or old i d

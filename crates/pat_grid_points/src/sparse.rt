@@ -1,6 +1,6 @@
 // Lists most of whose items are the same.
-ghost use Rattle.std.specs.Prelude.{◌≡◌, ◌<◌, ◌≤◌, ◌+◌, ◌/◌, true, ℕ, length, get_or, set, replicate, IfOk, OnOk, OnErr, IfSome, IfNone};
-ghost use Rattle.pat_grid_points.specs.Sparse.{sparse, AreBlocks};
+ghost use Rattle.std.specs.Prelude.{◌≡◌, ◌<◌, ◌≤◌, ◌+◌, ◌*◌, ◌/◌, ◌%◌, true, ℕ, length, get_or, set, replicate, IfOk, OnOk, OnErr, IfSome, IfNone};
+ghost use Rattle.pat_grid_points.specs.Sparse.{sparse, AreBlocks, IsFilled};
 
 use crate::blocks::{BLOCK, BlockList, ROOM, copies, repeat_first, run_of};
 use pat_sequences::Sequence;
@@ -72,6 +72,36 @@ impl<T: Copy + Drop + PartialEq> SparseList<T> {
         Ok(())
     }
 
+    /// Puts an item at so many places from this one on, and looks each block's start up once.
+    pub fn fill(&mut self, from: usize, count: usize, item: T) -> Result<(), AllocError>
+        requires { from + count ≤ length self.old }
+        ensures { OnOk result (IsFilled from count item self.old self.new) }
+    {
+        // All places are below it, so nothing wraps.
+        let _items = self.len();
+        let mut done = 0;
+        while done < count {
+            let place = from + done;
+            let some = (BLOCK - place % BLOCK).min(count - done);
+            self.fill_within(place, some, item)?;
+            done += some;
+        }
+        Ok(())
+    }
+
+    /// So within one block.
+    fn fill_within(&mut self, place: usize, count: usize, item: T) -> Result<(), AllocError>
+        requires there { place + count ≤ length self.old }
+        requires block { place % 16 + count ≤ 16 }
+        ensures { OnOk result (IsFilled place count item self.old self.new) }
+    {
+        let block = place / BLOCK;
+        begin(&mut self.starts, &mut self.blocks, block)?;
+        let start = self.starts.get(block);
+        put_run(&mut self.blocks, start, place % BLOCK, count, item);
+        Ok(())
+    }
+
     /// A place past this one; up to it all items are the same as here.
     pub fn same_until(&self, place: usize) -> usize
         requires exact { (x y : T) → T.eq x y ≡ true → x ≡ y }
@@ -110,6 +140,33 @@ fn of_blocks<T: Copy + Drop>(
         starts,
         blocks,
     }
+}
+
+/// Puts an item at so many places of a block, from one on.
+fn put_run<T: Copy + Drop>(
+    blocks: &mut Sequence<T>,
+    start: usize,
+    first: usize,
+    count: usize,
+    item: T,
+)
+    requires { (start * 16 + first) + count ≤ length blocks.old }
+    ensures { IsFilled (start * 16 + first) count item blocks.old blocks.new }
+{
+    // All places are below it, so nothing wraps.
+    let _items = blocks.len();
+    let from = start * BLOCK + first;
+    for place in from..from + count {
+        put(blocks, place, item);
+    }
+}
+
+/// Puts an item at the place.
+fn put<T: Copy + Drop>(items: &mut Sequence<T>, place: usize, item: T)
+    requires { place < length items.old }
+    ensures { items.new ≡ set items.old place item }
+{
+    items.items[place] = item;
 }
 
 /// Gives the block items of its own, if it has none. They are the common ones first.

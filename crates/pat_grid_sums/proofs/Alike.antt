@@ -1,14 +1,10 @@
 -- Words that are the same, taken together at the first of them.
-use Rattle.std.proofs.Common.{◌≡◌, ℕ, zero, suc, ◌+◌, ◌<◌, ◌≤◌, ◌⊎◌, inl, inr, ⊎_elim, List, replicate, length, get_or, refl, sym, ap, ◌∙◌, subst, arith}
-use Rattle.std.specs.Int.{bit_at}
+use Rattle.std.proofs.Common.{◌≡◌, ℕ, zero, suc, ◌+◌, ◌<◌, ◌≤◌, ◌⊎◌, inl, inr, ⊎_elim, List, replicate, length, get_or, refl, sym, ◌∙◌, subst, arith}
 use Rattle.std.proofs.lemmas.Bool.{cases_lt, cases_eq}
-use Rattle.std.proofs.lemmas.Nat.Bits.{bit_at-zero}
 use Rattle.pat_grid_sums.specs.declared.shape.Shape.{Shape}
-use Rattle.pat_inclusion_spec.specs.bounds.Numbers.{points_in}
-use Rattle.pat_grid_sums.specs.Sets.{Puts, AnyBefore, IsJoined}
-use Rattle.pat_grid_sums.specs.Shapes.{Has, IsRow, IsGathered, IsFirst, IsRowSum, IsAlikeSum, IsFirstSum}
-use Rattle.pat_grid_sums.proofs.Putting.{puts_none, puts_as, has_all, has_as}
-use Rattle.pat_grid_sums.proofs.Summing.{row_sums}
+use Rattle.pat_grid_sums.specs.Sets.{Puts, AnyBefore}
+use Rattle.pat_grid_sums.specs.Shapes.{Has, IsFirst, IsRowSum, IsAlikeSum, IsFirstSum}
+use Rattle.pat_grid_sums.proofs.Putting.{puts_as, has_all, has_as}
 
 -- one of the first m words is the first that is x, or none of them is
 first_of : (ones : List ℕ) (x m : ℕ) → ((i : ℕ) × (i < m) × (get_or ones i 0 ≡ x) × IsFirst ones i) ⊎ ((i : ℕ) → i < m → get_or ones i 0 ≡ x → ⊥)

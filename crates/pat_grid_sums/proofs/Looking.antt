@@ -1,5 +1,5 @@
 -- Which symbols are closed after a look, and after a pass.
-use Rattle.std.proofs.Common.{◌≡◌, ℕ, suc, ◌+◌, ◌-◌, ◌*◌, ◌/◌, ◌%◌, ◌<◌, ◌≤◌, ◌⊎◌, inl, inr, ⊎_elim, Bool, true, false, List, [], ◌∷◌, ◌++◌, replicate, length, length-set, get_or, set, refl, sym, ap, ap₂, ◌∙◌, subst, arith}
+use Rattle.std.proofs.Common.{◌≡◌, ℕ, suc, ◌+◌, ◌-◌, ◌/◌, ◌%◌, ◌<◌, ◌≤◌, ◌⊎◌, inl, inr, ⊎_elim, Bool, true, false, List, [], ◌∷◌, ◌++◌, replicate, length, length-set, get_or, set, refl, sym, ap, ap₂, ◌∙◌, subst, arith}
 use Rattle.std.specs.Int.{bit_at}
 use Rattle.std.proofs.lemmas.Bool.{cases_lt, cases_eq}
 use Rattle.std.proofs.lemmas.Nat.Bits.{bit_at-lt}
@@ -7,7 +7,7 @@ use Rattle.std.proofs.lemmas.List.{get_or-set_same, get_or-set_other, get_or_app
 use Rattle.pat_words_spec.specs.Words.{Word}
 use Rattle.pat_inclusion_spec.specs.bounds.CutSets.{IsPoint}
 use Rattle.pat_inclusion_spec.specs.bounds.Symbols.{Symbol, NoSymbol, OneSymbol, TagSymbol, SumSymbol, ProdSymbol, StarSymbol, LowerSymbol, GivenSymbol, symbol_at, root_at}
-use Rattle.pat_inclusion_spec.specs.bounds.Tables.{Setting, Table, IsKnown, IsSound, IsStepFrom, Step, StepAt, StepByOne, StepByTwo, capped}
+use Rattle.pat_inclusion_spec.specs.bounds.Tables.{Setting, Table, IsKnown, IsSound, Step, StepAt, StepByOne, StepByTwo, capped}
 use Rattle.pat_inclusion_spec.specs.bounds.Numbers.{number_of}
 use Rattle.pat_inclusion_laws.proofs.NumberLaws.{pass_closed}
 use Rattle.pat_inclusion_laws.proofs.TableLaws.{start_sound, steps_sound}
@@ -15,7 +15,7 @@ use Rattle.pat_grid_points.proofs.Digits.{zero_at}
 use Rattle.pat_grid_points.specs.symbols.Views.{symbol_view}
 use Rattle.pat_grid_sums.specs.declared.system.System.{System}
 use Rattle.pat_grid_sums.specs.Sets.{In}
-use Rattle.pat_grid_sums.specs.Systems.{setting_in, IsPartOf, IsPart, Holds, set_at, table_in, AreSets, IsClosedAt, IsGrown, Stands, Looked, Passed, NoPoints, IsSettled}
+use Rattle.pat_grid_sums.specs.Systems.{setting_in, IsPartOf, IsPart, set_at, table_in, AreSets, IsClosedAt, IsGrown, Stands, Looked, Passed, NoPoints, IsSettled}
 use Rattle.pat_grid_sums.proofs.Putting.{none_in}
 
 -- ---- a step from a table that differs at no part

@@ -1,11 +1,10 @@
 -- What the steps of a symbol give, by sets.
-use Rattle.std.proofs.Common.{◌≡◌, ℕ, zero, suc, ◌+◌, ◌-◌, ◌*◌, ◌/◌, ◌%◌, ◌<◌, ◌≤◌, min, ◌⊎◌, inl, inr, ⊎_elim, Bool, true, false, List, [], ◌∷◌, replicate, length, get_or, refl, sym, ap, ap₂, ◌∙◌, subst, arith, zero-mul}
+use Rattle.std.proofs.Common.{◌≡◌, ℕ, zero, suc, ◌+◌, ◌*◌, ◌/◌, ◌%◌, ◌<◌, ◌≤◌, ◌⊎◌, inl, inr, ⊎_elim, Bool, true, false, List, [], ◌∷◌, replicate, length, get_or, refl, sym, ap, ap₂, ◌∙◌, subst, arith, zero-mul}
 use Rattle.std.specs.Prelude.{slice_get, nat_eq, Option, Some, None, Ok, Err, IfOk}
 use Rattle.std.specs.declared.result.Result.{Result}
-use Rattle.std.specs.Int.{bit_at}
 use Rattle.std.proofs.lemmas.Bool.{cases_lt, cases_eq, cond-false, ne_eqb}
-use Rattle.std.proofs.lemmas.Nat.{div-mul-add, mod-mul-add, div-add-mod'}
-use Rattle.std.proofs.lemmas.Nat.Bits.{bit_at-lt, bit_at-zero}
+use Rattle.std.proofs.lemmas.Nat.{div-mul-add, mod-mul-add}
+use Rattle.std.proofs.lemmas.Nat.Bits.{bit_at-lt}
 use Rattle.std.proofs.lemmas.List.{get_or_past, length-replicate}
 use Rattle.std.proofs.lemmas.Option.{slice_get_past}
 use Rattle.pat_words_spec.specs.Words.{Word, no_word, one, plus}
@@ -14,19 +13,19 @@ use Rattle.pat_words_spec.specs.Tags.{HasTagsBelow}
 use Rattle.pat_words_spec.specs.Languages.{MemberOf}
 use Rattle.pat_words_laws.proofs.WordLaws.{word_ext}
 use Rattle.pat_inclusion_spec.specs.bounds.CutSets.{IsPoint}
-use Rattle.pat_inclusion_spec.specs.bounds.Symbols.{Symbol, NoSymbol, OneSymbol, TagSymbol, SumSymbol, ProdSymbol, StarSymbol, LowerSymbol, GivenSymbol, symbol_at, root_at}
-use Rattle.pat_inclusion_spec.specs.bounds.Tables.{Setting, Table, IsKnown, Step, StepAt, StepByOne, StepByTwo, capped}
+use Rattle.pat_inclusion_spec.specs.bounds.Symbols.{NoSymbol, OneSymbol, TagSymbol, SumSymbol, ProdSymbol, StarSymbol, LowerSymbol, GivenSymbol, symbol_at, root_at}
+use Rattle.pat_inclusion_spec.specs.bounds.Tables.{Setting, Table, IsKnown, Step, StepAt, StepByOne, StepByTwo}
 use Rattle.pat_inclusion_spec.specs.bounds.Numbers.{points_in, number_of, point_of}
 use Rattle.pat_inclusion_laws.proofs.NumberLaws.{number_below, number_point, number_small, point_number, point_fits}
 use Rattle.pat_grid_points.specs.declared.grid.Grid.{Grid}
 use Rattle.pat_grid_points.specs.Views.{summed, points_of, HasPoint}
-use Rattle.pat_grid_points.proofs.Digits.{zero_at, summed_zero_left}
+use Rattle.pat_grid_points.proofs.Digits.{summed_zero_left}
 use Rattle.pat_grid_points.proofs.Members.{member_point, point_member}
 use Rattle.pat_grid_sums.specs.declared.shape.Shape.{Shape}
 use Rattle.pat_grid_sums.specs.declared.system.System.{System}
 use Rattle.pat_grid_sums.specs.Sets.{In, Puts, AnyBefore}
 use Rattle.pat_grid_sums.specs.Shapes.{IsShape, Has}
-use Rattle.pat_grid_sums.specs.Systems.{setting_in, given_words, points_in_grid, IsSystem, Holds, set_at, table_in, AreSets, IsSumOf, IsHeldAt, IsGivenAt, IsStepped, IsGrown}
+use Rattle.pat_grid_sums.specs.Systems.{setting_in, points_in_grid, IsSystem, Holds, set_at, table_in, IsSumOf, IsHeldAt, IsGivenAt, IsStepped, IsGrown}
 use Rattle.pat_grid_sums.proofs.Putting.{none_in, nothing_in, puts_none, puts_as, puts_more, has_all, has_as}
 use Rattle.pat_grid_sums.proofs.Splitting.{all_points, word_within}
 use Rattle.pat_grid_sums.proofs.Summing.{same_number}

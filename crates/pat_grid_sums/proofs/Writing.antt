@@ -1,17 +1,18 @@
 -- Entries written, one after another.
-use Rattle.std.proofs.Common.{◌≡◌, ◌≢◌, ℕ, ◌+◌, ◌-◌, ◌*◌, ◌/◌, ◌%◌, ◌<◌, ◌≤◌, ◌⊎◌, inl, inr, ⊎_elim, Bool, true, false, List, [], replicate, length, length-set, get_or, set, refl, sym, ap, ap₂, ◌∙◌, subst, arith, suc-mul, mul-le-mul_right}
+use Rattle.std.proofs.Common.{◌≡◌, ◌≢◌, ℕ, ◌+◌, ◌-◌, ◌*◌, ◌/◌, ◌%◌, ◌^◌, ◌<◌, ◌≤◌, ◌⊎◌, inl, inr, ⊎_elim, Bool, true, false, List, [], replicate, length, length-set, get_or, set, refl, sym, ap, ap₂, ◌∙◌, subst, arith, mul-le-mul_right}
 use Rattle.std.specs.Prelude.{IsTrue, ◌↔◌, if◌then◌else◌}
 use Rattle.std.specs.Int.{bit_at}
 use Rattle.std.proofs.lemmas.Bool.{cases_lt, cases_eq}
-use Rattle.std.proofs.lemmas.Nat.{div-mul-add, mod-mul-add}
+use Rattle.std.proofs.lemmas.Nat.{div-mul-add, mod-mul-add, shr-shr}
 use Rattle.std.proofs.Math.Nat.{add-mul}
-use Rattle.std.proofs.lemmas.Nat.Bits.{bit_at-lt, bit_at-zero}
+use Rattle.std.proofs.lemmas.Nat.Bits.{bit_at-lt, bit_at-zero, bit_at_ones}
 use Rattle.std.proofs.lemmas.List.{get_or-set_same, get_or-set_other, get_or_past, get_or-replicate, length-replicate, length-map}
 use Rattle.pat_words_spec.specs.Words.{Word}
 use Rattle.pat_inclusion_spec.specs.bounds.CutSets.{IsPoint}
-use Rattle.pat_inclusion_spec.specs.bounds.Tables.{Setting, IsKnown, HasTree}
+use Rattle.pat_inclusion_spec.specs.bounds.Tables.{IsKnown, HasTree}
 use Rattle.pat_inclusion_spec.specs.bounds.Numbers.{points_in, number_of, table_of}
 use Rattle.pat_inclusion_laws.proofs.NumberLaws.{number_small, passed_closed}
+use Rattle.pat_grid_points.specs.Sparse.{IsFilled}
 use Rattle.pat_grid_points.specs.symbols.Views.{symbol_view}
 use Rattle.pat_grid_sums.specs.declared.shape.Shape.{Shape}
 use Rattle.pat_grid_sums.specs.declared.system.System.{System}
@@ -62,6 +63,19 @@ word_none words word from width old e none = (
   refl,
   λ q l. let z = ap (λ w. bit_at w q) e in let b = bit_at-zero q in let o = none (from + q) (omega arith) (omega arith) in omega arith,
   λ i o. refl,
+)
+
+-- the first bits of ones that were shifted down to them
+pub full_bits : (n width word q : ℕ) → word ≡ (2 ^ n - 1) / 2 ^ (n - width) → width ≤ n → q < width → bit_at word q ≡ 1
+full_bits n width word q is within l =
+    ap (λ w. bit_at w q) is ∙ ap (λ x. x % 2) (shr-shr (2 ^ n - 1) (n - width) q) ∙ bit_at_ones n ((n - width) + q) (omega arith)
+
+-- a word of all bits
+pub word_all : (words : List ℕ) (word from width : ℕ) (old new : List ℕ) → ((q : ℕ) → q < width → bit_at (get_or words word 0) q ≡ 1) → IsFilled from width 1 old new → WordWritten words word from width old new
+word_all words word from width old new all f = (
+  f.as_long,
+  λ q l. let one = all q l in let there = f.here (from + q) 2 (omega arith) (omega arith) in omega arith,
+  λ i o. f.elsewhere i 2 o,
 )
 
 -- ---- the words of a set

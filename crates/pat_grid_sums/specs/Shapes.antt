@@ -28,7 +28,7 @@ RowTo k n v c row = (length row ≡ c) × FilledTo k n v c row
 abbrev pub IsRow : ℕ → ℕ → ℕ → List ℕ → Type 0
 IsRow k n v row = RowTo k n v (points_in k n) row
 
--- the words at the sums of the point with each point have the bits
+-- the words at the sums of the point with each point have the bits; those of the sums are `scale` apart, from `from` on
 abbrev pub HasSums : ℕ → ℕ → ℕ → List ℕ → ℕ → ℕ → ℕ → Type 0
 HasSums k n v words bits from scale =
     (w q : ℕ) → w < points_in k n → bit_at bits q ≡ 1 → In words (from + summed k n v w * scale) q

@@ -1,9 +1,10 @@
 // The entries of the least sets.
-ghost use Rattle.std.specs.Prelude.{◌≡◌, ◌<◌, ◌≤◌, ◌+◌, ◌*◌, ◌^◌, ℕ, length, get_or, set, if◌then◌else◌, IfOk, IfSome, OnOk};
+ghost use Rattle.std.specs.Prelude.{◌≡◌, ◌<◌, ◌≤◌, ◌+◌, ◌*◌, ◌^◌, ℕ, length, get_or, set, if◌then◌else◌, IfOk, IfSome, OnOk, IsTrue};
+ghost use Rattle.std.specs.Int.{bit_at};
 ghost use Rattle.pat_grid_sums.specs.Shapes.{IsShape};
 ghost use Rattle.pat_grid_sums.specs.Systems.{setting_in, IsSystem, AreSets, AreReached, Written, WordWritten, EntriesTo};
 
-use crate::bits::has;
+use crate::bits::{WORD, has};
 use crate::least::least_sets;
 use crate::shape::{Shape, shape_of};
 use crate::system::System;
@@ -78,6 +79,7 @@ fn put_word(
     entries: &mut SparseList<u16>,
 ) -> Result<(), AllocError>
     requires word { word < length words.now }
+    requires some { 0 < width }
     requires width { width ≤ 64 }
     requires room { from + width ≤ length entries.old }
     requires fits { from + width < 2 ^ 64 }
@@ -87,10 +89,22 @@ fn put_word(
     if words[word] == 0 {
         return Ok(());
     }
+    if is_full(words[word], width) {
+        return entries.fill(from, width, 1);
+    }
     for bit in 0..width {
         put_one(has(words, word, bit), from + bit, entries)?;
     }
     Ok(())
+}
+
+/// Whether the word has all bits of so many places.
+fn is_full(word: u64, width: usize) -> bool
+    requires some { 0 < width }
+    requires width { width ≤ 64 }
+    ensures { IsTrue result → (q : ℕ) → q < width → bit_at word q ≡ 1 }
+{
+    word == u64::MAX >> ((WORD - width) as u32)
 }
 
 /// Puts in the entry of a tree, if there is one.

@@ -52,13 +52,13 @@ pub fn next_known(board: &Board, entries: &SparseList<u16>, s: usize, from: usiz
         if entry(board, entries, s, number) <= board.limit + 1 {
             return number;
         }
-        number = unknown_until(board, entries, s, number);
+        number = alike_until(board, entries, s, number);
     }
     number
 }
 
 /// A number past this one; up to it the symbol's entries are the same as here.
-fn unknown_until(board: &Board, entries: &SparseList<u16>, s: usize, number: usize) -> usize
+pub fn alike_until(board: &Board, entries: &SparseList<u16>, s: usize, number: usize) -> usize
     requires board { IsBoard board.now }
     requires all { HasAllEntries (setting_of board.now) entries.now }
     requires number { number < board.now.points }

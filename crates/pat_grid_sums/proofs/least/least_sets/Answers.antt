@@ -1,4 +1,4 @@
-use Rattle.std.proofs.Common.{◌≡◌, ◌+◌, ◌*◌, ◌<◌, ◌≤◌, length, sym, subst, ap, arith, mul-le-mul_right}
+use Rattle.std.proofs.Common.{◌≡◌, ◌+◌, ◌*◌, ◌≤◌, length, subst, arith, mul-le-mul_right}
 use Rattle.std.proofs.Math.Nat.{add-mul}
 use Rattle.pat_grid_sums.specs.Systems.{setting_in, Stands}
 use Rattle.pat_grid_sums.proofs.Looking.{all_begin, pass_settled}

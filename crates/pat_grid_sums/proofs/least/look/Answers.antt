@@ -1,4 +1,4 @@
-use Rattle.std.proofs.Common.{◌≡◌, ◌<◌, ℕ, [], length, get_or, set, sym, ap, subst, ◌∙◌, arith}
+use Rattle.std.proofs.Common.{◌<◌, [], length, get_or, sym, ap, subst, ◌∙◌, arith}
 use Rattle.std.proofs.lemmas.List.{get_or_default}
 use Rattle.pat_grid_sums.specs.Systems.{setting_in, set_at, IsGrown}
 use Rattle.pat_grid_sums.proofs.Looking.{not_looked, looked_same, looked_grown}

@@ -1,4 +1,3 @@
-use Rattle.std.proofs.Common.{length}
 use Rattle.pat_grid_sums.specs.Systems.{AreSets, NoPoints}
 use Rattle.pat_grid_sums.proofs.least.no_sets.Given as goal
 

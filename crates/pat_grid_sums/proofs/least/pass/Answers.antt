@@ -1,4 +1,4 @@
-use Rattle.std.proofs.Common.{◌≡◌, false, length, sym, subst, arith}
+use Rattle.std.proofs.Common.{◌≡◌, length, subst, arith}
 use Rattle.pat_grid_sums.specs.Systems.{setting_in, Passed}
 use Rattle.pat_grid_sums.proofs.Looking.{pass_begins, pass_goes_on}
 use Rattle.pat_grid_sums.proofs.least.pass.Goals as goal

@@ -1,4 +1,4 @@
-use Rattle.std.proofs.Common.{◌≡◌, ◌<◌, ◌≤◌, get_or, ⊎_elim, ap, sym, subst, arith}
+use Rattle.std.proofs.Common.{◌≡◌, ◌<◌, get_or, ⊎_elim, ap, subst, arith}
 use Rattle.pat_grid_sums.proofs.least.waits.Goals as goal
 
 pub returns-then-looked-eq0 : goal.returns-then-looked-eq0

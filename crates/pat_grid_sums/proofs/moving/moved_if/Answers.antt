@@ -1,4 +1,4 @@
-use Rattle.std.proofs.Common.{ℕ, ◌<◌, length, get_or, sym, subst}
+use Rattle.std.proofs.Common.{length, sym, subst}
 use Rattle.pat_grid_sums.specs.Sets.{Puts, AnyBefore, GoesBy, IsShiftedAny}
 use Rattle.pat_grid_sums.specs.Shapes.{IsRow, Has}
 use Rattle.pat_grid_sums.proofs.Putting.{has_all}

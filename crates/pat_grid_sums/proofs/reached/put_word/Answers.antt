@@ -1,4 +1,4 @@
-use Rattle.std.proofs.Common.{◌+◌, ◌<◌, ◌≤◌, length, arith}
+use Rattle.std.proofs.Common.{◌+◌, arith}
 use Rattle.pat_grid_sums.proofs.Writing.{word_begun, word_more, word_none}
 use Rattle.pat_grid_sums.proofs.reached.put_word.Goals as goal
 

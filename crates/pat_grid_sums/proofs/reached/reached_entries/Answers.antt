@@ -1,6 +1,6 @@
-use Rattle.std.proofs.Common.{◌≡◌, ◌<◌, length, refl, sym, subst, arith}
+use Rattle.std.proofs.Common.{length, refl, sym, subst, arith}
 use Rattle.std.specs.Prelude.{IfSome}
-use Rattle.pat_grid_sums.specs.Systems.{setting_in, AreSets, IsSettled, EntriesTo}
+use Rattle.pat_grid_sums.specs.Systems.{setting_in, AreSets, IsSettled}
 use Rattle.pat_grid_sums.proofs.Writing.{entries_reached}
 use Rattle.pat_grid_sums.proofs.reached.reached_entries.Goals as goal
 

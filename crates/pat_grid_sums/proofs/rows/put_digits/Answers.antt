@@ -1,4 +1,4 @@
-use Rattle.std.proofs.Common.{◌≡◌, ◌+◌, ◌*◌, ◌<◌, min, length, length-set, ap, ◌∙◌, sym, subst, arith}
+use Rattle.std.proofs.Common.{◌≡◌, ◌+◌, ◌*◌, min, length, length-set, ap, ◌∙◌, sym, subst, arith}
 use Rattle.pat_grid_sums.specs.Shapes.{FilledTo}
 use Rattle.pat_grid_sums.proofs.Splitting.{filled_more, digit_sum}
 use Rattle.pat_grid_sums.proofs.rows.put_digits.Goals as goal

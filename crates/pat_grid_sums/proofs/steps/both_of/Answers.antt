@@ -1,4 +1,4 @@
-use Rattle.std.proofs.Common.{◌≡◌, length, ap, ◌∙◌, sym, subst}
+use Rattle.std.proofs.Common.{length, ap, ◌∙◌, sym, subst}
 use Rattle.std.proofs.lemmas.List.{length-replicate}
 use Rattle.pat_grid_sums.specs.Sets.{In, Puts}
 use Rattle.pat_grid_sums.specs.Systems.{set_at, AreSets}

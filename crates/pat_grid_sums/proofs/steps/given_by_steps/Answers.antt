@@ -1,5 +1,5 @@
-use Rattle.std.proofs.Common.{◌≡◌, ℕ, ◌*◌, ◌<◌, ap, ◌∙◌, arith}
-use Rattle.pat_words_spec.specs.Words.{Word, one}
+use Rattle.std.proofs.Common.{◌*◌, ap, ◌∙◌, arith}
+use Rattle.pat_words_spec.specs.Words.{Word}
 use Rattle.pat_words_spec.specs.Cuts.{cut_at}
 use Rattle.pat_inclusion_spec.specs.bounds.Numbers.{number_of}
 use Rattle.pat_grid_points.specs.symbols.Views.{symbol_view}

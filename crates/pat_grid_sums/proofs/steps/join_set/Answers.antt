@@ -1,4 +1,4 @@
-use Rattle.std.proofs.Common.{◌<◌, length, get_or, [], sym, ap, subst, ◌∙◌, arith}
+use Rattle.std.proofs.Common.{length, [], ap, subst, ◌∙◌, arith}
 use Rattle.std.proofs.lemmas.List.{get_or_default}
 use Rattle.pat_grid_sums.specs.Sets.{In, Puts}
 use Rattle.pat_grid_sums.specs.Systems.{set_at}

@@ -1,4 +1,4 @@
-use Rattle.std.proofs.Common.{◌≡◌, length, sym, subst, arith}
+use Rattle.std.proofs.Common.{◌≡◌, length, subst, arith}
 use Rattle.pat_grid_sums.specs.Sets.{Puts, AnyBefore}
 use Rattle.pat_grid_sums.specs.Systems.{IsHeldAt}
 use Rattle.pat_grid_sums.proofs.Stepping.{held_begun, held_more}

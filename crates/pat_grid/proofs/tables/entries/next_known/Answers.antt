@@ -7,10 +7,10 @@ pub loop-number-preserved : goal.loop-number-preserved
 loop-number-preserved c =
     let g = setting_of c.args.board.now in
     let number = c.loop-number.number in
-    let to = c.unknown_until-number.ensures in
+    let to = c.alike_until-number.ensures in
     let past = to.past in
     let from = c.loop-number.invariant.0 in (
       omega arith,
       to.within,
-      none_known g c.args.entries.now c.args.s c.args.from number c.unknown_until-number.result c.entry.result c.entry.ensures c.if-entry-board.false c.loop-number.invariant.2 to.same,
+      none_known g c.args.entries.now c.args.s c.args.from number c.alike_until-number.result c.entry.result c.entry.ensures c.if-entry-board.false c.loop-number.invariant.2 to.same,
     )

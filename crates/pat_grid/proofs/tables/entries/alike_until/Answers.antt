@@ -1,6 +1,6 @@
 use Rattle.std.proofs.Common.{arith}
 use Rattle.pat_grid.proofs.Walking.{same_entries}
-use Rattle.pat_grid.proofs.tables.entries.unknown_until.Goals as goal
+use Rattle.pat_grid.proofs.tables.entries.alike_until.Goals as goal
 
 pub returns-clause-same : goal.returns-clause-same
 returns-clause-same c =
