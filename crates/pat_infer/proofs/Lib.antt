@@ -4,4 +4,3 @@ mod SignedNumbers
 mod Climbing
 mod Parts
 mod WalkFunctions
-mod Alone

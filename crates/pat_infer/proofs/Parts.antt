@@ -85,6 +85,11 @@ kept_walked p old mid new needs r n t w g =
 
 -- ---- lets
 
+-- a let without a name takes nothing off
+pub nothing_off : (needs : Needs) → needs ≡ body_needs None needs
+nothing_off [] = refl
+nothing_off (e ∷ needs) = ap (λ (es : Needs). e ∷ es) (nothing_off needs)
+
 module _ (p : Program) (a b c : Problem) (n : ℕ) (x : Option ℕ) (r s : Found) where
   pub let_walked : (d : Problem) (body bound inner needs : List (ℕ × MailboxType)) → IsWalked p a b body r → IsWalked p b c bound s → needs_view inner ≡ body_needs x (needs_view body) → IsWalked p c d needs (own_let n (1 + length c.vars) (needs_view bound) (needs_view inner)) → IsWalked p a d needs (let_found n (1 + length a.vars + length r.vars + length s.vars) x r s)
   let_walked d body bound inner needs w v e j =

@@ -4,3 +4,4 @@ mod LookUps
 pub mod Listed
 mod Naming
 mod Checked
+mod AtMostOne

@@ -3,6 +3,7 @@ ghost use Rattle.std.specs.Prelude.{◌≡◌, ◌≤◌, ◌<◌, length, take,
 ghost use Rattle.std.specs.List.{AllByRecursion};
 ghost use Rattle.pat_semantics_spec.specs.Programs.{is_among};
 ghost use Rattle.pat_type_schemes_spec.specs.NodeTypes.{need_of};
+ghost use Rattle.pat_derivation_spec.specs.Derivations.{ascends_from};
 ghost use Rattle.pat_infer_spec.specs.Needs.{put as put_need, needs_but};
 ghost use Rattle.pat_types.specs.Views.{type_view, needs_view};
 ghost use Rattle.pat_infer_environments.specs.Stopping.{StopsAt, first_is};
@@ -21,6 +22,20 @@ pub fn find(needs: &[(u32, MailboxType)], variable: usize) -> Option<&MailboxTyp
         }
     }
     None
+}
+
+/// Whether the variables are in ascending order.
+pub fn ascend(needs: &[(u32, MailboxType)]) -> bool
+    ensures { result ≡ ascends_from 0 (needs_view needs.now) }
+{
+    let mut least: u64 = 0;
+    for (variable, _) in needs {
+        if least > *variable as u64 {
+            return false;
+        }
+        least = *variable as u64 + 1;
+    }
+    true
 }
 
 /// Puts a need among needs in ascending order, in place of what was needed of the variable.

@@ -54,6 +54,7 @@ pub fn copy_needs(
     ensures { IfOk result (λ copy. needs_view copy ≡ needs_view needs.now) }
 {
     let mut copies = Sequence::new(alloc);
+    copies.items.reserve(needs.len())?;
     for (variable, of) in needs {
         let copy = of.copy()?;
         copies.push((*variable, copy))?;

@@ -1,8 +1,7 @@
 -- A chain of lets, from the inside out.
-use Rattle.std.specs.Prelude.{ℕ, zero, suc, Bool, true, ◌&&◌, nat_le, List, [], ◌∷◌, Option, Some, None}
+use Rattle.std.specs.Prelude.{ℕ, zero, suc, List, [], ◌∷◌, Option, Some, None}
 use Rattle.pat_semantics_spec.specs.Programs.{Core, Let, Node, Program, node_at}
 use Rattle.pat_type_system_spec.specs.Types.{TypeOf}
-use Rattle.pat_type_schemes_spec.specs.NodeTypes.{Needs}
 use Rattle.pat_infer_spec.specs.Constraints.{Found}
 use Rattle.pat_infer_spec.specs.Walk.{bound_found, with_node, walk}
 
@@ -42,8 +41,3 @@ let_around p levels n asked k (Some d) r = let_core p levels n asked k d.core r
 abbrev pub climbed : Program → TypeOf → ℕ → ℕ → List ℕ → Found → Found
 climbed p asked k levels [] r = r
 climbed p asked k levels (n ∷ ns) r = climbed p asked k (suc levels) ns (let_around p levels n asked k (node_at p n) r)
-
--- whether each name is at least n, and greater than the one before it
-abbrev pub ascend_from : ℕ → Needs → Bool
-ascend_from n [] = true
-ascend_from n (e ∷ es) = nat_le n e.0 && ascend_from (suc e.0) es

@@ -13,8 +13,7 @@ ghost use Rattle.pat_patterns.specs.Views.{pattern_view};
 ghost use Rattle.pat_types.specs.Views.{needs_view, result_view};
 ghost use Rattle.pat_infer_problems.specs.Growing.{Grows};
 ghost use Rattle.pat_infer_problems.specs.declared.problem.Problem.{Problem as GhostProblem};
-ghost use Rattle.pat_infer.specs.walk.Chains.{core_body, node_body, next_body, node_bound, let_around, climbed, ascend_from};
-ghost use Rattle.pat_infer_environments.specs.lets.Lets.{own_let};
+ghost use Rattle.pat_infer.specs.walk.Chains.{core_body, node_body, next_body, node_bound, let_around, climbed};
 ghost use Rattle.pat_infer.specs.walk.Walking.{IsSigned, InfersArms, branch_view};
 ghost use Rattle.pat_infer_problems.specs.Walked.{IsWalked, Infers};
 
@@ -503,7 +502,7 @@ fn close_let(
             let wanted = asked_of(signed.program, part, name, body.as_slice())?;
             let bound = walk(alloc, signed, levels, part, &wanted, problem)?;
             let inner = beside(name, body);
-            let needs = join_parts(
+            let needs = join_let(
                 alloc,
                 signed.program,
                 node,
@@ -515,39 +514,6 @@ fn close_let(
             Ok(needs)
         }
     }
-}
-
-/// The rules of the let at a node, and what it needs. Where its bound part needs nothing, that is what its body needs beside the name.
-#[tactic(auto, using(crate::proofs::Alone::nothing_joined))]
-fn join_parts(
-    alloc: Global,
-    program: &Program,
-    node: u32,
-    bound: &[(u32, MailboxType)],
-    body: Sequence<(u32, MailboxType)>,
-    problem: &mut Problem,
-) -> Result<Sequence<(u32, MailboxType)>, InferError>
-    ensures { Infers program.now problem.old problem.new result
-        (own_let node (1 + length problem.old.vars) (needs_view bound.now) (needs_view body)) }
-{
-    if bound.is_empty() && ascend(body.as_slice()) {
-        return Ok(body);
-    }
-    join_let(alloc, program, node, bound, body.as_slice(), problem)
-}
-
-/// Whether the variables are in ascending order.
-fn ascend(needs: &[(u32, MailboxType)]) -> bool
-    ensures { result ≡ ascend_from 0 (needs_view needs.now) }
-{
-    let mut least: u64 = 0;
-    for (variable, _) in needs {
-        if least > *variable as u64 {
-            return false;
-        }
-        least = *variable as u64 + 1;
-    }
-    true
 }
 
 /// The name and the bound part of a let.
@@ -564,13 +530,16 @@ fn let_parts(program: &Program, node: u32) -> Option<(Option<u32>, u32)>
 }
 
 /// What the body needs beside the name.
+#[tactic(auto, using(crate::proofs::Parts::nothing_off))]
 fn beside(name: Option<u32>, body: Sequence<(u32, MailboxType)>) -> Sequence<(u32, MailboxType)>
     ensures { needs_view result ≡ body_needs name (needs_view body) }
 {
-    let mut needs = body;
     match name {
-        Some(variable) => without(&mut needs, &[variable]),
-        None => without(&mut needs, &[]),
+        None => body,
+        Some(variable) => {
+            let mut needs = body;
+            without(&mut needs, &[variable]);
+            needs
+        }
     }
-    needs
 }

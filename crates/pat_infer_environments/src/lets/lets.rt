@@ -7,7 +7,7 @@ ghost use Rattle.pat_type_schemes_spec.specs.NodeTypes.{need_of};
 ghost use Rattle.pat_infer_spec.specs.Constraints.{AtNode, OrderRule, DoubleRule, each_unless};
 ghost use Rattle.pat_infer_spec.specs.Needs.{names_of_two};
 ghost use Rattle.pat_infer_spec.specs.BothParts.{in_order, one_receives};
-ghost use Rattle.pat_infer_spec.specs.Walk.{asked_as as asked_as_of, asked_of as asked_of_node, name_need};
+ghost use Rattle.pat_infer_spec.specs.Walk.{asked_as as asked_as_of, asked_of as asked_of_node, name_need, let_findings};
 ghost use Rattle.pat_core.specs.Views.{kind_view, program_view};
 ghost use Rattle.pat_types.specs.Views.{type_view, result_view, needs_view};
 ghost use Rattle.pat_infer_problems.specs.Results.{Meets};
@@ -15,7 +15,7 @@ ghost use Rattle.pat_infer_environments.specs.Combining.{need_ref};
 ghost use Rattle.pat_infer_environments.specs.lets.Lets.{own_let};
 ghost use Rattle.pat_infer_problems.specs.Walked.{Infers};
 
-use crate::gathering::gather_parts;
+use crate::gathering::gather_let;
 use crate::looking::{find_next, first_place};
 use crate::{find, is_receiver};
 use pat_core::{Kind, Program};
@@ -85,19 +85,31 @@ pub fn join_let(
     program: &Program,
     node: u32,
     bound: &[(u32, MailboxType)],
-    body: &[(u32, MailboxType)],
+    body: Sequence<(u32, MailboxType)>,
     problem: &mut Problem,
 ) -> Result<Sequence<(u32, MailboxType)>, InferError>
     ensures { Infers program.now problem.old problem.new result
-        (own_let node (1 + length problem.old.vars) (needs_view bound.now) (needs_view body.now)) }
+        (own_let node (1 + length problem.old.vars) (needs_view bound.now) (needs_view body)) }
 {
-    check_order(program, node, bound, body)?;
-    check_double(program, node, bound, body)?;
-    let needs = gather_parts(alloc, program, node, bound, body, problem)?;
+    check_let(program, node, bound, body.as_slice())?;
+    let needs = gather_let(alloc, program, node, bound, body, problem)?;
     Ok(needs)
 }
 
-// A function a rule: the first that is broken is the one that is answered.
+/// The rules of the let at a node: the first that is broken is the one that is answered.
+#[tactic(auto, using(pat_infer_problems::proofs::Joining::in_order))]
+fn check_let(
+    program: &Program,
+    node: u32,
+    bound: &[(u32, MailboxType)],
+    body: &[(u32, MailboxType)],
+) -> Result<(), InferError>
+    ensures { Meets program.now result (let_findings node (needs_view bound.now) (needs_view body.now)) }
+{
+    check_order(program, node, bound, body)?;
+    check_double(program, node, bound, body)
+}
+
 fn check_order(
     program: &Program,
     node: u32,

@@ -37,13 +37,13 @@ close_let-returns-in_err-needs-in-Some t c = λ first r w.
     let p = c.args.signed.now.program.now in
     let e = c.in_err-needs-in-Some.field-0.0 in
     let q = err_from_is_err_and c.from_residual-in_err-needs-in-Some.result c.from_residual-in_err-needs-in-Some.ensures.1 in
-    exits p c.from_residual-in_err-needs-in-Some.result q.0 e first c.join_parts.new.problem (let_around (program_view p) c.args.levels c.args.node (result_view c.args.asked.now) (1 + length first.vars) (node_at (program_view p) c.args.node) r) q.1 q.2
+    exits p c.from_residual-in_err-needs-in-Some.result q.0 e first c.join_let.new.problem (let_around (program_view p) c.args.levels c.args.node (result_view c.args.asked.now) (1 + length first.vars) (node_at (program_view p) c.args.node) r) q.1 q.2
     (let_stops p first c.args.problem.now c.args.levels c.args.node (result_view c.args.asked.now) c.in-Some.name c.in-Some.part c.args.body (result_view c.in_ok-wanted-in-Some.wanted) r e c.walk.new.problem c.as_slice-in-Some.result.now c.beside-inner.result (search rules) (search rules) w (search rules) (search rules) c.in_err-needs-in-Some.ensures)
 
 pub close_let-returns-in_ok-keep_node-in-Some : goal.close_let-returns-in_ok-keep_node-in-Some
 close_let-returns-in_ok-keep_node-in-Some t c = λ first r w.
     let p = c.args.signed.now.program.now in
-    let_closes p first c.args.problem.now c.args.levels c.args.node (result_view c.args.asked.now) c.in-Some.name c.in-Some.part c.args.body (result_view c.in_ok-wanted-in-Some.wanted) r c.walk.new.problem c.join_parts.new.problem c.keep_node.new.problem c.as_slice-in-Some.result.now c.beside-inner.result c.in_ok-needs-in-Some.needs (search rules) (search rules) w (search rules) (search rules) c.in_ok-needs-in-Some.ensures (search rules)
+    let_closes p first c.args.problem.now c.args.levels c.args.node (result_view c.args.asked.now) c.in-Some.name c.in-Some.part c.args.body (result_view c.in_ok-wanted-in-Some.wanted) r c.walk.new.problem c.join_let.new.problem c.keep_node.new.problem c.as_slice-in-Some.result.now c.beside-inner.result c.in_ok-needs-in-Some.needs (search rules) (search rules) w (search rules) (search rules) c.in_ok-needs-in-Some.ensures (search rules)
 
 pub close_lets-returns-in_err-needs : goal.close_lets-returns-in_err-needs
 close_lets-returns-in_err-needs t c = λ first r w.
