@@ -144,7 +144,7 @@ fn with_values<'a>(
 }
 
 /// Whether the left side is the right one or one of its arms, once the values that are patterns are put in. Both are patterns of
-/// an interface. Mostly it is an arm as it is written, or is the right one then, and nothing has to be put in on the left.
+/// an interface. Mostly it is an arm as it is written, or becomes the right one, and nothing is put in on the left.
 pub fn is_trivial(
     alloc: Global,
     plain: &[Pattern],

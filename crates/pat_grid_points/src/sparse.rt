@@ -72,7 +72,7 @@ impl<T: Copy + Drop + PartialEq> SparseList<T> {
         Ok(())
     }
 
-    /// Puts an item at so many places from this one on, and looks each block's start up once.
+    /// Puts an item at so many places from this one on, block by block. An error may have put some.
     pub fn fill(&mut self, from: usize, count: usize, item: T) -> Result<(), AllocError>
         requires { from + count ≤ length self.old }
         ensures { OnOk result (IsFilled from count item self.old self.new) }

@@ -98,7 +98,7 @@ fn put_word(
     Ok(())
 }
 
-/// Whether the word has all bits of so many places.
+/// Whether the word is just the bits of so many places, all of them.
 fn is_full(word: u64, width: usize) -> bool
     requires some { 0 < width }
     requires width { width ≤ 64 }

@@ -16,8 +16,8 @@ use pat_reduce_values::{Executable, bind, keep_free, value_for};
 use pat_sequences::Sequence;
 use std::alloc::{AllocError, Global};
 
-/// How many times its values a thread may have room for where it stops: growth by doubling leaves no more.
-const FAR_ABOVE: usize = 3;
+/// For how many times its values, and two more, a thread keeps room where it stops: doubling and a vector's least room stay below.
+const MOST_ROOM: usize = 3;
 
 /// The state that local steps began with, what they made of it, and how many they were.
 #[derive(Drop)]
@@ -44,22 +44,19 @@ pub fn local_run(
     match run_locally(alloc, code, &mut end, allowance) {
         Ok(steps) => {
             give_back_room(&mut end);
-            Ok(LocalRun {
-                start: state,
-                end,
-                steps,
-            })
+            let start = state;
+            Ok(LocalRun { start, end, steps })
         }
         Err(_) => Err(LocalError::NoMemory(state)),
     }
 }
 
-/// Gives back most of the room that lets took: a thread may wait for long where it stops. Without memory for that it keeps its room.
+/// Gives back most of the room that lets took: a thread may wait for long where its local steps end. Without memory for that it keeps its room.
 pub fn give_back_room(state: &mut ThreadState)
     ensures { thread_view state.new ≡ thread_view state.old }
 {
     if let Control::Node { env, .. } = &mut state.control {
-        if env.items.capacity() / FAR_ABOVE > env.items.len() {
+        if env.items.capacity() / MOST_ROOM > env.items.len() {
             env.items.shrink_to_fit();
         }
     }

@@ -120,6 +120,7 @@ fn unmoved(alloc: Global, kept: &ThreadState) -> Result<Settled, AllocError>
     Ok(settled_after(copy_top(alloc, kept, 0)?, 0, 0))
 }
 
+// This end, so many frames of the thread gone, after so many steps.
 fn settled_after(end: ThreadState, gone: u32, steps: u32) -> Settled
     ensures { result ≡ record { end = end; gone = gone; steps = steps } }
 {

@@ -16,7 +16,8 @@ use std::alloc::{AllocError, Global};
 use std::marker::Model;
 use std::mem;
 
-/// Contracts see the threads that are there, in ascending order of number, how many were ever made, and for how many more there is room.
+/// Threads, each at the place of its number. Contracts see those that are there, in ascending order of number, how many were ever
+/// made, and for how many more there is room.
 pub struct Table {
     /// Of each thread that was made; an ended one has none.
     slots: Vec<Option<ThreadState>>,

@@ -79,10 +79,17 @@ pub fn same_pattern(left: &Pattern, right: &Pattern) -> bool
             }
         }
         (Pattern::Sum(first, second), Pattern::Sum(other_first, other_second)) => {
-            same_pattern(first, other_first) && same_pattern(second, other_second)
+            is_same_part(first, other_first) && same_pattern(second, other_second)
         }
-        _ => left.is_same(right),
+        _ => is_same_part(left, right),
     }
+}
+
+/// So of patterns that are mostly no long products.
+fn is_same_part(left: &Pattern, right: &Pattern) -> bool
+    ensures { result ≡ pat_eq (pattern_view left.now) (pattern_view right.now) }
+{
+    left.is_same(right)
 }
 
 /// Whether the types of terms are the same, as they are written.

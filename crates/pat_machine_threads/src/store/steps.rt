@@ -13,7 +13,8 @@ use pat_reduce_values::Executable;
 use std::alloc::Global;
 
 impl ThreadStore {
-    /// Takes a step of a thread by itself, with no other one there and no message: what is left of it goes back. An error changes nothing.
+    /// Takes a step of a thread by itself, while no other one is there and no message: what is left of it goes back to its place.
+    /// An error changes nothing.
     pub fn step(&mut self, alloc: Global, code: &Executable, step: &Step) -> Result<(), StepError>
         requires room { HasRoom self.old }
         requires none { self.old.messages ≡ [] }
