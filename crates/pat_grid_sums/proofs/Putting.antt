@@ -167,6 +167,13 @@ has_more P Q count x y had puts = record {
 pub nothing_in : (h q : ℕ) → In [] h q → ⊥
 nothing_in h q i = none_in 0 h q i
 
+-- no word past the last has a bit
+pub in_within : (words : List ℕ) (a q : ℕ) → In words a q → a < length words
+in_within words a q i =
+    ⊎_elim (λ l. l)
+    (λ past. absurd (nothing_in a q (sym (ap (λ w. bit_at w q) (get_or_past words a 0 past)) ∙ i)))
+    (cases_lt a (length words))
+
 -- the words of a set, one after another
 abbrev pub IsWordOf : List ℕ → ℕ → ℕ → ℕ → Type 0
 IsWordOf more word h q = (h ≡ word) × (bit_at (get_or more word 0) q ≡ 1)
@@ -177,12 +184,6 @@ words_joined more x y m e h =
     (λ a q t. subst (λ i. In more i q) (sym t.2.0) t.2.1)
     (λ a q i. (a, (let l = in_within more a q i in let k = e in omega arith), (refl, i)))
     h
-  where
-    in_within : (words : List ℕ) (a q : ℕ) → In words a q → a < length words
-    in_within words a q i =
-        ⊎_elim (λ l. l)
-        (λ past. absurd (nothing_in a q (sym (ap (λ w. bit_at w q) (get_or_past words a 0 past)) ∙ i)))
-        (cases_lt a (length words))
 
 -- where all words are alike they are the same
 pub alike : (one other : List ℕ) (m : ℕ) → m ≡ length one → length one ≡ length other → ((h : ℕ) → h < m → get_or one h 0 ≡ get_or other h 0) → (h : ℕ) → get_or one h 0 ≡ get_or other h 0

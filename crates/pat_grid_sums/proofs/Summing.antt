@@ -14,7 +14,7 @@ use Rattle.pat_grid_sums.specs.declared.shape.Shape.{Shape}
 use Rattle.pat_grid_sums.specs.Sets.{In, Puts, AnyBefore, IsListed, AtNumber, Lists, IsMovedAny, IsJoined, IsAdded}
 use Rattle.pat_grid_sums.specs.Shapes.{IsShape, IsRow, IsSum, Has, AreMoved, IsGathered, IsRowSum, AreSums}
 use Rattle.pat_grid_sums.specs.Systems.{Holds, IsSumOf}
-use Rattle.pat_grid_sums.proofs.Putting.{puts_none, puts_as, has_all, has_as}
+use Rattle.pat_grid_sums.proofs.Putting.{puts_none, puts_as, has_all, has_as, in_within}
 use Rattle.pat_grid_sums.proofs.Splitting.{all_points, word_within, place_within, sum_word, sum_place}
 
 -- the words' bits, each moved by the row of a place
@@ -38,15 +38,15 @@ any_moved : (wanted : Bool) (P : Type 0) (Q : Type 0) → (wanted ≡ false → 
 any_moved true P Q none all p = all refl
 any_moved false P Q none all p = absurd (none refl p)
 
-pub moved_more : (ones others : List ℕ) (s : Shape) (m : ℕ) (all : List (List ℕ)) (new : List ℕ) (wanted : Bool) → AreMoved ones others s m all → length new ≡ length others → (wanted ≡ false → (h : ℕ) → h < length ones → In ones h m → ⊥) → (wanted ≡ true → Has (IsSum others s m) (length others) new) → AreMoved ones others s (m + 1) (all ++ new ∷ [])
-moved_more ones others s m all new wanted before long none some =
+pub moved_more : (ones others : List ℕ) (s : Shape) (m : ℕ) (all : List (List ℕ)) (new : List ℕ) (wanted : Bool) → AreMoved ones others s m all → length new ≤ length others → (wanted ≡ false → (h : ℕ) → h < length ones → In ones h m → ⊥) → (wanted ≡ true → Has (IsSum others s m) (length others) new) → AreMoved ones others s (m + 1) (all ++ new ∷ [])
+moved_more ones others s m all new wanted before fits none some =
     let many = before.as_many in
     let last : get_or (all ++ new ∷ []) m [] ≡ new = get_or_push all new [] m before.as_many in
     record {
       as_many = length_push all new ∙ (let e : length all + 1 ≡ m + 1 = omega arith in e);
-      as_long = λ l k. ⊎_elim
-          (λ (below : l < m). ap length (get_or_append_left all (new ∷ []) [] l (omega arith)) ∙ before.as_long l below)
-          (λ (past : m ≤ l). let e : m ≡ l = omega arith in subst (λ i. length (get_or (all ++ new ∷ []) i []) ≡ length others) e (ap length last ∙ long))
+      fits = λ l k. ⊎_elim
+          (λ (below : l < m). subst (λ i. length i ≤ length others) (sym (get_or_append_left all (new ∷ []) [] l (omega arith))) (before.fits l below))
+          (λ (past : m ≤ l). let e : m ≡ l = omega arith in subst (λ i. length (get_or (all ++ new ∷ []) i []) ≤ length others) e (subst (λ i. length i ≤ length others) (sym last) fits))
           (cases_lt l m);
       moved = λ l h k there i. ⊎_elim
           (λ (below : l < m). subst (Has (IsSum others s l) (length others)) (sym (get_or_append_left all (new ∷ []) [] l (omega arith))) (before.moved l h below there i))
@@ -63,6 +63,14 @@ added_if ones word moved row l wanted now x y test is h =
     puts_as (λ a q. IsTrue wanted × AnyBefore (IsJoined now row) (length row) a q) (IsAdded ones word moved row l) x y
     (λ a q t. (test.0 t.0, subst (λ xs. AnyBefore (IsJoined xs row) (length row) a q) is t.1))
     (λ a q t. (test.1 t.0, subst (λ xs. AnyBefore (IsJoined xs row) (length row) a q) (sym is) t.1))
+    h
+
+-- where there are fewer words than the row has places, those past the last are of no bits
+pub joined_all : (moved row x y : List ℕ) (m : ℕ) → m ≡ length moved → length moved ≤ length row → Puts (AnyBefore (IsJoined moved row) m) x y → Puts (AnyBefore (IsJoined moved row) (length row)) x y
+joined_all moved row x y m end fits h =
+    puts_as (AnyBefore (IsJoined moved row) m) (AnyBefore (IsJoined moved row) (length row)) x y
+    (λ a q t. let l = t.1 in (t.0, omega arith, t.2))
+    (λ a q t. let l = in_within moved t.0 q t.2.1 in (t.0, omega arith, t.2))
     h
 
 -- ---- what is gathered for a word

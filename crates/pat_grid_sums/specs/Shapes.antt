@@ -46,7 +46,7 @@ pub record Has (P : ℕ → ℕ → Type 0) (count : ℕ) (words : List ℕ) : T
 -- for each place of a word the bits moved by it, if one of the words has the place
 pub record AreMoved (ones others : List ℕ) (s : Shape) (m : ℕ) (all : List (List ℕ)) : Type 0 where
   pub as_many : length all ≡ m
-  pub as_long : (l : ℕ) → l < m → length (get_or all l []) ≡ length others
+  pub fits : (l : ℕ) → l < m → length (get_or all l []) ≤ length others
   pub moved : (l h : ℕ) → l < m → h < length ones → In ones h l → Has (IsSum others s l) (length others) (get_or all l [])
 
 -- the words have just what was moved by a place of the bits

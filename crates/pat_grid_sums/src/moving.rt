@@ -49,7 +49,7 @@ fn is_used(bits: u64, place: usize) -> bool
     (bits >> (place as u32)) & 1 == 1
 }
 
-/// The set moved by the place, if it is asked for.
+/// The set moved by the place, if it is asked for; else no word is made.
 fn moved_if(
     alloc: Global,
     wanted: bool,
@@ -58,13 +58,13 @@ fn moved_if(
     shape: Shape,
 ) -> Result<Sequence<u64>, AllocError>
     requires { (n : ℕ) × IsShape shape.k n shape }
-    ensures long { IfOk result (λ moved. length moved ≡ length others.now) }
+    ensures fits { IfOk result (λ moved. length moved ≤ length others.now) }
     ensures moved { IfOk result (λ moved. wanted ≡ true → Has (IsSum others.now shape place) (length others.now) moved) }
 {
-    let mut moved = no_bits(alloc, others.len())?;
     if !wanted {
-        return Ok(moved);
+        return Ok(Sequence::new(alloc));
     }
+    let mut moved = no_bits(alloc, others.len())?;
     let row = row_of(alloc, place, shape.k, shape.low)?;
     let masks = masks_of(alloc, row.as_slice())?;
     move_all(others, masks.as_slice(), &mut moved);

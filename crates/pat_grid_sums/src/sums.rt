@@ -75,7 +75,7 @@ fn sums_of(
 ) -> Result<Sequence<u64>, AllocError>
     requires shape { (n : ℕ) × IsShape shape.k n shape }
     requires few { length moved.now ≤ 64 }
-    requires moved { (l : ℕ) → l < length moved.now → length (get_or moved.now l []) ≡ shape.words }
+    requires moved { (l : ℕ) → l < length moved.now → length (get_or moved.now l []) ≤ shape.words }
     ensures { IfOk result (Has (AnyBefore (IsRowSum ones.now moved.now shape) (length ones.now)) shape.words) }
 {
     let mut sums = no_bits(alloc, shape.words)?;
@@ -100,7 +100,7 @@ fn add_alike(
     requires shape { (n : ℕ) × IsShape shape.k n shape }
     requires word { word < length ones.now }
     requires few { length moved.now ≤ 64 }
-    requires moved { (l : ℕ) → l < length moved.now → length (get_or moved.now l []) ≡ shape.words }
+    requires moved { (l : ℕ) → l < length moved.now → length (get_or moved.now l []) ≤ shape.words }
     requires long { length sums.old ≡ shape.words }
     requires still { IsRow shape.k shape.high 0 still.now }
     ensures { OnOk result (Puts (IsFirstSum ones.now moved.now shape word) sums.old sums.new) }
@@ -185,7 +185,7 @@ fn add_word(
 )
     requires word { word < length ones.now }
     requires few { length moved.now ≤ 64 }
-    requires moved { (l : ℕ) → l < length moved.now → length (get_or moved.now l []) ≡ length row.now }
+    requires moved { (l : ℕ) → l < length moved.now → length (get_or moved.now l []) ≤ length row.now }
     requires row { (w : ℕ) → w < length row.now → get_or row.now w 0 < length sums.old }
     ensures { Puts (AnyBefore (IsAdded ones.now word moved.now row.now) (length moved.now)) sums.old sums.new }
 {
@@ -196,7 +196,7 @@ fn add_word(
 
 /// Puts each word in where the row says, if it is asked for.
 fn add_if(wanted: bool, moved: &[u64], row: &[usize], sums: &mut Sequence<u64>)
-    requires long { length moved.now ≡ length row.now }
+    requires fits { length moved.now ≤ length row.now }
     requires row { (w : ℕ) → w < length row.now → get_or row.now w 0 < length sums.old }
     ensures { Puts (λ h q. IsTrue wanted × AnyBefore (IsJoined moved.now row.now) (length row.now) h q) sums.old sums.new }
 {
@@ -207,11 +207,11 @@ fn add_if(wanted: bool, moved: &[u64], row: &[usize], sums: &mut Sequence<u64>)
 
 /// Puts each word in where the row says.
 fn add_moved(moved: &[u64], row: &[usize], sums: &mut Sequence<u64>)
-    requires long { length moved.now ≡ length row.now }
+    requires fits { length moved.now ≤ length row.now }
     requires row { (w : ℕ) → w < length row.now → get_or row.now w 0 < length sums.old }
     ensures { Puts (AnyBefore (IsJoined moved.now row.now) (length row.now)) sums.old sums.new }
 {
-    for word in 0..row.len() {
+    for word in 0..moved.len() {
         join(sums, row[word], moved[word]);
     }
 }
