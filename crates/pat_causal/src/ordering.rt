@@ -46,7 +46,8 @@ pub fn order(alloc: Global, entries: &[Entry]) -> Result<Reordered, AllocError>
     })
 }
 
-// The place of the entry among those in order, where it comes behind all: it moves as far forward as it may. It is known what they make.
+// The place in order of an entry that comes behind these: as far forward as it may move. It is known what they make, and the exchanges on
+// the way are noted.
 fn place_of(
     ordered: &[Entry],
     entry: Entry,
