@@ -1,5 +1,5 @@
 // Environments: values of variables, in ascending order of variable.
-ghost use Rattle.std.specs.Prelude.{◌≡◌, [], ◌∷◌, ◌++◌, length, map, slice_get, true, Some, IfOk, OnOk, IsTrue};
+ghost use Rattle.std.specs.Prelude.{◌≡◌, ◌≤◌, [], ◌∷◌, ◌++◌, length, map, slice_get, true, Some, IfOk, OnOk, IsTrue};
 ghost use Rattle.pat_primitives.specs.Values.{bind, bind_all};
 ghost use Rattle.pat_primitives.specs.Programs.{keep};
 ghost use Rattle.pat_primitives.specs.Steps.{bind_name};
@@ -7,7 +7,7 @@ ghost use Rattle.pat_core.specs.Views.{program_view};
 ghost use Rattle.pat_reduce_values.specs.ValueViews.{value_view, reference_view, env_view};
 ghost use Rattle.pat_reduce_values.specs.Environments.{all_less, keep_but, stands_at, IsPlaceFor};
 
-use crate::programs::Executable;
+use crate::programs::{AtHand, Executable};
 use crate::{Value, ValueRef};
 use pat_sequences::Sequence;
 use std::alloc::{AllocError, Global};
@@ -36,13 +36,7 @@ pub fn kept_but(
 {
     let free = code.free_in(node);
     let mut own = Sequence::new(alloc);
-    // No more than is kept, since a frame that waits may stay for long.
-    let left_out = match var {
-        Some(variable) => usize::from(free.contains(variable)),
-        None => 0,
-    };
-    own.items
-        .reserve(free.listed.len().saturating_sub(left_out))?;
+    own.items.reserve(room_for(free, var))?;
     let mut place = 0;
     for entry in env {
         let (is_free, next) = free.look_up(place, entry.0);
@@ -52,6 +46,17 @@ pub fn kept_but(
         }
     }
     Ok(own)
+}
+
+// For how many values there is room. No more than are kept, since a frame that waits may stay for long.
+fn room_for(free: AtHand<'_>, var: Option<u32>) -> usize
+    ensures { result ≤ length free.entry.listed.now }
+{
+    let left_out = match var {
+        Some(variable) => usize::from(free.contains(variable)),
+        None => 0,
+    };
+    free.listed.len().saturating_sub(left_out)
 }
 
 /// What a `let` makes of the values: those that its bound term has, and those that its body waits with.
@@ -71,7 +76,7 @@ pub fn divided(
     let mut own = Sequence::new(alloc);
     let mut rest = Sequence::new(alloc);
     own.items.reserve(used.listed.len())?;
-    rest.items.reserve(free.listed.len())?;
+    rest.items.reserve(room_for(free, var))?;
     let mut place = 0;
     let mut behind = 0;
     for entry in env {
