@@ -156,7 +156,7 @@ def whole_grid(tags, bound):
 
 
 def cover(word, periods):
-    """Whether periods, each of some of two messages, make up a word of these; both are said by their counts."""
+    """A function whose mailbox has just this word, and one that takes what these periods make up; each is said by its counts of two messages."""
     def written(one, other):
         return ".".join(["m"] * one + ["n"] * other)
     starred = ".".join(f"*({written(*it)})" for it in periods)
@@ -164,11 +164,11 @@ def cover(word, periods):
 
 
 def uncovered(size):
-    """An odd number of each of two messages, and six periods with an even number of each, of which none makes them up."""
+    """So many of each of two messages, and six periods with an even number of each: none makes up an odd one."""
     return cover((size, size), [(2, 2), (2, 4), (4, 2), (2, 6), (6, 2), (4, 4)])
 
 
-def apart(size):
+def uncovered_by_threes(size):
     """One more of the second message than of the first, and six periods in which they differ by three."""
     return cover((size, size + 1), [(1, 4), (4, 1), (2, 5), (5, 2), (3, 6), (6, 3)])
 
