@@ -46,7 +46,7 @@ module _ (p : Program) where
     pub all_met : NeededShown → WellFormed p → function_at p c.function ≡ Some g → AllByRecursion (IsMet (scope_of p d) forms) (flat_map inclusions_of (demands p d (place n c g l)))
     all_met shown well of = subst (AllByRecursion (IsMet (scope_of p d) forms)) (sym needed_is) (shown p d.vars forms n c g well bare.clean bare.show at of)
 
-    -- the demands are written as what inference finds
+    -- the demands are written as those of derivations that are made
     pub all_written : DemandsWritten → WellFormed p → function_at p c.function ≡ Some g → AllByRecursion IsWritten (demands p d (place n c g l))
     all_written written well of = subst (AllByRecursion IsWritten) (sym demands_are) (written p d.vars forms n c g well bare.clean bare.show at of)
 

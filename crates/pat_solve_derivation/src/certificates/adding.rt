@@ -181,7 +181,8 @@ fn push_for_inclusion(
 }
 
 /// Certificates of the inclusions that the demands need, in order, but of those that are trivial. Each of them is trivial or shown by
-/// the values, and what a let needs of a variable is written as what its parts need.
+/// the values, and what a let needs of a variable is written as what the one part that has it needs, or as the product where both
+/// send.
 pub fn certificates(
     alloc: Global,
     solved: &Solved,
