@@ -126,7 +126,7 @@ fn settled_after(end: ThreadState, gone: u32, steps: u32) -> Settled
     Settled { end, gone, steps }
 }
 
-// The thread after two local steps, if the frame goes on with the value at a let, or at a call with no name for the value that can be taken.
+// The thread after two local steps, if the frame has no name for the value and goes on at a call that can be taken, or if it goes on at a let.
 fn led_on(
     alloc: Global,
     code: &Executable,
@@ -164,7 +164,7 @@ fn first_step(
     }
 }
 
-// The thread at the bound term of a let with its values, with the frame that waits for its value with the others.
+// The thread at the bound term of a let, with that term's values; the frame that waits has the rest.
 fn opened(
     alloc: Global,
     var: Option<u32>,

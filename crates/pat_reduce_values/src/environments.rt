@@ -48,7 +48,7 @@ pub fn kept_but(
     Ok(own)
 }
 
-// For how many values there is room. No more than are kept, since a frame that waits may stay for long.
+// For how many values room is made: the set's variables but this one, and no more, since a frame that waits may stay for long.
 fn room_for(free: AtHand<'_>, var: Option<u32>) -> usize
     ensures { result ≤ length free.entry.listed.now }
 {
@@ -261,7 +261,7 @@ pub fn enter_body(
     Ok(())
 }
 
-// Leaves the values that the body of a `let` of the variable waits with; and says whether theirs are known to be less.
+// Leaves the values that the body of a `let` of the variable waits with; and says whether their variables are known to be less than it.
 fn leave_waiting(
     code: &Executable,
     body: u32,

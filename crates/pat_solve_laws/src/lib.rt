@@ -9,7 +9,7 @@ use pat_infer_laws::{enough_laws, found_laws, shown_laws};
 use pat_type_system_laws::environment_laws;
 
 /// The derivation that is made of values which show all constraints breaks no rule: what its nodes need is trivial, or one of
-/// the constraints; and a let's use of a variable is written as those of its parts are.
+/// the constraints; and a let's use of a variable is written as that of the one part that has it, or as the product where both send.
 pub fn derived_laws()
     ensures listed { NeededListed }
     ensures shown { NeededShown }
