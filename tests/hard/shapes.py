@@ -155,12 +155,22 @@ def whole_grid(tags, bound):
             f"def g(a: I?(1 + t0.*t0).*({' + '.join(names[1:])})): Unit {{ h(a) }}\ndef h(a: I?): Unit {{ h(a) }}\n" + MAIN)
 
 
+def cover(word, periods):
+    """Whether periods, each of some of two messages, make up a word of these; both are said by their counts."""
+    def written(one, other):
+        return ".".join(["m"] * one + ["n"] * other)
+    starred = ".".join(f"*({written(*it)})" for it in periods)
+    return f"interface I {{ m(), n() }}\ndef f(a: I?{written(*word)}): Unit {{ g(a) }}\ndef g(a: I?{starred}): Unit {{ g(a) }}\n" + MAIN
+
+
 def uncovered(size):
     """An odd number of each of two messages, and six periods with an even number of each, of which none makes them up."""
-    word = ".".join(["m"] * size + ["n"] * size)
-    counts = [(2, 2), (2, 4), (4, 2), (2, 6), (6, 2), (4, 4)]
-    periods = ".".join(f"*({'.'.join(['m'] * one + ['n'] * other)})" for one, other in counts)
-    return f"interface I {{ m(), n() }}\ndef f(a: I?{word}): Unit {{ g(a) }}\ndef g(a: I?{periods}): Unit {{ g(a) }}\n" + MAIN
+    return cover((size, size), [(2, 2), (2, 4), (4, 2), (2, 6), (6, 2), (4, 4)])
+
+
+def apart(size):
+    """One more of the second message than of the first, and six periods in which they differ by three."""
+    return cover((size, size + 1), [(1, 4), (4, 1), (2, 5), (5, 2), (3, 6), (6, 3)])
 
 
 def turned(size):

@@ -1,20 +1,20 @@
 -- The front of a history in order, and the rest as it was.
-use Rattle.std.proofs.Common.{◌≡◌, ℕ, zero, suc, ◌+◌, ◌<◌, ◌≤◌, List, [], ◌∷◌, ◌++◌, length, get_or, map, drop, refl, sym, ap, ◌∙◌, subst, arith, append-nil, append_assoc, length-append}
-use Rattle.std.specs.Prelude.{take}
+use Rattle.std.proofs.Common.{◌≡◌, ℕ, zero, suc, ◌+◌, ◌<◌, ◌≤◌, List, [], ◌∷◌, ◌++◌, length, get_or, map, drop, refl, sym, ap, ◌∙◌, subst, arith, append-nil, append_assoc}
+use Rattle.std.specs.List.{insert}
 use Rattle.std.proofs.lemmas.List.{drop_all}
+use Rattle.std.proofs.lemmas.List.Edits.{length-insert}
 use Rattle.pat_semantics_spec.specs.Runs.{Entry}
 use Rattle.pat_reduce.specs.declared.history.Entry.{Entry as CodeEntry}
 use Rattle.pat_reduce.specs.Views.{entry_view}
 use Rattle.pat_causal_spec.specs.Independent.{spawned_by, sent_by, spawns, sends}
 use Rattle.pat_causal_spec.specs.Reordered.{LeadsTo, IsReordered}
-use Rattle.pat_causal_laws.specs.Moving.{SettledFrom, IsMoving}
+use Rattle.pat_causal_laws.specs.Moving.{SettledFrom}
 use Rattle.pat_causal_laws.proofs.Settled.{is_settled}
-use Rattle.pat_causal_laws.proofs.Moves.{begins, spawns_join, sends_join, spawns_few, sends_few, leads_spawns, leads_sends}
+use Rattle.pat_causal_laws.proofs.Moves.{spawns_few, sends_few}
 use Rattle.pat_causal.specs.declared.counts.Counts.{Counts as CodeCounts}
 use Rattle.pat_causal.specs.Counts.{AreCounts}
 use Rattle.pat_causal.specs.Leading.{LeadOn}
-use Rattle.pat_causal.proofs.Places.{length_seen}
-use Rattle.pat_limits.specs.Limits.{most_entries}
+use Rattle.pat_causal.proofs.Places.{length_seen, map_inserted, spawns_inserted, sends_inserted}
 
 -- the first i entries stand in order, the exchanges are noted, and it is known what they make
 pub record IsFront (entries ordered : List CodeEntry) (places : List ℕ) (i : ℕ) (counts : CodeCounts) : Type 0 where
@@ -49,82 +49,43 @@ all_ordered entries ordered places i counts front all =
       settled = is_settled (map entry_view ordered) front.settled;
     }
 
-map_join : (xs ys : List CodeEntry) → map entry_view (xs ++ ys) ≡ map entry_view xs ++ map entry_view ys
-map_join [] ys = refl
-map_join (x ∷ xs) ys = ap (λ l. entry_view x ∷ l) (map_join xs ys)
-
-take_front : {A : Type 0} (xs ys : List A) → take (length xs) (xs ++ ys) ≡ xs
-take_front [] ys = refl
-take_front (x ∷ xs) ys = ap (λ l. x ∷ l) (take_front xs ys)
-
 drop_one : (i : ℕ) (xs : List CodeEntry) (d : CodeEntry) → i < length xs → drop i (map entry_view xs) ≡ entry_view (get_or xs i d) ∷ drop (suc i) (map entry_view xs)
 drop_one i [] d l = absurd (omega arith)
 drop_one zero (x ∷ xs) d l = refl
 drop_one (suc i) (x ∷ xs) d l = drop_one i xs d (omega arith)
 
-module _ (entries ordered : List CodeEntry) (places : List ℕ) (i : ℕ) (counts : CodeCounts) (d : CodeEntry) (front : IsFront entries ordered places i counts) (there : i < length entries) (pushed : List CodeEntry) (push : pushed ≡ ordered ++ get_or entries i d ∷ []) where
+module _ (entries ordered : List CodeEntry) (places : List ℕ) (i : ℕ) (counts : CodeCounts) (d : CodeEntry) (front : IsFront entries ordered places i counts) (there : i < length entries) where
   abbrev own : Entry
   own = entry_view (get_or entries i d)
 
-  view : map entry_view pushed ≡ map entry_view ordered ++ own ∷ []
-  view = ap (map entry_view) push ∙ map_join ordered (get_or entries i d ∷ [])
-
-  size : length (map entry_view ordered) ≡ i
-  size = length_seen ordered ∙ front.size
-
-  -- the next entry, behind them
-  pub push_moves : IsMoving i (map entry_view pushed)
-  push_moves = subst (IsMoving i) (sym view) (subst (λ k. IsMoving k (map entry_view ordered ++ own ∷ [])) size (begins (map entry_view ordered) own front.settled))
-
-  pub push_known : AreCounts counts (take i (map entry_view pushed))
-  push_known =
-      let is : take i (map entry_view pushed) ≡ map entry_view ordered =
-      ap (take i) view ∙ ap (λ k. take k (map entry_view ordered ++ own ∷ [])) (sym size) ∙ take_front (map entry_view ordered) (own ∷ []) in
-      subst (AreCounts counts) (sym is) front.known
-
-  pub push_few : length entries ≤ most_entries → length pushed ≤ most_entries
-  push_few few =
-      let a = ap length push in
-      let b = length-append ordered (get_or entries i d ∷ []) in
-      let c = front.size in
-      omega arith
-
-  rest : List Entry
-  rest = drop (suc i) (map entry_view entries)
-
   -- what was led to, with the next entry apart
-  led_before : LeadsTo places (map entry_view entries) (map entry_view pushed ++ rest)
-  unfolding rest
+  led_before : LeadsTo places (map entry_view entries) ((map entry_view ordered ++ own ∷ []) ++ drop (suc i) (map entry_view entries))
   led_before =
-      let is : map entry_view ordered ++ drop i (map entry_view entries) ≡ map entry_view pushed ++ drop (suc i) (map entry_view entries) =
-      ap (λ l. map entry_view ordered ++ l) (drop_one i entries d there) ∙ sym (append_assoc (map entry_view ordered) (own ∷ []) (drop (suc i) (map entry_view entries))) ∙ ap (λ l. l ++ drop (suc i) (map entry_view entries)) (sym view) in
+      let is : map entry_view ordered ++ drop i (map entry_view entries) ≡ (map entry_view ordered ++ own ∷ []) ++ drop (suc i) (map entry_view entries) =
+      ap (λ l. map entry_view ordered ++ l) (drop_one i entries d there) ∙ sym (append_assoc (map entry_view ordered) (own ∷ []) (drop (suc i) (map entry_view entries))) in
       subst (LeadsTo places (map entry_view entries)) is front.led
 
-  -- and once it has moved, one more is in order
-  pub moved : (after : List CodeEntry) (noted : List ℕ) (more : CodeCounts) → SettledFrom 0 0 (map entry_view after) → LeadOn places (map entry_view pushed) noted (map entry_view after) → length after ≡ length pushed
+  -- and once it stands at its place, one more is in order
+  pub placed : (after : List CodeEntry) (noted : List ℕ) (place : ℕ) (more : CodeCounts) → after ≡ insert ordered place (get_or entries i d) → place ≤ length ordered
+      → SettledFrom 0 0 (insert (map entry_view ordered) place own) → LeadOn places (map entry_view ordered ++ own ∷ []) noted (insert (map entry_view ordered) place own)
       → more.spawned ≡ counts.spawned + spawned_by own.shared → more.sent ≡ counts.sent + sent_by own.shared → IsFront entries after noted (i + 1) more
-  unfolding rest
-  moved after noted more settled on same one two =
+  placed after noted place more put within settled on one two =
+      let view : insert (map entry_view ordered) place own ≡ map entry_view after = sym (ap (map entry_view) put ∙ map_inserted entry_view place ordered (get_or entries i d)) in
       let led = on (map entry_view entries) (drop (suc i) (map entry_view entries)) led_before in
       let next : suc i ≡ i + 1 = omega arith in
-      let a = leads_spawns noted (map entry_view entries) (map entry_view after ++ drop (suc i) (map entry_view entries)) led in
-      let b = leads_sends noted (map entry_view entries) (map entry_view after ++ drop (suc i) (map entry_view entries)) led in
-      let e = leads_spawns places (map entry_view entries) (map entry_view pushed ++ drop (suc i) (map entry_view entries)) led_before in
-      let f = leads_sends places (map entry_view entries) (map entry_view pushed ++ drop (suc i) (map entry_view entries)) led_before in
-      let g = spawns_join (map entry_view after) (drop (suc i) (map entry_view entries)) in
-      let h = sends_join (map entry_view after) (drop (suc i) (map entry_view entries)) in
-      let j = spawns_join (map entry_view pushed) (drop (suc i) (map entry_view entries)) in
-      let k = sends_join (map entry_view pushed) (drop (suc i) (map entry_view entries)) in
-      let m = ap spawns view ∙ spawns_join (map entry_view ordered) (own ∷ []) in
-      let n = ap sends view ∙ sends_join (map entry_view ordered) (own ∷ []) in
+      let a = spawns_inserted place (map entry_view ordered) own in
+      let b = sends_inserted place (map entry_view ordered) own in
+      let m = ap spawns view in
+      let n = ap sends view in
       let x = front.known.spawned in
       let y = front.known.sent in
       record {
-        settled = settled;
-        led = subst (λ q. LeadsTo noted (map entry_view entries) (map entry_view after ++ drop q (map entry_view entries))) next led;
+        settled = subst (SettledFrom 0 0) view settled;
+        led = subst (λ q. LeadsTo noted (map entry_view entries) (map entry_view after ++ drop q (map entry_view entries))) next
+            (subst (λ l. LeadsTo noted (map entry_view entries) (l ++ drop (suc i) (map entry_view entries))) view led);
         size =
-            let u = ap length push in
-            let v = length-append ordered (get_or entries i d ∷ []) in
+            let u = ap length put in
+            let v = length-insert ordered place (get_or entries i d) within in
             let w = front.size in
             omega arith;
         known = record { spawned = omega arith; sent = omega arith };

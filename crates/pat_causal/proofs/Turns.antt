@@ -1,96 +1,110 @@
 -- An entry of the code on its way forward.
-use Rattle.std.proofs.Common.{◌≡◌, ℕ, suc, ◌+◌, ◌-◌, ◌<◌, ◌≤◌, true, false, List, [], ◌∷◌, ◌++◌, length, get_or, map, sym, ap, subst, arith, length-append}
+use Rattle.std.proofs.Common.{◌≡◌, ℕ, suc, ◌+◌, ◌-◌, ◌<◌, ◌≤◌, true, false, ◌&&◌, List, [], ◌∷◌, ◌++◌, length, get_or, map, Some, sym, ◌∙◌, subst, arith}
 use Rattle.std.specs.Prelude.{take, slice_get}
+use Rattle.std.specs.List.{insert}
+use Rattle.std.proofs.Math.Seq.{take-length}
 use Rattle.std.proofs.lemmas.Bool.{and_parts}
+use Rattle.std.proofs.lemmas.List.Edits.{insert_end}
 use Rattle.pat_semantics_spec.specs.Runs.{Entry}
 use Rattle.pat_reduce.specs.declared.history.Entry.{Entry as CodeEntry}
 use Rattle.pat_reduce.specs.Views.{entry_view}
-use Rattle.pat_causal_spec.specs.Independent.{spawned_by, sent_by, independent_at, is_greater, is_out_of_order}
+use Rattle.pat_causal_spec.specs.Independent.{spawned_by, sent_by, are_independent, independent_at, is_greater, is_out_of_order}
 use Rattle.pat_causal_spec.specs.Reordered.{exchanged, LeadsTo}
 use Rattle.pat_causal_laws.specs.Moving.{SettledFrom, IsMoving}
-use Rattle.pat_causal_laws.proofs.Moves.{moves_on, stops_here, stops_first, leads_on, exchanged_length, exchanged_take}
+use Rattle.pat_causal_laws.proofs.Moves.{begins, moves_on, stops_here, stops_first, leads_on}
 use Rattle.pat_causal.specs.declared.counts.Counts.{Counts as CodeCounts}
 use Rattle.pat_causal.specs.Counts.{AreCounts}
 use Rattle.pat_causal.specs.Leading.{LeadOn}
-use Rattle.pat_causal.proofs.Places.{length_seen, counted_last, counts_less, counts_small}
+use Rattle.pat_causal.proofs.Places.{length_seen, seen_at, counted_last, counts_less, counts_small, order_at, exchange_inserted}
 use Rattle.pat_limits.specs.Limits.{most_entries, number_count}
 
--- the entry came to this place, it is known what those before it make, and the exchanges are noted
-pub record IsOnWay (old : List CodeEntry) (before : List ℕ) (now : List CodeEntry) (places : List ℕ) (place : ℕ) (counts : CodeCounts) : Type 0 where
-  pub moving : IsMoving place (map entry_view now)
-  pub known : AreCounts counts (take place (map entry_view now))
-  pub size : length now ≡ length old
-  pub led : LeadOn before (map entry_view old) places (map entry_view now)
+-- the entry came to this place among the others, it is known what those before it make, and the exchanges are noted
+pub record IsOnWay (es : List Entry) (x : Entry) (before places : List ℕ) (place : ℕ) (counts : CodeCounts) : Type 0 where
+  pub within : place ≤ length es
+  pub moving : IsMoving place (insert es place x)
+  pub known : AreCounts counts (take place es)
+  pub led : LeadOn before (es ++ x ∷ []) places (insert es place x)
 
--- the place lies within
-entry_within : (place : ℕ) (es : List Entry) → IsMoving place es → place < length es
-entry_within place es m =
-    let size : length es ≡ length (m.front ++ m.entry ∷ m.back) = ap length m.is in
-    let parts = length-append m.front (m.entry ∷ m.back) in
-    let at = m.at in
-    omega arith
+-- it begins behind all others
+pub starts : (es : List Entry) (x : Entry) (places : List ℕ) (counts : CodeCounts) → SettledFrom 0 0 es → AreCounts counts es → IsOnWay es x places places (length es) counts
+starts es x places counts settled known = record {
+  within = omega arith;
+  moving = subst (IsMoving (length es)) (sym (insert_end es x)) (begins es x settled);
+  known = subst (AreCounts counts) (sym (take-length es)) known;
+  led = λ fs rest h. subst (λ l. LeadsTo places fs (l ++ rest)) (sym (insert_end es x)) h;
+}
 
-module _ (old : List CodeEntry) (before : List ℕ) (now : List CodeEntry) (places : List ℕ) (place : ℕ) (counts : CodeCounts) (d : CodeEntry) (way : IsOnWay old before now places place counts) (more : 0 < place) where
+module _ (ordered : List CodeEntry) (x : Entry) (before places : List ℕ) (place : ℕ) (counts : CodeCounts) (d : CodeEntry) (way : IsOnWay (map entry_view ordered) x before places place counts) (more : 0 < place) where
+  abbrev es : List Entry
+  es = map entry_view ordered
+
+  -- the entry before it
+  abbrev own : Entry
+  own = entry_view (get_or ordered (place - 1) d)
+
   next : place - 1 + 1 ≡ place
   next = omega arith
 
-  within : place - 1 + 1 < length now
-  within =
-      let inside = entry_within place (map entry_view now) way.moving in
-      let size = length_seen now in
+  same : suc (place - 1) ≡ place
+  same = omega arith
+
+  pub there : place - 1 < length ordered
+  there =
+      let inside : place ≤ length (map entry_view ordered) = way.within in
+      let size = length_seen ordered in
       omega arith
 
-  known_next : AreCounts counts (take (place - 1 + 1) (map entry_view now))
-  known_next = subst (λ k. AreCounts counts (take k (map entry_view now))) (sym next) way.known
+  known_next : AreCounts counts (take (place - 1 + 1) (map entry_view ordered))
+  known_next = subst (λ k. AreCounts counts (take k (map entry_view ordered))) (sym next) way.known
 
-  -- the entry before it was counted
-  pub counted : (spawned_by (entry_view (get_or now (place - 1) d)).shared ≤ counts.spawned) × (sent_by (entry_view (get_or now (place - 1) d)).shared ≤ counts.sent)
-  counted = let inside = within in counted_last now (place - 1) d (omega arith) counts known_next
+  -- it was counted
+  pub counted : (spawned_by (entry_view (get_or ordered (place - 1) d)).shared ≤ counts.spawned) × (sent_by (entry_view (get_or ordered (place - 1) d)).shared ≤ counts.sent)
+  counted = counted_last ordered (place - 1) d there counts known_next
 
-  module _ (fewer : CodeCounts) (one : fewer.spawned + spawned_by (entry_view (get_or now (place - 1) d)).shared ≡ counts.spawned) (two : fewer.sent + sent_by (entry_view (get_or now (place - 1) d)).shared ≡ counts.sent) where
+  module _ (fewer : CodeCounts) (one : fewer.spawned + spawned_by (entry_view (get_or ordered (place - 1) d)).shared ≡ counts.spawned) (two : fewer.sent + sent_by (entry_view (get_or ordered (place - 1) d)).shared ≡ counts.sent) where
     -- so what those before that one make is known
-    pub fewer_known : AreCounts fewer (take (place - 1) (map entry_view now))
-    fewer_known = let inside = within in counts_less now (place - 1) d (omega arith) counts fewer known_next one two
+    fewer_known : AreCounts fewer (take (place - 1) (map entry_view ordered))
+    fewer_known = counts_less ordered (place - 1) d there counts fewer known_next one two
 
-    pub fewer_small : length old ≤ most_entries → fewer.spawned < number_count
+    pub fewer_small : length ordered < most_entries → fewer.spawned < number_count
     fewer_small few =
-        let small = (counts_small (place - 1) (map entry_view now) fewer fewer_known).0 in
-        let inside = within in
-        let size = way.size in
+        let small = (counts_small (place - 1) (map entry_view ordered) fewer fewer_known).0 in
+        let inside = there in
         omega arith
 
-    moving_next : IsMoving (suc (place - 1)) (map entry_view now)
-    moving_next =
-        let same : place ≡ suc (place - 1) = omega arith in
-        subst (λ k. IsMoving k (map entry_view now)) same way.moving
+    moving_next : IsMoving (suc (place - 1)) (insert es place x)
+    moving_next = subst (λ k. IsMoving k (insert es place x)) (sym same) way.moving
+
+    test : is_out_of_order (insert es place x) (place - 1) ≡ (is_greater (Some own) (Some x) && are_independent fewer.spawned fewer.sent own x)
+    test =
+        subst (λ k. is_out_of_order (insert es k x) (place - 1) ≡ (is_greater (Some own) (Some x) && are_independent fewer.spawned fewer.sent own x)) same
+        (order_at (place - 1) es own x fewer (seen_at entry_view (place - 1) ordered d there) fewer_known)
 
     -- the entry stops
-    pub stopped : is_out_of_order (map entry_view now) (place - 1) ≡ false → SettledFrom 0 0 (map entry_view now)
-    stopped off = stops_here (place - 1) (map entry_view now) moving_next off
+    pub stopped : (is_greater (Some own) (Some x) && are_independent fewer.spawned fewer.sent own x) ≡ false → SettledFrom 0 0 (insert (map entry_view ordered) place x)
+    stopped off = stops_here (place - 1) (insert es place x) moving_next (test ∙ off)
 
     -- or moves one place further
-    pub turned : (after : List CodeEntry) (noted : List ℕ) → is_out_of_order (map entry_view now) (place - 1) ≡ true → map entry_view after ≡ exchanged (place - 1) (map entry_view now) → noted ≡ places ++ (place - 1) ∷ []
-        → IsOnWay old before after noted (place - 1) fewer
-    turned after noted on is note =
-        let test = (and_parts (is_greater (slice_get (map entry_view now) (place - 1)) (slice_get (map entry_view now) (suc (place - 1)))) (independent_at (map entry_view now) (place - 1)) on).1 in
+    pub turned : (noted : List ℕ) → (is_greater (Some own) (Some x) && are_independent fewer.spawned fewer.sent own x) ≡ true → noted ≡ places ++ (place - 1) ∷ [] → IsOnWay (map entry_view ordered) x before noted (place - 1) fewer
+    turned noted on note =
+        let out : is_out_of_order (insert es place x) (place - 1) ≡ true = test ∙ on in
+        let size = length_seen ordered in
+        let inside = there in
+        let is : exchanged (place - 1) (insert es place x) ≡ insert es (place - 1) x =
+        subst (λ k. exchanged (place - 1) (insert es k x) ≡ insert es (place - 1) x) same (exchange_inserted (place - 1) es x (omega arith)) in
+        let free = (and_parts (is_greater (slice_get (insert es place x) (place - 1)) (slice_get (insert es place x) (suc (place - 1)))) (independent_at (insert es place x) (place - 1)) out).1 in
         record {
-          moving = subst (IsMoving (place - 1)) (sym is) (moves_on (place - 1) (map entry_view now) moving_next on);
-          known = subst (λ l. AreCounts fewer (take (place - 1) l)) (sym is) (subst (AreCounts fewer) (sym (exchanged_take (place - 1) (map entry_view now))) fewer_known);
-          size =
-              let a = length_seen after in
-              let b = length_seen now in
-              let c = ap length is in
-              let e = exchanged_length (place - 1) (map entry_view now) in
-              let f = way.size in
-              omega arith;
-          led = λ es rest h.
-              subst (λ l. LeadsTo noted es (l ++ rest)) (sym is)
-              (subst (λ l. LeadsTo l es (exchanged (place - 1) (map entry_view now) ++ rest)) (sym note)
-              (leads_on places es (map entry_view now) rest (place - 1) test (way.led es rest h)));
+          within = omega arith;
+          moving = subst (IsMoving (place - 1)) is (moves_on (place - 1) (insert es place x) moving_next out);
+          known = fewer_known;
+          led = λ fs rest h.
+              subst (λ l. LeadsTo noted fs (l ++ rest)) is
+              (subst (λ l. LeadsTo l fs (exchanged (place - 1) (insert es place x) ++ rest)) (sym note)
+              (leads_on places fs (insert es place x) rest (place - 1) free (way.led fs rest h)));
         }
 
 -- at the first place there is nothing to pass
-pub stopped_first : (old : List CodeEntry) (before : List ℕ) (now : List CodeEntry) (places : List ℕ) (place : ℕ) (counts : CodeCounts) → IsOnWay old before now places place counts → place ≤ 0 → SettledFrom 0 0 (map entry_view now)
-stopped_first old before now places place counts way none =
+pub stopped_first : (es : List Entry) (x : Entry) (before places : List ℕ) (place : ℕ) (counts : CodeCounts) → IsOnWay es x before places place counts → place ≤ 0 → SettledFrom 0 0 (insert es 0 x)
+stopped_first es x before places place counts way none =
     let is : place ≡ 0 = omega arith in
-    stops_first (map entry_view now) (subst (λ k. IsMoving k (map entry_view now)) is way.moving)
+    stops_first (insert es 0 x) (subst (λ k. IsMoving k (insert es k x)) is way.moving)

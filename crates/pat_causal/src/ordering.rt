@@ -1,18 +1,19 @@
 // Histories in order: each entry moves forward past greater threads' entries that are independent of it.
-ghost use Rattle.std.specs.Prelude.{◌≡◌, ◌≤◌, ◌<◌, ◌+◌, ◌^◌, Some, length, map, take, IfOk, OnOk};
+ghost use Rattle.std.specs.Prelude.{◌≡◌, ◌≤◌, ◌<◌, ◌^◌, ◌&&◌, Some, [], ◌∷◌, ◌++◌, length, map, IfOk};
+ghost use Rattle.std.specs.List.{insert};
 ghost use Rattle.pat_semantics_spec.specs.Programs.{Program};
 ghost use Rattle.pat_semantics_spec.specs.Configs.{Config};
 ghost use Rattle.pat_semantics_spec.specs.Runs.{replay};
 ghost use Rattle.pat_reduce.specs.Views.{entry_view};
 ghost use Rattle.pat_causal_spec.specs.Independent as of;
 ghost use Rattle.pat_causal_spec.specs.Reordered.{IsReordered};
-ghost use Rattle.pat_causal_laws.specs.Moving.{SettledFrom, IsMoving};
+ghost use Rattle.pat_causal_laws.specs.Moving.{SettledFrom};
 ghost use Rattle.pat_causal.specs.Counts.{AreCounts};
 ghost use Rattle.pat_causal.specs.Leading.{LeadOn};
 ghost use Rattle.pat_limits.specs.Limits.{most_entries};
 
 use crate::counts::Counts;
-use crate::neighbours::{exchange, independent_behind};
+use crate::neighbours::are_independent;
 use pat_reduce::Entry;
 use std::alloc::{AllocError, Global};
 
@@ -35,8 +36,8 @@ pub fn order(alloc: Global, entries: &[Entry]) -> Result<Reordered, AllocError>
     let mut counts = Counts::none();
     for i in 0..entries.len() {
         let entry = entries[i];
-        ordered.push(entry)?;
-        move_forward(&mut ordered, &mut places, i, counts)?;
+        let place = place_of(&ordered, entry, counts, &mut places)?;
+        ordered.insert(place, entry)?;
         counts = counts.with(entry);
     }
     Ok(Reordered {
@@ -45,46 +46,41 @@ pub fn order(alloc: Global, entries: &[Entry]) -> Result<Reordered, AllocError>
     })
 }
 
-// The entry at the place moves as far forward as it may. It is known what those before it make.
-fn move_forward(
-    entries: &mut [Entry],
-    places: &mut Vec<u32>,
-    from: usize,
+// The place in order of an entry that comes behind these: as far forward as it may move. It is known what they make, and the exchanges on
+// the way are noted.
+fn place_of(
+    ordered: &[Entry],
+    entry: Entry,
     before: Counts,
-) -> Result<(), AllocError>
-    requires moving { IsMoving from (map entry_view entries.old) }
-    requires known { AreCounts before (take from (map entry_view entries.old)) }
-    requires few { length entries.old ≤ most_entries }
-    ensures settled { OnOk result (SettledFrom 0 0 (map entry_view entries.new)) }
-    ensures led { OnOk result (LeadOn places.old.items (map entry_view entries.old) places.new.items (map entry_view entries.new)) }
-    ensures length { length entries.new ≡ length entries.old }
+    places: &mut Vec<u32>,
+) -> Result<usize, AllocError>
+    requires settled { SettledFrom 0 0 (map entry_view ordered.now) }
+    requires known { AreCounts before (map entry_view ordered.now) }
+    requires few { length ordered.now < most_entries }
+    ensures within { IfOk result (λ place. place ≤ length ordered.now) }
+    ensures settled { IfOk result (λ place. SettledFrom 0 0 (insert (map entry_view ordered.now) place (entry_view entry))) }
+    ensures led { IfOk result (λ place. LeadOn places.old.items (map entry_view ordered.now ++ entry_view entry ∷ [])
+        places.new.items (insert (map entry_view ordered.now) place (entry_view entry))) }
 {
-    let mut place = from;
+    let mut place = ordered.len();
     let mut counts = before;
     while place > 0 {
-        let first = place - 1;
-        let fewer = counts.without(entries[first]);
-        if !goes_past(fewer, entries, first) {
-            return Ok(());
+        let other = ordered[place - 1];
+        counts = counts.without(other);
+        if !goes_past(counts, other, entry) {
+            return Ok(place);
         }
-        exchange(entries, first as u32);
-        places.push(first as u32)?;
-        place = first;
-        counts = fewer;
+        place -= 1;
+        places.push(place as u32)?;
     }
-    Ok(())
+    Ok(0)
 }
 
-// Whether the entry behind the place moves past the one there, where it is known what those before the place make.
-fn goes_past(before: Counts, entries: &[Entry], place: usize) -> bool
-    requires there { place + 1 < length entries.now }
-    requires known { AreCounts before (take place (map entry_view entries.now)) }
-    requires few { before.spawned < 2 ^ 32 }
-    ensures { result ≡ of.is_out_of_order (map entry_view entries.now) place }
+// Whether the entry moves past the other one, where it is known what those before that one make.
+fn goes_past(before: Counts, other: Entry, entry: Entry) -> bool
+    requires { before.spawned < 2 ^ 32 }
+    ensures { result ≡ (of.is_greater (Some (entry_view other)) (Some (entry_view entry))
+        && of.are_independent before.spawned before.sent (entry_view other) (entry_view entry)) }
 {
-    if entries[place + 1].thread < entries[place].thread {
-        independent_behind(before, entries, place)
-    } else {
-        false
-    }
+    entry.thread < other.thread && are_independent(before, other, entry)
 }

@@ -5,3 +5,4 @@ mod Standing
 mod Ending
 mod OnePeriod
 mod Indexing
+mod Divisors

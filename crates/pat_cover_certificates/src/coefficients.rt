@@ -1,5 +1,6 @@
 // Numbers by which periods make a word: the first list of them in the order of lists.
 
+mod divisors;
 mod failed;
 mod frames;
 mod numbers;

@@ -206,7 +206,7 @@ module _ (cs : List Constraint) (v : ℕ → Pat) where
   joined_shown n k x b c Sending Sending bq cr one h =
       subst (λ q. JoinShown (IsShown cs v c.interface) q c.polarity b.pattern c.pattern (prod_of b.pattern c.pattern)) (sym bq)
       (subst (λ r. JoinShown (IsShown cs v c.interface) Sending r b.pattern c.pattern (prod_of b.pattern c.pattern)) (sym cr)
-      (shown_product c.interface b.pattern c.pattern (prod_of b.pattern c.pattern) (shown_refl c.interface (prod_of b.pattern c.pattern))))
+      (shown_product c.interface b.pattern c.pattern (prod_of b.pattern c.pattern) (shown_refl c.interface (prod_of b.pattern c.pattern)), refl))
   joined_shown n k x b c Sending Receiving bq cr one h =
       subst (λ q. JoinShown (IsShown cs v c.interface) q c.polarity b.pattern c.pattern (Var k)) (sym bq)
       (subst (λ r. JoinShown (IsShown cs v c.interface) Sending r b.pattern c.pattern (Var k)) (sym cr)
@@ -218,8 +218,8 @@ module _ (cs : List Constraint) (v : ℕ → Pat) where
 
   pub parts_shown : (n k x : ℕ) (b c : Option MailboxType) → one_receives b c ≡ true → AllByRecursion Listed (constraints_with (both_parts n k x b c)) → SplitShown (IsShown cs v) (need_with (both_parts n k x b c)) b c
   parts_shown n k x None None one h = tt
-  parts_shown n k x (Some b) None one h = pattern_refl b.interface b.polarity b.pattern
-  parts_shown n k x None (Some c) one h = pattern_refl c.interface c.polarity c.pattern
+  parts_shown n k x (Some b) None one h = (pattern_refl b.interface b.polarity b.pattern, refl)
+  parts_shown n k x None (Some c) one h = (pattern_refl c.interface c.polarity c.pattern, refl)
   parts_shown n k x (Some b) (Some c) one h = joined_shown n k x b c b.polarity c.polarity refl refl one h
 
   -- ---- names

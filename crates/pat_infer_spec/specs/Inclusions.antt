@@ -3,7 +3,7 @@
 use Rattle.std.specs.Prelude.{◌≡◌, ℕ, List, [], Option, Some, None, ◌⊎◌, IsTrue}
 use Rattle.std.specs.List.{AllByRecursion}
 use Rattle.pat_words_spec.specs.Words.{Word}
-use Rattle.pat_words_spec.specs.Patterns.{Pat, One, Tag, Prod, In, subst_of}
+use Rattle.pat_words_spec.specs.Patterns.{Pat, One, Tag, Prod, In, prod_of, subst_of}
 use Rattle.pat_semantics_spec.specs.Values.{Expr, VarExpr}
 use Rattle.pat_semantics_spec.specs.Programs.{Polarity, Sending, Receiving, TagDecl, Function, Clause, Core, Val, Let, Call, If, Print, New, Send, Spawn, Guard, Node, Program, node_at, function_at, tag_at}
 use Rattle.pat_semantics_spec.specs.Faults.{IsIn}
@@ -47,17 +47,17 @@ PassShown R _ _ = Unit {0}
 abbrev pub EnvShown : Shows → TypeEnv → TypeEnv → Type 0
 EnvShown R g h = (x : ℕ) → PassShown R (g x) (h x)
 
--- a variable of both parts of a let is divided among them
+-- a variable of both parts of a let is divided among them; where both send, it has the product of what they send, as it is written
 abbrev pub JoinShown : (Pat → Pat → Type 0) → Polarity → Polarity → Pat → Pat → Pat → Type 0
-JoinShown R Sending Sending e1 e2 e = R (Prod e1 e2) e
+JoinShown R Sending Sending e1 e2 e = R (Prod e1 e2) e × (e ≡ prod_of e1 e2)
 JoinShown R Sending Receiving e1 e2 e = R (Prod e1 e) e2
 JoinShown R Receiving _ e1 e2 e = R (Prod e2 e) e1
 
--- a let shares out its types: these to what is bound, those to its body
+-- a let shares out its types: these to what is bound, those to its body; what one part alone has keeps its pattern
 abbrev pub SplitShown : Shows → Option MailboxType → Option MailboxType → Option MailboxType → Type 0
 SplitShown R (Some a) (Some b) (Some c) = JoinShown (R a.interface) b.polarity c.polarity b.pattern c.pattern a.pattern
-SplitShown R (Some a) (Some b) None = PatternShown (R a.interface) b.polarity a.pattern b.pattern
-SplitShown R (Some a) None (Some c) = PatternShown (R a.interface) c.polarity a.pattern c.pattern
+SplitShown R (Some a) (Some b) None = PatternShown (R a.interface) b.polarity a.pattern b.pattern × (a.pattern ≡ b.pattern)
+SplitShown R (Some a) None (Some c) = PatternShown (R a.interface) c.polarity a.pattern c.pattern × (a.pattern ≡ c.pattern)
 SplitShown R _ _ _ = Unit {0}
 
 -- one term's type stands for another's

@@ -1,12 +1,12 @@
 -- A `let` of an expression in place: what its two steps make of a thread.
-use Rattle.std.proofs.Common.{◌≡◌, ℕ, Bool, true, false, ◌||◌, cond, nat_eq, nat_lt, List, [], ◌∷◌, Option, Some, None, refl, sym, ap, ◌∙◌}
+use Rattle.std.proofs.Common.{◌≡◌, ℕ, Bool, true, false, ◌||◌, ◌&&◌, cond, nat_eq, List, [], ◌∷◌, Option, Some, None, Result, Ok, Err, IfOk, IfSome, refl, sym, ap, ◌∙◌}
 use Rattle.std.specs.Prelude.{not, filter, length, if◌then◌else◌, option_map, option_and_then, slice_get}
-use Rattle.std.specs.List.{AllByRecursion}
-use Rattle.std.proofs.lemmas.Bool.{eqb-true, eqb-false, ne_eqb, eq-eqb, cond-true, cond-false, or_left, or_right}
-use Rattle.pat_semantics_spec.specs.Values.{Value, Env, Expr, VarExpr, Literal, OpExpr, value_at, bind, eval, apply_values, occurs}
-use Rattle.pat_semantics_spec.specs.Programs.{Program, Val, Let, Node, core_at, is_among, option_uses, is_free_within, is_free, keep}
-use Rattle.pat_semantics_spec.specs.Configs.{Thread, Running, Frame}
-use Rattle.pat_semantics_spec.specs.Steps.{redex_at, bind_name, frame_of, local_at, resume, thread_of}
+use Rattle.std.specs.List.{list_any}
+use Rattle.std.proofs.lemmas.Bool.{eqb-true, eq-eqb, or_left, or_right}
+use Rattle.pat_semantics_spec.specs.Values.{Value, Env, Expr, VarExpr, Literal, OpExpr, Const, Mailbox, UnitConst, BoolConst, IntConst, TextConst, both_values, value_at, eval, eval_all, apply_values, occurs}
+use Rattle.pat_semantics_spec.specs.Programs.{Program, Core, Val, Let, Call, If, Print, New, Send, Spawn, Guard, Node, core_at, core_uses, function_at, is_among, option_list, option_uses, is_free_within, is_free, keep}
+use Rattle.pat_semantics_spec.specs.Configs.{Thread, Running, Returned, Frame}
+use Rattle.pat_semantics_spec.specs.Steps.{redex_at, bind_name, frame_of, choose, enter, local_at, local_step, resume, thread_of}
 use Rattle.pat_machine_spec.specs.Commits.{locally}
 
 -- ---- an expression with its own part of the values
@@ -68,119 +68,123 @@ bound_steps p s n m b y e env after v control outer inner is goes =
     ∙ both_steps p n m b y e env v s.frames outer inner is
     ∙ ap (λ l. Some (thread_of (Running b l) s.frames)) (sym goes)
 
--- ---- the values that the body goes on with
+-- ---- a frame that goes on at a `let` or a call
 
-module _ (q : ℕ → Bool) where
-  abbrev passed : Env → Env
-  passed env = filter (λ b. q b.0) env
-
-  -- of which none is left out
-  abbrev Passing : Env → Type 0
-  Passing env = AllByRecursion (λ (e : ℕ × Value). q e.0 ≡ true) env
-
-  all_pass : (env : Env) → Passing env → passed env ≡ env
-  all_pass [] a = refl
-  all_pass (e ∷ env) a = cond-true (q e.0) (e ∷ passed env) (passed env) a.0 ∙ ap (λ l. e ∷ l) (all_pass env a.1)
-
-  passed_pass : (env : Env) → Passing (passed env)
-  passed_pass [] = tt
-  passed_pass (e ∷ env) =
-      (elim (q e.0) as (λ t. q e.0 ≡ t → Passing (cond t (e ∷ passed env) (passed env))) [
-        | true ↦ λ is. (is, passed_pass env)
-        | false ↦ λ is. passed_pass env
-      ]) refl
-
-  fewer_pass : (r : ℕ × Value → Bool) (env : Env) → Passing env → Passing (filter r env)
-  fewer_pass r [] a = tt
-  fewer_pass r (e ∷ env) a =
-      (elim (r e) as (λ t. Passing (cond t (e ∷ filter r env) (filter r env))) [
-        | true ↦ (a.0, fewer_pass r env a.1)
-        | false ↦ fewer_pass r env a.1
-      ])
-
-  -- a further value that passes
-  bound_pass : (env : Env) (x : ℕ) (v : Value) → q x ≡ true → Passing env → Passing (bind env x v)
-  bound_pass [] x v is a = (is, tt)
-  bound_pass (e ∷ env) x v is a =
-      (elim (nat_lt x e.0) as (λ t. Passing (cond t ((x, v) ∷ e ∷ env) (if nat_eq x e.0 then (x, v) ∷ env else e ∷ bind env x v))) [
-        | true ↦ (is, a)
-        | false ↦
-            (elim (nat_eq x e.0) as (λ t. Passing (cond t ((x, v) ∷ env) (e ∷ bind env x v))) [
-              | true ↦ (is, a.1)
-              | false ↦ (a.0, bound_pass env x v is a.1)
-            ])
-      ])
-
-  -- a further value that doesn't, and had no other one
-  bound_left_out : (env : Env) (x : ℕ) (v : Value) → q x ≡ false → Passing env → AllByRecursion (λ (e : ℕ × Value). nat_eq x e.0 ≡ false) env → passed (bind env x v) ≡ env
-  bound_left_out [] x v off a apart = cond-false (q x) ((x, v) ∷ []) [] off
-  bound_left_out (e ∷ env) x v off a apart =
-      (elim (nat_lt x e.0) as (λ t. passed (cond t ((x, v) ∷ e ∷ env) (if nat_eq x e.0 then (x, v) ∷ env else e ∷ bind env x v)) ≡ e ∷ env) [
-        | true ↦ cond-false (q x) ((x, v) ∷ passed (e ∷ env)) (passed (e ∷ env)) off ∙ all_pass (e ∷ env) a
-        | false ↦
-            ap passed (cond-false (nat_eq x e.0) ((x, v) ∷ env) (e ∷ bind env x v) apart.0)
-            ∙ cond-true (q e.0) (e ∷ passed (bind env x v)) (passed (bind env x v)) a.0
-            ∙ ap (λ l. e ∷ l) (bound_left_out env x v off a.1 apart.1)
-      ])
-
-others_apart : (x : ℕ) (env : Env) → AllByRecursion (λ (e : ℕ × Value). nat_eq x e.0 ≡ false) (filter (λ b. not (is_among b.0 (x ∷ []))) env)
-others_apart x [] = tt
-others_apart x (e ∷ env) =
-    (elim (nat_eq e.0 x) as (λ t. nat_eq e.0 x ≡ t → AllByRecursion (λ (e : ℕ × Value). nat_eq x e.0 ≡ false) (cond (not (t || false)) (e ∷ filter (λ b. not (is_among b.0 (x ∷ []))) env) (filter (λ b. not (is_among b.0 (x ∷ []))) env))) [
-      | true ↦ λ is. others_apart x env
-      | false ↦ λ is. (ne_eqb x e.0 (λ s. eqb-false e.0 x is (sym s)), others_apart x env)
+-- what passes the one test passes the other
+filter_within : {A : Type 0} (q r : A → Bool) (xs : List A) → ((x : A) → q x ≡ true → r x ≡ true) → filter q (filter r xs) ≡ filter q xs
+filter_within q r [] h = refl
+filter_within q r (x ∷ xs) h =
+    (elim (r x) as (λ t. r x ≡ t → filter q (if t then x ∷ filter r xs else filter r xs) ≡ filter q (x ∷ xs)) [
+      | true ↦ λ is. ap (λ l. if q x then x ∷ l else l) (filter_within q r xs h)
+      | false ↦ λ is.
+          (elim (q x) as (λ t. q x ≡ t → filter q (filter r xs) ≡ (if t then x ∷ filter q xs else filter q xs)) [
+            | true ↦ λ on. let off : r x ≡ true = h x on in absurd cc
+            | false ↦ λ on. filter_within q r xs h
+          ]) refl
     ]) refl
 
-module _ (p : Program) (b x : ℕ) (env : Env) (v : Value) where
-  -- the values of a frame that waits for the variable
-  abbrev waiting : Env
-  waiting = (frame_of p (Some x) b env).env
+-- what passes two tests passes the third
+filter_within_both : {A : Type 0} (s q r : A → Bool) (xs : List A) → ((x : A) → s x ≡ true → q x ≡ true → r x ≡ true) → filter s (filter q (filter r xs)) ≡ filter s (filter q xs)
+filter_within_both s q r [] h = refl
+filter_within_both s q r (x ∷ xs) h =
+    (elim (r x) as (λ t. r x ≡ t → filter s (filter q (if t then x ∷ filter r xs else filter r xs)) ≡ filter s (filter q (x ∷ xs))) [
+      | true ↦ λ is.
+          (elim (q x) as (λ t. filter s (if t then x ∷ filter q (filter r xs) else filter q (filter r xs)) ≡ filter s (if t then x ∷ filter q xs else filter q xs)) [
+            | true ↦ ap (λ l. if s x then x ∷ l else l) (filter_within_both s q r xs h)
+            | false ↦ filter_within_both s q r xs h
+          ])
+      | false ↦ λ is.
+          (elim (q x) as (λ t. q x ≡ t → filter s (filter q (filter r xs)) ≡ filter s (if t then x ∷ filter q xs else filter q xs)) [
+            | true ↦ λ on.
+                (elim (s x) as (λ t. s x ≡ t → filter s (filter q (filter r xs)) ≡ (if t then x ∷ filter s (filter q xs) else filter s (filter q xs))) [
+                  | true ↦ λ also. let off : r x ≡ true = h x also on in absurd cc
+                  | false ↦ λ also. filter_within_both s q r xs h
+                ]) refl
+            | false ↦ λ on. filter_within_both s q r xs h
+          ]) refl
+    ]) refl
 
-  waiting_pass : Passing (λ z. is_free p z b) waiting
-  waiting_pass = fewer_pass (λ z. is_free p z b) (λ e. not (is_among e.0 (x ∷ []))) (keep p b env) (passed_pass (λ z. is_free p z b) env)
+-- so do all of a list of expressions
+passing_values : (f : ℕ → Bool) (env : Env) (args : List Expr) → ((x : ℕ) → list_any (occurs x) args ≡ true → f x ≡ true) → eval_all (filter (λ b. f b.0) env) args ≡ eval_all env args
+passing_values f env [] h = refl
+passing_values f env (e ∷ args) h =
+    ap (λ o. both_values o (eval_all (filter (λ b. f b.0) env) args)) (passing_value f env e (λ x o. h x (or_left (occurs x e) (list_any (occurs x) args) o)))
+    ∙ ap (both_values (eval env e)) (passing_values f env args (λ x o. h x (or_right (occurs x e) (list_any (occurs x) args) o)))
 
-  used : is_free p x b ≡ true → bind waiting x v ≡ keep p b (bind waiting x v)
-  used is = sym (all_pass (λ z. is_free p z b) (bind waiting x v) (bound_pass (λ z. is_free p z b) waiting x v is waiting_pass))
+module _ (p : Program) (parts : (x n : ℕ) → is_free p x n ≡ option_uses (λ k. is_free p x k) x (core_at p n)) where
+  -- the values of a part are among those of its node
+  part_values : (n m : ℕ) (env : Env) → ((x : ℕ) → is_free p x m ≡ true → is_free p x n ≡ true) → keep p m (keep p n env) ≡ keep p m env
+  part_values n m env h = filter_within (λ e. is_free p e.0 m) (λ e. is_free p e.0 n) env (λ e. h e.0)
 
-  unused : is_free p x b ≡ false → waiting ≡ keep p b (bind waiting x v)
-  unused off = sym (bound_left_out (λ z. is_free p z b) waiting x v off waiting_pass (others_apart x (keep p b env)))
+  uses : (n x : ℕ) (core : Core) → core_at p n ≡ Some core → core_uses (λ k. is_free p x k) x core ≡ true → is_free p x n ≡ true
+  uses n x core at h = parts x n ∙ ap (option_uses (λ k. is_free p x k) x) at ∙ h
 
-none_left_out : (q : ℕ × Value → Bool) (env : Env) → ((e : ℕ × Value) → q e ≡ true) → filter q env ≡ env
-none_left_out q [] all = refl
-none_left_out q (e ∷ env) all = cond-true (q e) (e ∷ filter q env) (filter q env) (all e) ∙ ap (λ l. e ∷ l) (none_left_out q env all)
+  both_true : (s t : Bool) → s ≡ true → t ≡ true → (t && s) ≡ true
+  both_true s t hs ht = ap (λ w. w && s) ht ∙ hs
 
--- with no name for the value
-unnamed : (p : Program) (b : ℕ) (env : Env) → keep p b env ≡ keep p b (frame_of p None b env).env
-unnamed p b env =
-    sym (all_pass (λ z. is_free p z b) (keep p b env) (passed_pass (λ z. is_free p z b) env))
-    ∙ ap (keep p b) (sym (none_left_out (λ e. not (is_among e.0 [])) (keep p b env) (λ e. refl)))
+  other_values : (n m b : ℕ) (y : Option ℕ) (env : Env) → core_at p n ≡ Some (Let y m b) → (frame_of p y b (keep p n env)).env ≡ (frame_of p y b env).env
+  other_values n m b y env at =
+      filter_within_both (λ e. not (is_among e.0 (option_list y))) (λ e. is_free p e.0 b) (λ e. is_free p e.0 n) env
+      (λ e s q. uses n e.0 (Let y m b) at (or_right (is_free p e.0 m) (is_free p e.0 b && not (is_among e.0 (option_list y))) (both_true (not (is_among e.0 (option_list y))) (is_free p e.0 b) s q)))
 
--- whether a number is the only one
-pub alone_among : (x y : ℕ) → nat_eq x y ≡ is_among x (y ∷ [])
-alone_among x y = elim (nat_eq x y) as (λ t. t ≡ (t || false)) [ true ↦ refl | false ↦ refl ]
+  chooses : (n m b : ℕ) (e : Expr) (env : Env) (o : Option Value) → core_at p n ≡ Some (If e m b) → choose p o m b (keep p n env) [] ≡ choose p o m b env []
+  chooses n m b e env None at = refl
+  chooses n m b e env (Some (Mailbox a)) at = refl
+  chooses n m b e env (Some (Const UnitConst)) at = refl
+  chooses n m b e env (Some (Const (IntConst i))) at = refl
+  chooses n m b e env (Some (Const (TextConst t))) at = refl
+  chooses n m b e env (Some (Const (BoolConst true))) at =
+      ap (λ l. Some (thread_of (Running m l) []))
+      (part_values n m env (λ x h. uses n x (If e m b) at (or_right (occurs x e) (is_free p x m || is_free p x b) (or_left (is_free p x m) (is_free p x b) h))))
+  chooses n m b e env (Some (Const (BoolConst false))) at =
+      ap (λ l. Some (thread_of (Running b l) []))
+      (part_values n b env (λ x h. uses n x (If e m b) at (or_right (occurs x e) (is_free p x m || is_free p x b) (or_right (is_free p x m) (is_free p x b) h))))
 
--- ---- the same as the code finds it
+  step_at : (n : ℕ) (env : Env) (k : Option Core) → core_at p n ≡ k → local_at p (redex_at k (keep p n env)) [] ≡ local_at p (redex_at k env) []
+  step_at n env None at = refl
+  step_at n env (Some (Val e)) at = refl
+  step_at n env (Some (Let y m b)) at =
+      ap (λ l. Some (thread_of (Running m l) (frame_of p y b (keep p n env) ∷ [])))
+      (part_values n m env (λ x h. uses n x (Let y m b) at (or_left (is_free p x m) (is_free p x b && not (is_among x (option_list y))) h)))
+      ∙ ap (λ l. Some (thread_of (Running m (keep p m env)) (record { var = y; body = b; env = l } ∷ []))) (other_values n m b y env at)
+  step_at n env (Some (Call g args)) at =
+      ap (λ w. enter p (function_at p g) w []) (passing_values (λ x. is_free p x n) env args (λ x h. uses n x (Call g args) at h))
+  step_at n env (Some (If e m b)) at =
+      ap (λ o. choose p o m b (keep p n env) []) (passing_value (λ x. is_free p x n) env e (λ x h. uses n x (If e m b) at (or_left (occurs x e) (is_free p x m || is_free p x b) h)))
+      ∙ chooses n m b e env (eval env e) at
+  step_at n env (Some (Print e)) at = refl
+  step_at n env (Some (New i)) at = refl
+  step_at n env (Some (Send x m args)) at = refl
+  step_at n env (Some (Spawn m)) at = refl
+  step_at n env (Some (Guard x e f cs)) at = refl
 
-module _ (p : Program) (b : ℕ) (y : Option ℕ) where
-  -- the values that the body goes on with
-  abbrev pub after : Env → Value → Env
-  after env v = keep p b (bind_name (frame_of p y b env).env y v)
+  -- a frame goes on, and takes the step that its body takes with all of the values
+  pub led_to : (n : ℕ) (o : Option ℕ) (env : Env) (v : Value) (t : Thread)
+      → local_step p (thread_of (Running n (bind_name env o v)) []) ≡ Some t
+      → locally p 2 (thread_of (Returned v) (record { var = o; body = n; env = env } ∷ [])) ≡ Some t
+  led_to n o env v t taken =
+      ap (option_and_then (locally p 0)) (step_at n (bind_name env o v) (core_at p n) refl)
+      ∙ ap (option_and_then (locally p 0)) taken
 
-  pub used_in : (x : ℕ) (env kept others new : Env) (v : Value) (t : Bool) → y ≡ Some x → kept ≡ keep p b env
-      → others ≡ filter (λ e. not (is_among e.0 (x ∷ []))) kept → t ≡ is_free p x b → t ≡ true → new ≡ bind others x v → new ≡ after env v
-  used_in x env kept others new v t named k o free is n =
-      n
-      ∙ ap (λ l. bind l x v) (o ∙ ap (filter (λ e. not (is_among e.0 (x ∷ [])))) k)
-      ∙ used p b x env v (sym free ∙ is)
-      ∙ ap (λ z. keep p b (bind_name (frame_of p z b env).env z v)) (sym named)
+  -- at a let, which is opened
+  pub led_to_let : (n m b : ℕ) (y o : Option ℕ) (env own rest : Env) (v : Value) (t : Thread)
+      → core_at p n ≡ Some (Let y m b) → own ≡ keep p m (bind_name env o v) → rest ≡ (frame_of p y b (bind_name env o v)).env
+      → t ≡ thread_of (Running m own) (record { var = y; body = b; env = rest } ∷ [])
+      → locally p 2 (thread_of (Returned v) (record { var = o; body = n; env = env } ∷ [])) ≡ Some t
+  led_to_let n m b y o env own rest v t at is_own is_rest is =
+      led_to n o env v t
+      (ap (λ c. local_at p (redex_at c (bind_name env o v)) []) at
+      ∙ ap (λ l. Some (thread_of (Running m l) (frame_of p y b (bind_name env o v) ∷ []))) (sym is_own)
+      ∙ ap (λ l. Some (thread_of (Running m own) (record { var = y; body = b; env = l } ∷ []))) (sym is_rest)
+      ∙ ap Some (sym is))
 
-  pub unused_in : (x : ℕ) (env kept others : Env) (v : Value) (t : Bool) → y ≡ Some x → kept ≡ keep p b env
-      → others ≡ filter (λ e. not (is_among e.0 (x ∷ []))) kept → t ≡ is_free p x b → t ≡ false → others ≡ after env v
-  unused_in x env kept others v t named k o free is =
-      o
-      ∙ ap (filter (λ e. not (is_among e.0 (x ∷ [])))) k
-      ∙ unused p b x env v (sym free ∙ is)
-      ∙ ap (λ z. keep p b (bind_name (frame_of p z b env).env z v)) (sym named)
+  -- with no name for the value
+  pub led_on : (n : ℕ) (o : Option ℕ) (env : Env) (v : Value) (t : Thread) → o ≡ None
+      → local_step p (thread_of (Running n env) []) ≡ Some t
+      → locally p 2 (thread_of (Returned v) (record { var = o; body = n; env = env } ∷ [])) ≡ Some t
+  led_on n o env v t none taken = led_to n o env v t (ap (λ w. local_step p (thread_of (Running n (bind_name env w v)) [])) none ∙ taken)
 
-  pub unnamed_in : (env kept : Env) (v : Value) → y ≡ None → kept ≡ keep p b env → kept ≡ after env v
-  unnamed_in env kept v named k = k ∙ unnamed p b env ∙ ap (λ z. keep p b (bind_name (frame_of p z b env).env z v)) (sym named)
+pub through : {S E : Type 0} {P Q : S → Type 0} (r : Result (Option S) E) → ((s : S) → P s → Q s) → IfOk r (λ o. IfSome o P) → IfOk r (λ o. IfSome o Q)
+through (Ok None) f h = tt
+through (Ok (Some s)) f h = f s h
+through (Err e) f h = tt

@@ -1,19 +1,15 @@
 // Local steps of a thread outside a configuration.
-ghost use Rattle.std.specs.Prelude.{◌≡◌, ◌<◌, [], ◌∷◌, Some, filter, not, IfOk, IfErr, OnOk, IsTrue, IsFalse};
-ghost use Rattle.pat_semantics_spec.specs.Programs.{is_among, keep};
-ghost use Rattle.pat_semantics_spec.specs.Steps.{bind_name, frame_of};
+ghost use Rattle.std.specs.Prelude.{◌≡◌, ◌<◌, Some, IfOk, IfErr, IsTrue, IsFalse};
 ghost use Rattle.pat_reduce.specs.threads.Views.{program_view};
 ghost use Rattle.pat_reduce.specs.threads.ThreadViews.{thread_view};
-ghost use Rattle.pat_reduce_values.specs.ValueViews.{env_view, value_view};
 ghost use Rattle.pat_machine_spec.specs.Commits.{IsLocalRun, locally};
 ghost use Rattle.pat_machine_threads.specs.Handed.{hands_back};
 ghost use Rattle.pat_machine_threads.specs.Settling.{Advances};
 
 use crate::copies::copy_state;
 use crate::error::LocalError;
-use pat_reduce::{Control, Core, StepError, ThreadState, Value, core_of};
-use pat_reduce_values::{Executable, bind, keep_free, value_for};
-use pat_sequences::Sequence;
+use pat_reduce::{Control, Core, StepError, ThreadState, core_of};
+use pat_reduce_values::{Executable, enter_body, value_for};
 use std::alloc::{AllocError, Global};
 
 /// For how many times its values, and two more, a thread keeps room where it stops: doubling and a vector's least room stay below.
@@ -133,35 +129,4 @@ fn bind_value(alloc: Global, code: &Executable, state: &mut ThreadState) -> Resu
         Err(StepError::Disabled) => Ok(false),
         Err(StepError::NoMemory) => Err(AllocError),
     }
-}
-
-// The body of a `let` goes on with its part of the values and the value that was bound. An error may leave anything.
-fn enter_body(
-    code: &Executable,
-    body: u32,
-    var: Option<u32>,
-    value: Value,
-    env: &mut Sequence<(u32, Value)>,
-) -> Result<(), AllocError>
-    ensures { OnOk result (env_view env.new ≡ keep (program_view code.now.program) body
-        (bind_name (frame_of (program_view code.now.program) var body (env_view env.old)).env var (value_view value))) }
-{
-    keep_free(code, body, env);
-    match var {
-        Some(variable) => {
-            drop_variable(env, variable);
-            if code.is_free(variable, body) {
-                bind(env, variable, value)?;
-            }
-            Ok(())
-        }
-        None => Ok(()),
-    }
-}
-
-// An earlier value of the variable is left out.
-fn drop_variable(env: &mut Sequence<(u32, Value)>, variable: u32)
-    ensures { env_view env.new ≡ filter (λ b. not (is_among b.0 (variable ∷ []))) (env_view env.old) }
-{
-    env.items.retain(|entry| entry.0 != variable);
 }

@@ -1,21 +1,20 @@
 // Local steps of a kept thread, on a copy of its top.
 ghost use Rattle.std.specs.Prelude.{◌≡◌, ◌<◌, ◌≤◌, ◌⊎◌, [], ◌∷◌, length, Some, IfOk, IfSome, OnOk, IsTrue, IsFalse};
-ghost use Rattle.pat_semantics_spec.specs.Configs.{Running};
-ghost use Rattle.pat_semantics_spec.specs.Programs.{keep};
-ghost use Rattle.pat_semantics_spec.specs.Values.{Value as ValueOf};
-ghost use Rattle.pat_semantics_spec.specs.Steps.{at_node, bind_name, frame_of, local_step, resume, thread_of};
+ghost use Rattle.pat_semantics_spec.specs.Configs.{Returned, Running};
+ghost use Rattle.pat_semantics_spec.specs.Steps.{local_step, resume, thread_of};
 ghost use Rattle.pat_reduce.specs.threads.Views.{program_view};
 ghost use Rattle.pat_reduce.specs.threads.ThreadViews.{frame_view, thread_view};
 ghost use Rattle.pat_reduce_values.specs.ValueViews.{env_view, value_view};
+ghost use Rattle.pat_machine_spec.specs.Commits.{locally};
 ghost use Rattle.pat_machine_spec.specs.Tops.{below, top_of};
 ghost use Rattle.pat_machine_threads.specs.Settling.{IsBegun, IsRunOnTop, RunsOn, Uncovers};
 
 use crate::copies::{copy_frame, copy_top};
 use crate::run::{give_back_room, run_locally};
 use crate::tops::{frame_below, has_at_most};
-use pat_reduce::{Control, Core, Frame, StepError, ThreadState, Value, core_of, enter, node_with};
-use pat_reduce_values::{Executable, bound, keep_free, kept_but};
-use pat_sequences::Stack;
+use pat_reduce::{Control, Core, Frame, StepError, ThreadState, Value, core_of, enter};
+use pat_reduce_values::{Executable, bound, divided, divided_with, keep_free};
+use pat_sequences::{Sequence, Stack};
 use std::alloc::{AllocError, Global};
 
 /// What local steps made of the top of a thread, and how many they were.
@@ -94,10 +93,10 @@ fn begin(
     ensures { IfOk result (IsBegun (program_view code.now.program) allowance (thread_view kept.now)) }
 {
     match (&kept.control, kept.frames.top()) {
-        (Control::Returned(_), Some(frame)) if allowance > 1 && leads_on(code, frame) => {
-            match first_step(alloc, code, frame.body, frame.env.as_slice())? {
+        (Control::Returned(value), Some(frame)) if allowance > 1 => {
+            match led_on(alloc, code, value, frame)? {
                 Some(end) => Ok(settled_after(end, 1, 2)),
-                None => unmoved(alloc, kept),
+                None => Ok(settled_after(resumed(alloc, code, value, frame)?, 1, 1)),
             }
         }
         (Control::Returned(value), Some(frame)) if allowance > 0 => {
@@ -127,28 +126,24 @@ fn settled_after(end: ThreadState, gone: u32, steps: u32) -> Settled
     Settled { end, gone, steps }
 }
 
-// Whether the frame goes on at a let or a call with just the values that it has, and with no name for the one that it waits for.
-fn leads_on(code: &Executable, frame: &Frame) -> bool
-    ensures { IsTrue result → (v : ValueOf) → at_node (program_view code.now.program) frame.now.body (bind_name (frame_view frame.now).env (frame_view frame.now).var v) ≡ Running frame.now.body (env_view frame.now.env) }
+// The thread after two local steps, if the frame goes on with the value at a let, or at a call with no name for the value that can be taken.
+fn led_on(
+    alloc: Global,
+    code: &Executable,
+    value: &Value,
+    frame: &Frame,
+) -> Result<Option<ThreadState>, AllocError>
+    ensures { IfOk result (λ o. IfSome o (λ s. locally (program_view code.now.program) 2 (thread_of (Returned (value_view value.now)) (frame_view frame.now ∷ [])) ≡ Some (thread_view s))) }
 {
-    frame.var.is_none()
-        && matches!(
-            core_of(code, frame.body),
-            Some(Core::Let { .. } | Core::Call { .. })
-        )
-        && are_free(code, frame.body, frame.env.as_slice())
-}
-
-// Whether each of these values is one of a free variable of the node.
-fn are_free(code: &Executable, node: u32, env: &[(u32, Value)]) -> bool
-    ensures { IsTrue result → keep (program_view code.now.program) node (env_view env.now) ≡ env_view env.now }
-{
-    for entry in env {
-        if !code.is_free(entry.0, node) {
-            return false;
+    let env = frame.env.as_slice();
+    match (core_of(code, frame.body), frame.var) {
+        (Some(Core::Let { var, bound, body }), name) => {
+            let (own, rest) = divided_with(alloc, code, *bound, *body, *var, env, name, value)?;
+            Ok(Some(opened(alloc, *var, *bound, *body, own, rest)?))
         }
+        (Some(Core::Call { .. }), None) => called(alloc, code, frame.body, env),
+        _ => Ok(None),
     }
-    true
 }
 
 // The thread after the local step at a node, with no frame below, if a let stands there, or a call that can be taken.
@@ -162,27 +157,34 @@ fn first_step(
 {
     match core_of(code, node) {
         Some(Core::Let { var, bound, body }) => {
-            Ok(Some(opened(alloc, code, *var, *bound, *body, env)?))
+            let (own, rest) = divided(alloc, code, *bound, *body, *var, env)?;
+            Ok(Some(opened(alloc, *var, *bound, *body, own, rest)?))
         }
         _ => called(alloc, code, node, env),
     }
 }
 
-// The thread at the bound term of a let, with the frame that waits for its value.
+// The thread at the bound term of a let with its values, with the frame that waits for its value with the others.
 fn opened(
     alloc: Global,
-    code: &Executable,
     var: Option<u32>,
     bound: u32,
     body: u32,
-    env: &[(u32, Value)],
+    own: Sequence<(u32, Value)>,
+    rest: Sequence<(u32, Value)>,
 ) -> Result<ThreadState, AllocError>
-    ensures { IfOk result (λ s. thread_view s ≡ thread_of (at_node (program_view code.now.program) bound (env_view env.now)) (frame_of (program_view code.now.program) var body (env_view env.now) ∷ [])) }
+    ensures { IfOk result (λ s. thread_view s ≡ thread_of (Running bound (env_view own)) (record { var = var; body = body; env = env_view rest } ∷ [])) }
 {
-    let control = node_with(alloc, code, bound, env)?;
-    let env = kept_but(alloc, code, body, var, env)?;
     let mut frames = Stack::new(alloc);
-    frames.push(Frame { var, body, env })?;
+    frames.push(Frame {
+        var,
+        body,
+        env: rest,
+    })?;
+    let control = Control::Node {
+        node: bound,
+        env: own,
+    };
     Ok(ThreadState { control, frames })
 }
 

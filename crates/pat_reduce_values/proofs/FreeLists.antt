@@ -89,3 +89,15 @@ small_in (Some own) x h = own.small x h
 -- a variable that is free somewhere is a 32-bit number
 pub small_free : (p : Program) (free : List Variables) → ((x n : ℕ) → is_listed free n x ≡ is_free p x n) → (x n : ℕ) → is_free p x n ≡ true → x < number_count
 small_free p free listed x n h = small_in (slice_get free n) x (listed x n ∙ h)
+
+free_none : (p : Program) (x n : ℕ) → core_at p n ≡ None → is_free p x n ≡ false
+unfolding is_free
+free_none p x n h = nothing_past (length p.nodes) p x n h
+
+-- what is free in a node, by its parts
+pub free_by_parts : (p : Program) → WellFormed p → (x n : ℕ) → is_free p x n ≡ option_uses (λ k. is_free p x k) x (core_at p n)
+free_by_parts p w x n =
+    (elim (core_at p n) as (λ o. core_at p n ≡ o → is_free p x n ≡ option_uses (λ k. is_free p x k) x o) [
+      | None ↦ λ h. free_none p x n h
+      | Some core ↦ λ h. free_unfolds p x n core w h
+    ]) refl

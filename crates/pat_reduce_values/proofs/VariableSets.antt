@@ -1,10 +1,11 @@
 -- Ascending lists of variables: where one stands, and one more of them.
 use Rattle.std.proofs.Common.{◌≡◌, ℕ, zero, suc, ◌<◌, ◌≤◌, Bool, true, false, ◌||◌, nat_eq, List, [], ◌∷◌, length, get_or, Result, Ok, Err, IfOk, IfErr, refl, sym, ap, ◌∙◌, subst, ◌⊎◌, inl, inr, ⊎_elim, eq-eqb, eqb-true, arith}
-use Rattle.std.specs.Prelude.{IsTrue, OnOk, OnErr, is_ok, insert}
+use Rattle.std.specs.Prelude.{◌-◌, nat_lt, IsTrue, OnOk, OnErr, is_ok, insert}
 use Rattle.std.specs.List.Sorted.{IsSearchInRange, IsBinarySearchResult, IsNonDecreasingBy}
 use Rattle.std.specs.Ordering.{nat_cmp, ordering_index}
 use Rattle.std.proofs.lemmas.Cmp.{ranked}
-use Rattle.std.proofs.lemmas.Bool.{cases_lt, or_cases, or_left, or_right, ne_eqb}
+use Rattle.std.proofs.lemmas.Bool.{cases_lt, ltb-true, or_cases, or_left, or_right, ne_eqb}
+use Rattle.std.proofs.lemmas.List.{get_or_default}
 use Rattle.std.proofs.lemmas.Bool.Decides.{nat_tests}
 use Rattle.pat_semantics_laws.specs.Programs.{is_among}
 use Rattle.pat_semantics_spec.specs.Orders.{AscendsFrom}
@@ -52,6 +53,21 @@ module _ (xs : List ℕ) (x : ℕ) (ascends : Ascends xs) where
       behind = λ k d less behind. ranked _ x _ (sym ((parted rising).1 k d behind less));
     };
   }
+
+-- it fits between a lesser one and a greater one
+pub fits_between : (xs : List ℕ) (x i : ℕ) → Ascends xs → i < length xs → ((d : ℕ) → x < get_or xs i d) → 0 < i → nat_lt (get_or xs (i - 1) 0) x ≡ true → FitsAt xs x i
+fits_between xs x i ascends within above past less = record {
+  within = omega arith;
+  front = λ k d there before.
+      let least : get_or xs (i - 1) 0 < x = ltb-true (get_or xs (i - 1) 0) x less in
+      let up = rise xs x ascends k (i - 1) d (omega (arith, past, before)) (omega (arith, within)) in
+      let same = get_or_default xs (i - 1) d 0 (omega (arith, within)) in
+      omega (arith, least, up, same);
+  behind = λ k d there from.
+      let up = rise xs x ascends i k d from there in
+      let here = above d in
+      omega (arith, up, here);
+}
 
 -- where it stands, it is among them
 pub stands_among : (xs : List ℕ) (x i : ℕ) → StandsAt xs x i → is_among x xs ≡ true

@@ -11,6 +11,11 @@ abbrev pub ascends_from : ℕ → Env → Bool
 ascends_from n [] = true
 ascends_from n (e ∷ env) = nat_le n e.0 && ascends_from (suc e.0) env
 
+-- the variables are less than n
+abbrev pub all_less : ℕ → Env → Bool
+all_less n [] = true
+all_less n (e ∷ env) = nat_lt e.0 n && all_less n env
+
 -- the values of just the node's free variables but the one that a let binds
 abbrev pub keep_but : Program → ℕ → Option ℕ → Env → Env
 keep_but p n y env = filter (λ b. not (is_among b.0 (option_list y))) (keep p n env)

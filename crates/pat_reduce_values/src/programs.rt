@@ -5,4 +5,5 @@ mod free_variables;
 mod variables;
 
 pub use executable::Executable;
-use variables::{AtHand, Variables};
+pub(crate) use variables::AtHand;
+use variables::Variables;

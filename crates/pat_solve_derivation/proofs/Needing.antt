@@ -11,8 +11,8 @@ use Rattle.pat_derivation_spec.specs.Demands.{inclusions_of}
 use Rattle.pat_derivation_spec.specs.Conditions.{demands}
 use Rattle.pat_derivation_spec.specs.Rules.{needed}
 use Rattle.pat_derivation_spec.specs.Truth.{place}
-use Rattle.pat_solve_spec.specs.Derived.{Form, found_line, no_certs, lines_from, needed_at, scope_by, AreCertsFor}
-use Rattle.pat_solve_spec.specs.Laws.{NeededShown}
+use Rattle.pat_solve_spec.specs.Derived.{Form, derivation_with, found_line, no_certs, lines_from, needed_at, scope_by, AreCertsFor}
+use Rattle.pat_solve_spec.specs.Laws.{NeededShown, IsWritten, DemandsWritten}
 use Rattle.pat_inclusion_spec.specs.Values.{VarLine}
 use Rattle.pat_solve_derivation.specs.certificates.Making.{IsMet}
 use Rattle.pat_solve_derivation.specs.Made.{IsBare, HasCerts}
@@ -36,12 +36,19 @@ module _ (p : Program) where
         let same : l ≡ found_line p (0 + n) [] = cc in
         same ∙ ap (λ m. found_line p m []) start
 
+    demands_are : demands p d (place n c g l) ≡ demands p (derivation_with p d.vars no_certs) (place n c g (found_line p n []))
+    demands_are = ap₂ (λ (x : Derivation) (y : Line). demands p x (place n c g y)) bare.is line_is
+
     needed_is : needed p d (place n c g l) ≡ needed_at p d.vars n c g
-    needed_is = ap₂ (λ (x : Derivation) (y : Line). needed p x (place n c g y)) bare.is line_is
+    needed_is = ap (flat_map inclusions_of) demands_are
 
     -- each inclusion that the demands need is trivial or shown
     pub all_met : NeededShown → WellFormed p → function_at p c.function ≡ Some g → AllByRecursion (IsMet (scope_of p d) forms) (flat_map inclusions_of (demands p d (place n c g l)))
     all_met shown well of = subst (AllByRecursion (IsMet (scope_of p d) forms)) (sym needed_is) (shown p d.vars forms n c g well bare.clean bare.show at of)
+
+    -- the demands are written as what inference finds
+    pub all_written : DemandsWritten → WellFormed p → function_at p c.function ≡ Some g → AllByRecursion IsWritten (demands p d (place n c g l))
+    all_written written well of = subst (AllByRecursion IsWritten) (sym demands_are) (written p d.vars forms n c g well bare.clean bare.show at of)
 
     -- and certificates for them are those for what the node needs
     pub certs_needed : (certs : List Cert) → AreCertsFor (scope_of p d) forms (flat_map inclusions_of (demands p d (place n c g l))) certs → AreCertsFor (scope_of p d) forms (needed_at p d.vars n c g) certs

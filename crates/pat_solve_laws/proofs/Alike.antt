@@ -18,7 +18,7 @@ use Rattle.pat_derivation_spec.specs.Conditions.{then_others, but_not, passes, o
 use Rattle.pat_derivation_spec.specs.Rules.{needed}
 use Rattle.pat_infer_spec.specs.Solutions.{typing_found}
 use Rattle.pat_solve_spec.specs.Derived.{found_line, found_place, derivation_with, no_certs, scope_by, AreCertsFor}
-use Rattle.pat_solve_spec.specs.Laws.{NeededListed, NeededShown, DerivedIsValid, ShownIsTypable}
+use Rattle.pat_solve_spec.specs.Laws.{NeededListed, NeededShown, DemandsWritten, DerivedIsValid, ShownIsTypable}
 use Rattle.pat_solve_laws.proofs.Known.{Known}
 use Rattle.pat_solve_laws.proofs.Ties.{line_there, line_none}
 use Rattle.pat_solve_laws.proofs.Values.{values_solve}
@@ -133,6 +133,10 @@ needed_listed known p vars forms n c g w clean show at of =
 pub needed_shown : Known → NeededShown
 needed_shown known p vars forms n c g w clean show at of =
     made_valid.needed_sides known p w clean vars forms show no_certs n c at g of
+
+pub demands_written : Known → DemandsWritten
+demands_written known p vars forms n c g w clean show at of =
+    made_valid.demands_written known p w clean vars forms show no_certs n c at g of
 
 pub derived_valid : Known → DerivedIsValid
 derived_valid known p vars forms certs w clean show made =

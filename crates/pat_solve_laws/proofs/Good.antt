@@ -17,7 +17,7 @@ use Rattle.pat_derivation_spec.specs.Conditions.{passes, divides}
 use Rattle.pat_derivation_laws.proofs.Filled.{filled_to}
 use Rattle.pat_derivation_laws.proofs.DemandsMet.{put_in}
 use Rattle.pat_infer_spec.specs.Inclusions.{Shows, PatternShown, PassShown, JoinShown, SplitShown}
-use Rattle.pat_solve_spec.specs.Laws.{IsSound}
+use Rattle.pat_solve_spec.specs.Laws.{IsSound, IsWritten}
 
 -- ---- the tests of what is the same
 
@@ -54,6 +54,7 @@ pub record Good (s : Scope) (R : Shows) (d : Demand) : Type 0 where
   pub used : is_used_well d ≡ true
   pub dropped : is_dropped_well s d ≡ true
   pub shown : AllByRecursion (IsSound s R) (inclusions_of d)
+  pub written : IsWritten d
 
 -- the type's pattern, if there is one, is of its interface
 abbrev pub Formed : Scope → Option MailboxType → Type 0
@@ -61,6 +62,11 @@ Formed s o = (a : MailboxType) → o ≡ Some a → is_formed s a.interface a.pa
 
 abbrev pub EnvFormed : Scope → TypeEnv → Type 0
 EnvFormed s g = (x : ℕ) → Formed s (g x)
+
+join_written : (R : Pat → Pat → Type 0) (q r : Polarity) (e1 e2 e : Pat) → JoinShown R q r e1 e2 e → q ≡ Sending → r ≡ Sending → e ≡ prod_of e1 e2
+join_written R Sending Sending e1 e2 e h a b = h.1
+join_written R Sending Receiving e1 e2 e h a b = cc
+join_written R Receiving r e1 e2 e h a b = cc
 
 module _ (s : Scope) (R : Shows) where
   pub drop_test : (i : ℕ) (q : Polarity) (e : Pat) → is_formed s i e ≡ true → DropsAs q (filled s e) → drops_as s i q e ≡ true
@@ -81,14 +87,15 @@ module _ (s : Scope) (R : Shows) where
       (usage_test a.usage b.usage u)
 
   pub pass_good : (a b : Option MailboxType) → PassesTo (put_in s a) (put_in s b) → PassShown R a b → Formed s a → Formed s b → Good s R (Pass a b)
-  pass_good None None p h f g = record { used = refl; dropped = refl; shown = tt }
+  pass_good None None p h f g = record { used = refl; dropped = refl; shown = tt; written = tt }
   pass_good None (Some b) p h f g = absurd p
   pass_good (Some a) None p h f g =
-      record { used = refl; dropped = drop_test a.interface a.polarity a.pattern (f a refl) p; shown = tt }
+      record { used = refl; dropped = drop_test a.interface a.polarity a.pattern (f a refl) p; shown = tt; written = tt }
   pass_good (Some a) (Some b) p h f g = record {
     used = fits_used a b p.polarity p.usage;
     dropped = refl;
     shown = (fit_sound a.interface b.interface b.polarity a.pattern b.pattern p.interface (f a refl) (g b refl) h, tt);
+    written = tt;
   }
 
   module _ (prods : (i : ℕ) (e f g : Pat) → R i (Prod e f) g → R i (prod_of e f) g) (formed : (i : ℕ) (e f : Pat) → is_formed s i e ≡ true → is_formed s i f ≡ true → is_formed s i (prod_of e f) ≡ true) where
@@ -96,7 +103,7 @@ module _ (s : Scope) (R : Shows) where
     join_sound i j k Sending Sending Sending e1 e2 e ik jk f1 f2 f p h =
         let a = subst (λ m. is_formed s m e1 ≡ true) ik f1 in
         let b = subst (λ m. is_formed s m e2 ≡ true) jk f2 in
-        (refl, ((k, one i j k ik jk, formed k e1 e2 a b, f, prods k e1 e2 e h), tt))
+        (refl, ((k, one i j k ik jk, formed k e1 e2 a b, f, prods k e1 e2 e h.0), tt))
       where
         one : (i j k : ℕ) → i ≡ k → j ≡ k → one_interface i j k ≡ Some k
         one i j k ik jk = cond-true (nat_eq i k && nat_eq j k) (Some k) None (and_from (nat_eq i k) (nat_eq j k) (eq-eqb i k ik) (eq-eqb j k jk))
@@ -123,20 +130,22 @@ module _ (s : Scope) (R : Shows) where
     second_test u h = ap is_second h
 
     pub divide_good : (a b c : Option MailboxType) → SplitsTo (put_in s a) (put_in s b) (put_in s c) → SplitShown R a b c → Formed s a → Formed s b → Formed s c → Good s R (Divide a b c)
-    divide_good None None None p h f g k = record { used = refl; dropped = refl; shown = tt }
+    divide_good None None None p h f g k = record { used = refl; dropped = refl; shown = tt; written = tt }
     divide_good None (Some b) c p h f g k = absurd p
     divide_good None None (Some c) p h f g k = absurd p
     divide_good (Some a) None None p h f g k =
-        record { used = refl; dropped = drop_test a.interface a.polarity a.pattern (f a refl) p; shown = tt }
+        record { used = refl; dropped = drop_test a.interface a.polarity a.pattern (f a refl) p; shown = tt; written = tt }
     divide_good (Some a) (Some b) None p h f g k = record {
       used = fits_used a b p.polarity p.usage;
       dropped = refl;
-      shown = (fit_sound a.interface b.interface b.polarity a.pattern b.pattern p.interface (f a refl) (g b refl) h, tt);
+      shown = (fit_sound a.interface b.interface b.polarity a.pattern b.pattern p.interface (f a refl) (g b refl) h.0, tt);
+      written = h.1;
     }
     divide_good (Some a) None (Some c) p h f g k = record {
       used = fits_used a c p.polarity p.usage;
       dropped = refl;
-      shown = (fit_sound a.interface c.interface c.polarity a.pattern c.pattern p.interface (f a refl) (k c refl) h, tt);
+      shown = (fit_sound a.interface c.interface c.polarity a.pattern c.pattern p.interface (f a refl) (k c refl) h.0, tt);
+      written = h.1;
     }
     divide_good (Some a) (Some b) (Some c) p h f g k =
         let j = join_sound b.interface c.interface a.interface b.polarity c.polarity a.polarity b.pattern c.pattern a.pattern p.bound_interface p.body_interface (g b refl) (k c refl) (f a refl) p.pattern h in
@@ -145,6 +154,7 @@ module _ (s : Scope) (R : Shows) where
               (and_from (usage_fits a.usage c.usage) (polarities_join b.polarity c.polarity a.polarity) (usage_test a.usage c.usage p.usage) j.0);
           dropped = refl;
           shown = j.1;
+          written = join_written (R a.interface) b.polarity c.polarity b.pattern c.pattern a.pattern h;
         }
 
   -- ---- lists of demands
@@ -172,3 +182,7 @@ module _ (s : Scope) (R : Shows) where
   pub all_sound : (ds : List Demand) → AllByRecursion (Good s R) ds → AllByRecursion (IsSound s R) (flat_map inclusions_of ds)
   all_sound [] h = tt
   all_sound (d ∷ ds) h = all_join (IsSound s R) (inclusions_of d) (flat_map inclusions_of ds) h.0.shown (all_sound ds h.1)
+
+  pub all_written : (ds : List Demand) → AllByRecursion (Good s R) ds → AllByRecursion IsWritten ds
+  all_written [] h = tt
+  all_written (d ∷ ds) h = (h.0.written, all_written ds h.1)

@@ -167,9 +167,9 @@ module _ (p : Program) (w : WellFormed p) (vars : List VarLine) (certs : ℕ →
 
   name_good : (t : TypeOf) (o : Option MailboxType) (i : ℕ) → kind_of_type t ≡ MailboxOf i → NamePasses (result_under (pattern_of s) t) (put_in s o) → ((a : MailboxType) → o ≡ Some a → t ≡ as_term a) → FormedType s t → Good s R (Name t o)
   name_good (BaseTerm b) o i k t same f = cc
-  name_good (MailboxTerm j q e) None i k t same f = record { used = refl; dropped = drop_test s R j q e f t; shown = tt }
+  name_good (MailboxTerm j q e) None i k t same f = record { used = refl; dropped = drop_test s R j q e f t; shown = tt; written = tt }
   name_good (MailboxTerm j q e) (Some a) i k t same f =
-      record { used = subst (λ r. is_same_type r (as_term a) ≡ true) (sym (same a refl)) (same_type (as_term a)); dropped = refl; shown = tt }
+      record { used = subst (λ r. is_same_type r (as_term a) ≡ true) (sym (same a refl)) (same_type (as_term a)); dropped = refl; shown = tt; written = tt }
 
   named_good : (kinds : List Kind) (m n : Line) (x : Option ℕ) → NamePasses (result_under (pattern_of s) m.of.result) (name_type x (put_all s (need_of n.of.needs))) → ((z : ℕ) (a : MailboxType) → x ≡ Some z → need_of n.of.needs z ≡ Some a → m.of.result ≡ as_term a) → ((z i : ℕ) → x ≡ Some z → slice_get kinds z ≡ Some (MailboxOf i) → kind_of_type m.of.result ≡ MailboxOf i) → FormedType s m.of.result → AllByRecursion (Good s R) (named_demands kinds m n x)
   named_good kinds m n None t same kind f = tt
@@ -190,7 +190,7 @@ module _ (p : Program) (w : WellFormed p) (vars : List VarLine) (certs : ℕ →
       ]) refl h
     where
       nothing : (o : Option MailboxType) → ((a : MailboxType) → o ≡ Some a → ⊥) → Good s R (Divide o None None)
-      nothing None f = record { used = refl; dropped = refl; shown = tt }
+      nothing None f = record { used = refl; dropped = refl; shown = tt; written = tt }
       nothing (Some a) f = absurd (f a refl)
 
   pub let_good : (kinds : List Kind) (n : ℕ) (x : Option ℕ) (m b : ℕ) → ((z : ℕ) (a : MailboxType) → x ≡ Some z → need_of (line n).of.needs z ≡ Some a → ⊥) → ((k : ℕ) → (k ≡ m) ⊎ (k ≡ b) → line_at d k ≡ Some (line k)) → EnvSplits (put_all s (need_of (line n).of.needs)) (y.envs m) (without_name x (y.envs b)) → NamePasses (y.results m) (name_type x (y.envs b)) → ((z : ℕ) → SplitShown R (need_of (line n).of.needs z) ((typing_open p).envs m z) (without_name x ((typing_open p).envs b) z)) → ((z : ℕ) (a : MailboxType) → x ≡ Some z → need_of (line b).of.needs z ≡ Some a → (line m).of.result ≡ as_term a) → ((z i : ℕ) → x ≡ Some z → slice_get kinds z ≡ Some (MailboxOf i) → kind_of_type (line m).of.result ≡ MailboxOf i) → AllByRecursion (Good s R) (let_demands kinds (line n) x (line_at d m) (line_at d b))

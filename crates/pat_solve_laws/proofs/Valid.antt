@@ -38,9 +38,9 @@ use Rattle.pat_infer_laws.proofs.Blocks.{looked_up}
 use Rattle.pat_infer_laws.proofs.Gathering.{all_map}
 use Rattle.pat_inclusion_laws.proofs.Replaced.{closed_same}
 use Rattle.pat_solve_spec.specs.Derived.{type_or_unit, found_of, found_line, found_place, derivation_with, scope_by, Form, AreCertsFor, ValuesShow}
-use Rattle.pat_solve_spec.specs.Laws.{IsSound}
+use Rattle.pat_solve_spec.specs.Laws.{IsSound, IsWritten}
 use Rattle.pat_solve_laws.proofs.Known.{Known}
-use Rattle.pat_solve_laws.proofs.Good.{Good, EnvFormed, same_type, same_kind, all_used, all_dropped, all_sound, all_join}
+use Rattle.pat_solve_laws.proofs.Good.{Good, EnvFormed, same_type, same_kind, all_used, all_dropped, all_sound, all_written, all_join}
 use Rattle.pat_solve_laws.proofs.Ties.{line_there, line_none, line_is, env_under, type_under as type_found, env_is, type_is, open_env, open_type}
 use Rattle.pat_solve_laws.proofs.Formed.{FormedType, formed_written, formed_fits, formed_params, formed_gives, tag_below}
 use Rattle.pat_solve_laws.proofs.Terms.{LinesFormed, env_good, part_good, value_good, none_good, new_good, call_good, send_good, spawn_good, let_good, guard_good}
@@ -361,6 +361,9 @@ module _ (known : Known) (p : Program) (w : WellFormed p) (clean : (inferred p).
     -- each inclusion that the node needs is trivial, or one of the constraints of its interface
     pub needed_sound : AllByRecursion (IsSound s R) (needed p d h)
     needed_sound = all_sound s R (demands p d h) all_good
+
+    pub demands_written : AllByRecursion IsWritten (demands p d h)
+    demands_written = all_written s R (demands p d h) all_good
 
     uses : uses_well p d h ≡ true
     uses = all_used s R (demands p d h) all_good

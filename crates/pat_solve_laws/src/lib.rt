@@ -1,7 +1,7 @@
 //! What is solved is valid, and what is refuted can't be typed. No code of the product.
 #![tactic(auto)]
 
-ghost use Rattle.pat_solve_spec.specs.Laws.{NeededListed, NeededShown, DerivedIsValid, ShownIsTypable, RefutedIsUntypable, LargeIsUntypable, InterfacesApart, InterfacesThere, UndecidedSays, SolvedShows, SolvedIsValid, SolvedExactly, OneAnswer};
+ghost use Rattle.pat_solve_spec.specs.Laws.{NeededListed, NeededShown, DemandsWritten, DerivedIsValid, ShownIsTypable, RefutedIsUntypable, LargeIsUntypable, InterfacesApart, InterfacesThere, UndecidedSays, SolvedShows, SolvedIsValid, SolvedExactly, OneAnswer};
 
 use pat_derivation_laws::{reading_laws, scope_laws};
 use pat_inclusion_laws::search_laws;
@@ -9,10 +9,11 @@ use pat_infer_laws::{enough_laws, found_laws, shown_laws};
 use pat_type_system_laws::environment_laws;
 
 /// The derivation that is made of values which show all constraints breaks no rule: what its nodes need is trivial, or one of
-/// the constraints.
+/// the constraints; and a let's use of a variable is written as those of its parts are.
 pub fn derived_laws()
     ensures listed { NeededListed }
     ensures shown { NeededShown }
+    ensures written { DemandsWritten }
     ensures valid { DerivedIsValid }
     ensures typable { ShownIsTypable }
 {

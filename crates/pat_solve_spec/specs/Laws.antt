@@ -1,22 +1,24 @@
 -- What the derivation that is made is worth, and what the answers say.
-use Rattle.std.specs.Prelude.{◌≡◌, ℕ, ◌<◌, ◌↔◌, Bool, true, false, List, [], length, Some, ◌⊎◌, IsTrue}
+use Rattle.std.specs.Prelude.{◌≡◌, ℕ, ◌<◌, ◌↔◌, Bool, true, false, List, [], length, Some, None, ◌⊎◌, IsTrue}
 use Rattle.std.specs.List.{AllByRecursion}
 use Rattle.pat_words_spec.specs.Words.{Word}
-use Rattle.pat_words_spec.specs.Patterns.{Pat}
-use Rattle.pat_semantics_spec.specs.Programs.{Program, Function, Node, node_at, function_at}
+use Rattle.pat_words_spec.specs.Patterns.{Pat, prod_of}
+use Rattle.pat_semantics_spec.specs.Programs.{Sending, Program, Function, Node, node_at, function_at}
 use Rattle.pat_semantics_spec.specs.WellFormed.{WellFormed}
 use Rattle.pat_derivation_spec.specs.Typings.{IsTypable}
 use Rattle.pat_inclusion_spec.specs.Values.{VarLine, Scope, var_at, plain_or_var, is_formed}
 use Rattle.pat_inclusion_spec.specs.Certificates.{Cert, Inclusion, is_trivial}
 use Rattle.pat_inclusion_spec.specs.bounds.Trees.{Bound, Shows}
 use Rattle.pat_infer_spec.specs.Signatures.{Variable}
+use Rattle.pat_derivation_spec.specs.Demands.{Demand, Divide}
+use Rattle.pat_derivation_spec.specs.Conditions.{demands}
 use Rattle.pat_derivation_spec.specs.Validity.{IsValid}
 use Rattle.pat_infer_spec.specs.Constraints.{Constraint}
 use Rattle.pat_infer_spec.specs.Walk.{inferred, all_vars}
 use Rattle.pat_infer_spec.specs.Shapes.{PatternFits, IsNumber}
 use Rattle.pat_infer_spec.specs.Inclusions.{Shows as Showing, IsShown}
 use Rattle.pat_solve_spec.specs.LowerBounds.{lowers_of, lowers_in}
-use Rattle.pat_solve_spec.specs.Derived.{Form, derivation_with, scope_by, SidesShown, ValuesShow, needed_at, CertsMade}
+use Rattle.pat_solve_spec.specs.Derived.{Form, derivation_with, no_certs, found_place, scope_by, SidesShown, ValuesShow, needed_at, CertsMade}
 use Rattle.pat_solve_spec.specs.Answers.{Answer, Unusable, TooLarge, Refuted, Undecided, Solved, IsInBounds, IsSmall, IsCoveredUnder, IsConstraint, AllUsable, IsRight, solution}
 
 -- ---- derivations
@@ -47,6 +49,24 @@ NeededShown =
     → node_at p n ≡ Some c
     → function_at p c.function ≡ Some g
     → AllByRecursion (IsSound (scope_by p vars) (λ i e f. IsTrue (is_trivial (scope_by p vars) e f) ⊎ SidesShown (scope_by p vars) i e f (forms i))) (needed_at p vars n c g)
+
+-- how a let's use of a variable is written: as that of the one part that has it, or as the product where both send
+abbrev pub IsWritten : Demand → Type 0
+IsWritten (Divide (Some a) (Some b) None) = a.pattern ≡ b.pattern
+IsWritten (Divide (Some a) None (Some c)) = a.pattern ≡ c.pattern
+IsWritten (Divide (Some a) (Some b) (Some c)) = b.polarity ≡ Sending → c.polarity ≡ Sending → a.pattern ≡ prod_of b.pattern c.pattern
+IsWritten _ = Unit {0}
+
+-- the demands of a node are written so
+abbrev pub DemandsWritten : Type 0
+DemandsWritten =
+    (p : Program) (vars : List VarLine) (forms : ℕ → Form) (n : ℕ) (c : Node) (g : Function)
+    → WellFormed p
+    → (inferred p).findings ≡ []
+    → ValuesShow p vars forms
+    → node_at p n ≡ Some c
+    → function_at p c.function ≡ Some g
+    → AllByRecursion IsWritten (demands p (derivation_with p vars no_certs) (found_place p n c g []))
 
 -- the derivation that is made is valid
 abbrev pub DerivedIsValid : Type 0

@@ -6,6 +6,7 @@ ghost use Rattle.pat_linear.specs.Views.{words_of};
 ghost use Rattle.pat_cover_certificates.specs.coefficients.Numbers.{FindsNumbers, NoNumbers};
 ghost use Rattle.pat_cover_certificates.specs.coefficients.Frames.{CameToNothing};
 
+use crate::coefficients::divisors::are_multiples;
 use crate::coefficients::failed::{Note, has_failed, make_room};
 use crate::coefficients::frames::{Frame, advance, numbers_of};
 use crate::coefficients::single::single_number;
@@ -25,7 +26,12 @@ pub fn find_numbers(
 {
     match periods {
         [period] => single_number(alloc, period, word),
-        _ => search_all(alloc, periods, word),
+        _ => {
+            if !are_multiples(periods, word) {
+                return Ok(None);
+            }
+            search_all(alloc, periods, word)
+        }
     }
 }
 

@@ -1,6 +1,6 @@
 // Programs with the free variables of their nodes.
 ghost use Rattle.std.specs.Prelude.{◌≡◌, ◌<◌, ℕ, IsTrue, IfOk};
-ghost use Rattle.pat_semantics_laws.specs.Programs.{is_among, is_free};
+ghost use Rattle.pat_semantics_laws.specs.Programs.{core_at, is_among, is_free, option_uses};
 ghost use Rattle.pat_semantics_laws.specs.WellFormed.{WellFormed};
 ghost use Rattle.pat_core.specs.Views.{program_view};
 ghost use Rattle.pat_reduce_values.specs.programs.FreeVariables.{is_listed};
@@ -18,6 +18,7 @@ pub struct Executable {
     pub program: Program,
     free: Sequence<Variables>,
     ghost listed: { (x n : ℕ) → is_listed free n x ≡ is_free (program_view program) x n },
+    ghost parts: { (x n : ℕ) → is_free (program_view program) x n ≡ option_uses (λ k. is_free (program_view program) x k) x (core_at (program_view program) n) },
     ghost small: { (x n : ℕ) → IsTrue (is_free (program_view program) x n) → x < number_count },
 }
 

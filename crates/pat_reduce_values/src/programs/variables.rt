@@ -1,5 +1,5 @@
 // Sets of variables.
-ghost use Rattle.std.specs.Prelude.{◌≡◌, ◌<◌, ◌≤◌, ◌||◌, ℕ, [], length, insert, false, nat_eq, IsTrue, IfOk, IfErr, OnOk, OnErr};
+ghost use Rattle.std.specs.Prelude.{◌≡◌, ◌<◌, ◌≤◌, ◌||◌, ℕ, [], get_or, length, insert, false, nat_eq, IsTrue, IfOk, IfErr, OnOk, OnErr};
 ghost use Rattle.pat_semantics_laws.specs.Programs.{is_among};
 ghost use Rattle.pat_reduce_values.specs.programs.Places.{Ascends, StandsAt, FitsAt};
 ghost use Rattle.pat_limits.specs.Limits.{number_count};
@@ -82,19 +82,33 @@ impl<'a> AtHand<'a> {
         stands_in_row(self.listed, variable) || place_of(self.listed, variable).is_ok()
     }
 
-    /// The same, quickly where the variable stands at this place; and the place at which to look for the next greater one.
+    /// The same, quickly where the variable stands or belongs at this place; and the place at which to look for the next greater one.
     #[inline(always)]
     pub fn look_up(&self, place: usize, variable: u32) -> (bool, usize)
         ensures { result.0 ≡ is_among variable self.now.listed.now }
     {
-        if self.listed.get(place) == Some(&variable) {
-            return (true, place + 1);
+        match self.listed.get(place) {
+            Some(own) if *own == variable => return (true, place + 1),
+            Some(own) if *own > variable && is_behind(self.listed, place, variable) => {
+                return (false, place);
+            }
+            _ => {}
         }
         match place_of(self.listed, variable) {
             Ok(own) => (true, own + 1),
             Err(next) => (false, next),
         }
     }
+}
+
+// Whether the variable is greater than the one before this place, if there is one.
+fn is_behind(listed: &[u32], place: usize, variable: u32) -> bool
+    requires within { place < length listed.now }
+    requires order { Ascends listed.now }
+    requires less { (d : ℕ) → variable < get_or listed.now place d }
+    ensures { IsTrue result → FitsAt listed.now variable place }
+{
+    place == 0 || listed[place - 1] < variable
 }
 
 // Whether the variable stands where it does if none is left out from it to the last one, which is mostly so.

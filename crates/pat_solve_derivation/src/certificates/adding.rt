@@ -1,13 +1,16 @@
 // Certificates of inclusions.
-ghost use Rattle.std.specs.Prelude.{◌≡◌, [], ◌∷◌, Some, option_map, IsTrue, IfOk, OnOk};
+ghost use Rattle.std.specs.Prelude.{◌≡◌, ℕ, [], ◌∷◌, Some, option_map, IsTrue, IfOk, OnOk};
 ghost use Rattle.std.specs.List.{AllByRecursion, flat_map};
-ghost use Rattle.pat_inclusion_spec.specs.Values.{is_formed};
+ghost use Rattle.pat_semantics_spec.specs.Programs.{Sending as GhostSending};
+ghost use Rattle.pat_inclusion_spec.specs.Values.{Scope, is_formed};
 ghost use Rattle.pat_derivation_spec.specs.Demands.{inclusions_of};
 ghost use Rattle.pat_patterns.specs.Views.{pattern_view};
 ghost use Rattle.pat_derivations.specs.Views.{cert_view, certs_view};
 ghost use Rattle.pat_obligations.specs.Views.{demand_view, demands_view};
 ghost use Rattle.pat_certificate_checks.specs.Views.{inclusion_view};
-ghost use Rattle.pat_solve_spec.specs.Derived.{AreCertsFor};
+ghost use Rattle.pat_types.specs.Views.{type_view};
+ghost use Rattle.pat_solve_spec.specs.Derived.{Form, AreCertsFor};
+ghost use Rattle.pat_solve_spec.specs.Laws.{IsWritten};
 ghost use Rattle.pat_solve_bounds.specs.results.Views.{form_of, forms_of};
 ghost use Rattle.pat_solve_derivation.specs.certificates.ClosedValues.{AreClosed};
 ghost use Rattle.pat_solve_derivation.specs.certificates.Making.{scope_in, forms_in, IsSolved, IsMet, IsMetIn, IsCertIf, Adds};
@@ -19,7 +22,9 @@ use pat_derivations::Cert;
 use pat_linear::LinearSet;
 use pat_obligations::Demand;
 use pat_patterns::Pattern;
+use pat_primitives::Polarity;
 use pat_sequences::Sequence;
+use pat_types::MailboxType;
 use std::alloc::{AllocError, Global};
 
 /// The bound of the grids that are the interface's values, if these are grids.
@@ -90,9 +95,44 @@ fn push_certificate(
     }
 }
 
+/// Whether both parts of a let send.
+fn both_send(bound: &MailboxType, body: &MailboxType) -> bool
+    ensures { IsTrue result
+        → ((type_view bound.now).polarity ≡ GhostSending) × ((type_view body.now).polarity ≡ GhostSending) }
+{
+    match bound.polarity {
+        Polarity::Sending => body.polarity == Polarity::Sending,
+        Polarity::Receiving => false,
+    }
+}
+
+/// Whether the demand is one of a let that needs no certificate by how its use of a variable is written: one part alone has the
+/// variable, or both send.
+#[inline(always)]
+#[tactic(auto, using(crate::proofs::Added::none_for_body, crate::proofs::Added::none_for_bound, crate::proofs::Added::none_for_both))]
+fn is_trivial_as_written(demand: &Demand) -> bool
+    ensures { IsTrue result → IsWritten (demand_view demand.now) → (s : Scope) (forms : ℕ → Form)
+        → AreCertsFor s forms (inclusions_of (demand_view demand.now)) [] }
+{
+    match demand {
+        Demand::Divide {
+            given: _,
+            bound,
+            body,
+        } => match bound {
+            None => true,
+            Some(bound) => match body {
+                None => true,
+                Some(body) => both_send(bound, body),
+            },
+        },
+        _ => false,
+    }
+}
+
 /// Adds the certificate of the inclusion that the demand needs, unless it is trivial.
 #[inline(always)]
-#[tactic(auto, using(crate::proofs::Added::adds_reflexive))]
+#[tactic(auto, using(crate::proofs::Added::adds_reflexive, crate::proofs::Added::adds_no_more))]
 fn push_for(
     alloc: Global,
     solved: &Solved,
@@ -103,10 +143,14 @@ fn push_for(
     requires solved { IsSolved solved.now }
     requires closed { AreClosed (scope_in solved.now) closed.old }
     requires met { AllByRecursion (IsMet (scope_in solved.now) (forms_in solved.now)) (inclusions_of (demand_view demand.now)) }
+    requires written { IsWritten (demand_view demand.now) }
     ensures certs { OnOk result (Adds (scope_in solved.now) (forms_in solved.now)
         (inclusions_of (demand_view demand.now)) certs.old certs.new) }
     ensures closed { OnOk result (AreClosed (scope_in solved.now) closed.new) }
 {
+    if is_trivial_as_written(demand) {
+        return Ok(());
+    }
     match reflexive_of(demand) {
         // It is trivial.
         Some(_) => Ok(()),
@@ -137,7 +181,7 @@ fn push_for_inclusion(
 }
 
 /// Certificates of the inclusions that the demands need, in order, but of those that are trivial. Each of them is trivial or shown by
-/// the values.
+/// the values, and what a let needs of a variable is written as what its parts need.
 pub fn certificates(
     alloc: Global,
     solved: &Solved,
@@ -147,6 +191,7 @@ pub fn certificates(
     requires solved { IsSolved solved.now }
     requires closed { AreClosed (scope_in solved.now) closed.old }
     requires met { AllByRecursion (IsMet (scope_in solved.now) (forms_in solved.now)) (flat_map inclusions_of (demands_view demands.now)) }
+    requires written { AllByRecursion IsWritten (demands_view demands.now) }
     ensures certs { IfOk result (λ certs. AreCertsFor (scope_in solved.now) (forms_in solved.now)
         (flat_map inclusions_of (demands_view demands.now)) (certs_view certs)) }
     ensures closed { OnOk result (AreClosed (scope_in solved.now) closed.new) }

@@ -1,5 +1,5 @@
 use Rattle.pat_solve_laws.proofs.Known.{Known}
-use Rattle.pat_solve_laws.proofs.Alike.{needed_listed, needed_shown, derived_valid, shown_typable}
+use Rattle.pat_solve_laws.proofs.Alike.{needed_listed, needed_shown, demands_written, derived_valid, shown_typable}
 use Rattle.pat_solve_laws.proofs.derived_laws.Goals as goal
 
 pub returns : goal.returns
@@ -17,4 +17,4 @@ returns c =
       ordered = c.found_laws.ensures.ordered;
       shown = c.shown_laws.ensures.shown;
     } in
-    record { listed = needed_listed known; shown = needed_shown known; valid = derived_valid known; typable = shown_typable known }
+    record { listed = needed_listed known; shown = needed_shown known; written = demands_written known; valid = derived_valid known; typable = shown_typable known }

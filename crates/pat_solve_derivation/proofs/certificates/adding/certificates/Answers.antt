@@ -5,6 +5,7 @@ use Rattle.pat_inclusion_spec.specs.Certificates.{Inclusion}
 use Rattle.pat_derivation_spec.specs.Demands.{inclusions_of}
 use Rattle.pat_infer_laws.proofs.Gathering.{all_parts}
 use Rattle.pat_obligations.specs.Views.{demand_view, demands_view}
+use Rattle.pat_solve_spec.specs.Laws.{IsWritten}
 use Rattle.pat_solve_derivation.specs.certificates.Making.{scope_in, forms_in, IsMet}
 use Rattle.pat_solve_derivation.proofs.Added.{Completes, completes_more, completes_all}
 use Rattle.pat_solve_derivation.proofs.certificates.adding.certificates.Goals as goal
@@ -21,8 +22,10 @@ loop-demand-preserved c =
     let rest = flat_map inclusions_of (demands_view (drop (i + 1) ds)) in
     let here : drop i ds ≡ d ∷ drop (i + 1) ds = drop_more ds i d c.loop-demand-test.true ∙ ap (λ x. x ∷ drop (i + 1) ds) (sym c.demand-item.is) in
     let whole : flat_map inclusions_of (demands_view (drop i ds)) ≡ own ++ rest = ap (λ xs. flat_map inclusions_of (demands_view xs)) here in
+    let written = subst (λ xs. AllByRecursion IsWritten (demands_view xs)) here c.loop-demand.invariant.written in
     record {
       met = (all_parts (IsMet s forms) own rest (subst (AllByRecursion (IsMet s forms)) whole c.loop-demand.invariant.met)).1;
+      written = written.1;
       made = completes_more s forms all own rest c.loop-demand.certs c.push_for.new.certs
           (subst (λ (qs : List Inclusion). Completes s forms all qs c.loop-demand.certs) whole c.loop-demand.invariant.made)
           c.in_ok-push_for.ensures.certs;
