@@ -66,8 +66,7 @@ impl<T: Copy + Drop + PartialEq> SparseList<T> {
         ensures err { OnErr result (self.new ≡ self.old) }
     {
         let block = place / BLOCK;
-        begin(&mut self.starts, &mut self.blocks, block)?;
-        let start = self.starts.get(block);
+        let start = begin(&mut self.starts, &mut self.blocks, block)?;
         self.blocks.items[start * BLOCK + place % BLOCK] = item;
         Ok(())
     }
@@ -96,8 +95,7 @@ impl<T: Copy + Drop + PartialEq> SparseList<T> {
         ensures { OnOk result (IsFilled place count item self.old self.new) }
     {
         let block = place / BLOCK;
-        begin(&mut self.starts, &mut self.blocks, block)?;
-        let start = self.starts.get(block);
+        let start = begin(&mut self.starts, &mut self.blocks, block)?;
         put_run(&mut self.blocks, start, place % BLOCK, count, item);
         Ok(())
     }
@@ -169,26 +167,29 @@ fn put<T: Copy + Drop>(items: &mut Sequence<T>, place: usize, item: T)
     items.items[place] = item;
 }
 
-/// Gives the block items of its own, if it has none. They are the common ones first.
+/// Where the block's own items start. It is given some, if it has none: they are the common ones first.
 fn begin<T: Copy + Drop>(
     starts: &mut BlockList<usize>,
     blocks: &mut Sequence<T>,
     block: usize,
-) -> Result<(), AllocError>
+) -> Result<usize, AllocError>
     requires there { block < length starts.old }
     requires first { 16 ≤ length blocks.old }
     ensures ok { (count : ℕ) (common : T) → AreBlocks count common starts.old blocks.old
-        → OnOk result (AreBlocks count common starts.new blocks.new
-        × (sparse count common starts.new blocks.new ≡ sparse count common starts.old blocks.old) × (get_or starts.new block 0 ≡ 0 → ⊥)) }
+        → IfOk result (λ start. AreBlocks count common starts.new blocks.new
+        × (sparse count common starts.new blocks.new ≡ sparse count common starts.old blocks.old)
+        × (get_or starts.new block 0 ≡ start) × (start ≡ 0 → ⊥)) }
     ensures err { OnErr result ((starts.new ≡ starts.old) × (blocks.new ≡ blocks.old)) }
 {
-    if starts.get(block) != 0 {
-        return Ok(());
+    let own = starts.get(block);
+    if own != 0 {
+        return Ok(own);
     }
     let count = blocks.len();
+    let start = count / BLOCK;
     repeat_first(blocks)?;
-    match starts.set(block, count / BLOCK) {
-        Ok(()) => Ok(()),
+    match starts.set(block, start) {
+        Ok(()) => Ok(start),
         Err(error) => {
             blocks.items.truncate(count);
             Err(error)

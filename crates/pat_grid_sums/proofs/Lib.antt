@@ -1,6 +1,7 @@
 mod Putting
 mod Splitting
 mod Shifting
+mod Units
 mod Summing
 mod Alike
 mod Holding

@@ -1,5 +1,5 @@
 -- Sums of sets, by words.
-use Rattle.std.proofs.Common.{◌≡◌, ℕ, ◌+◌, ◌*◌, ◌/◌, ◌%◌, ◌<◌, ◌≤◌, ⊎_elim, Bool, true, false, List, [], ◌∷◌, ◌++◌, replicate, length, get_or, refl, sym, ap, ap₂, ◌∙◌, subst, arith, mul-le-mul_right}
+use Rattle.std.proofs.Common.{◌≡◌, ℕ, ◌+◌, ◌*◌, ◌/◌, ◌%◌, ◌<◌, ◌≤◌, ⊎_elim, Bool, List, [], ◌∷◌, ◌++◌, replicate, length, get_or, refl, sym, ap, ap₂, ◌∙◌, subst, arith, mul-le-mul_right}
 use Rattle.std.specs.Prelude.{IsTrue, ◌↔◌}
 use Rattle.std.specs.Int.{bit_at}
 use Rattle.std.proofs.lemmas.Bool.{cases_lt}
@@ -16,6 +16,7 @@ use Rattle.pat_grid_sums.specs.Shapes.{IsShape, IsRow, IsSum, Has, AreMoved, IsG
 use Rattle.pat_grid_sums.specs.Systems.{Holds, IsSumOf}
 use Rattle.pat_grid_sums.proofs.Putting.{puts_none, puts_as, has_all, has_as, in_within}
 use Rattle.pat_grid_sums.proofs.Splitting.{all_points, word_within, place_within, sum_word, sum_place}
+use Rattle.pat_grid_sums.proofs.Units.{sum_of_three}
 
 -- the words' bits, each moved by the row of a place
 pub moved_sums : (s : Shape) (others row words : List ℕ) (l : ℕ) → s.width ≡ points_in s.k s.low → IsRow s.k s.low l row → Has (AnyBefore (IsMovedAny others row) (length others)) (length others) words → Has (IsSum others s l) (length others) words
@@ -33,13 +34,27 @@ moved_sums s others row words l width row_is h =
     (a, t.2, (t.0, (let e : t.0 < length row = omega arith in e), (t.3, refl, t.4 ∙ sym (row_is.1 t.0 (omega arith))))))
     h
 
--- one place more
-any_moved : (wanted : Bool) (P : Type 0) (Q : Type 0) → (wanted ≡ false → P → ⊥) → (wanted ≡ true → Q) → P → Q
-any_moved true P Q none all p = all refl
-any_moved false P Q none all p = absurd (none refl p)
+-- what was moved by one point, moved by another one, is moved by the sum
+pub moved_on : (s : Shape) (others x words : List ℕ) (u v l : ℕ) → s.width ≡ points_in s.k s.low → summed s.k s.low u v ≡ l → Has (IsSum others s v) (length others) x → Has (IsSum x s u) (length x) words → Has (IsSum others s l) (length others) words
+moved_on s others x words u v l width sum once twice =
+    let many = once.as_many in
+    let at : (p : ℕ) → summed s.k s.low l p ≡ summed s.k s.low u (summed s.k s.low v p) = λ p. ap (λ i. summed s.k s.low i p) (sym sum) ∙ sum_of_three s.k s.low u v p in
+    record {
+      as_many = twice.as_many ∙ once.as_many;
+      put = λ h q t.
+          let r = summed s.k s.low v t.0 in
+          let below = summed_below s.k s.low v t.0 in
+          let few = t.2 in
+          twice.put h q (r, (let e : r < s.width = omega arith in e), (let e : h < length x = omega arith in e), once.put h r (t.0, t.1, t.2, t.3, refl), t.4 ∙ at t.0);
+      only = λ h q i.
+          let t = twice.only h q i in
+          let p = once.only h t.0 t.3 in
+          (p.0, p.1, p.2, p.3, t.4 ∙ ap (summed s.k s.low u) p.4 ∙ sym (at p.0));
+    }
 
-pub moved_more : (ones others : List ℕ) (s : Shape) (m : ℕ) (all : List (List ℕ)) (new : List ℕ) (wanted : Bool) → AreMoved ones others s m all → length new ≤ length others → (wanted ≡ false → (h : ℕ) → h < length ones → In ones h m → ⊥) → (wanted ≡ true → Has (IsSum others s m) (length others) new) → AreMoved ones others s (m + 1) (all ++ new ∷ [])
-moved_more ones others s m all new wanted before fits none some =
+-- one place more
+pub moved_more : (used : ℕ) (others : List ℕ) (s : Shape) (m : ℕ) (all : List (List ℕ)) (new : List ℕ) → AreMoved (used ∷ []) others s m all → length new ≤ length others → (bit_at used m ≡ 1 → Has (IsSum others s m) (length others) new) → AreMoved (used ∷ []) others s (m + 1) (all ++ new ∷ [])
+moved_more used others s m all new before fits some =
     let many = before.as_many in
     let last : get_or (all ++ new ∷ []) m [] ≡ new = get_or_push all new [] m before.as_many in
     record {
@@ -52,10 +67,20 @@ moved_more ones others s m all new wanted before fits none some =
           (λ (below : l < m). subst (Has (IsSum others s l) (length others)) (sym (get_or_append_left all (new ∷ []) [] l (omega arith))) (before.moved l h below there i))
           (λ (past : m ≤ l).
           let e : m ≡ l = omega arith in
-          let here : Has (IsSum others s m) (length others) new = any_moved wanted (In ones h m) (Has (IsSum others s m) (length others) new) (λ f. none f h there) some (subst (In ones h) (sym e) i) in
-          subst (λ j. Has (IsSum others s j) (length others) (get_or (all ++ new ∷ []) j [])) e (subst (Has (IsSum others s m) (length others)) (sym last) here))
+          let one : h < 1 = there in
+          let first : h ≡ 0 = omega arith in
+          let bit : bit_at used m ≡ 1 = subst (λ j. In (used ∷ []) j m) first (subst (In (used ∷ []) h) (sym e) i) in
+          subst (λ j. Has (IsSum others s j) (length others) (get_or (all ++ new ∷ []) j [])) e (subst (Has (IsSum others s m) (length others)) (sym last) (some bit)))
           (cases_lt l m);
     }
+
+-- for all words whose bits are used
+pub moved_for : (ones others : List ℕ) (s : Shape) (m used : ℕ) (all : List (List ℕ)) → ((h q : ℕ) → h < length ones → In ones h q → bit_at used q ≡ 1) → AreMoved (used ∷ []) others s m all → AreMoved ones others s m all
+moved_for ones others s m used all bits are = record {
+  as_many = are.as_many;
+  fits = are.fits;
+  moved = λ l h k there i. are.moved l 0 k (let e : 0 < 1 = omega arith in e) (bits h l there i);
+}
 
 -- one bit of the word
 pub added_if : (ones : List ℕ) (word : ℕ) (moved : List (List ℕ)) (row : List ℕ) (l : ℕ) (wanted : Bool) (now x y : List ℕ) → (IsTrue wanted ↔ In ones word l) → now ≡ get_or moved l [] → Puts (λ h q. IsTrue wanted × AnyBefore (IsJoined now row) (length row) h q) x y → Puts (IsAdded ones word moved row l) x y

@@ -1,7 +1,9 @@
 // A set of points moved by the places of a word.
 
-ghost use Rattle.std.specs.Prelude.{◌≡◌, ◌<◌, ◌≤◌, ◌+◌, true, ℕ, length, get_or, IfOk, IsFalse};
+ghost use Rattle.std.specs.Prelude.{◌≡◌, ◌<◌, ◌≤◌, ◌+◌, ◌-◌, ℕ, [], ◌∷◌, ◌++◌, length, get_or, IfOk, IsTrue, ◌↔◌};
 ghost use Rattle.std.specs.Int.{bit_at};
+ghost use Rattle.pat_inclusion_spec.specs.bounds.Numbers.{points_in};
+ghost use Rattle.pat_grid_points.specs.Views.{summed};
 ghost use Rattle.pat_grid_sums.specs.Sets.{In, Puts, AnyBefore, GoesBy, IsShifted, IsShiftedAny};
 ghost use Rattle.pat_grid_sums.specs.Shapes.{IsShape, IsSum, Has, AreMoved};
 
@@ -24,7 +26,7 @@ pub fn moved_by_each(
     let used = all_bits(ones);
     let mut all = Sequence::new(alloc);
     for place in 0..shape.width {
-        let moved = moved_if(alloc, is_used(used, place), place, others, shape)?;
+        let moved = moved_if(alloc, used, place, others, all.as_slice(), shape)?;
         all.push(moved)?;
     }
     Ok(all)
@@ -44,26 +46,62 @@ pub fn all_bits(words: &[u64]) -> u64
 /// Whether the bit is there.
 fn is_used(bits: u64, place: usize) -> bool
     requires { place < 64 }
-    ensures { IsFalse result → bit_at bits place ≡ 1 → ⊥ }
+    ensures { IsTrue result ↔ (bit_at bits place ≡ 1) }
 {
     (bits >> (place as u32)) & 1 == 1
 }
 
-/// The set moved by the place, if it is asked for; else no word is made.
+/// The set moved by the place, if it is used; else no word is made. Where the place less one unit is used as well, what was moved by that
+/// goes on by the unit.
 fn moved_if(
     alloc: Global,
-    wanted: bool,
+    used: u64,
+    place: usize,
+    others: &[u64],
+    all: &[Sequence<u64>],
+    shape: Shape,
+) -> Result<Sequence<u64>, AllocError>
+    requires shape { (n : ℕ) × IsShape shape.k n shape }
+    requires place { place < shape.width }
+    requires before { AreMoved (used ∷ []) others.now shape place all.now }
+    ensures { IfOk result (λ moved. AreMoved (used ∷ []) others.now shape (place + 1) (all.now ++ moved ∷ [])) }
+{
+    if !is_used(used, place) {
+        return Ok(Sequence::new(alloc));
+    }
+    let unit = unit_of(place, shape.k, shape.low);
+    if unit > 0 && is_used(used, place - unit) {
+        return moved_by(alloc, unit, all[place - unit].as_slice(), shape);
+    }
+    moved_by(alloc, place, others, shape)
+}
+
+/// The unit of the last digit that isn't 0, if there is one.
+fn unit_of(place: usize, k: u32, tags: u8) -> usize
+    requires { place < points_in k tags }
+    ensures within { result ≤ place }
+    ensures sum { summed k tags result (place - result) ≡ place }
+{
+    if place == 0 {
+        return 0;
+    }
+    let base = k as usize + 1;
+    if place % base != 0 {
+        return 1;
+    }
+    unit_of(place / base, k, tags - 1) * base
+}
+
+/// The set moved by the place.
+fn moved_by(
+    alloc: Global,
     place: usize,
     others: &[u64],
     shape: Shape,
 ) -> Result<Sequence<u64>, AllocError>
     requires { (n : ℕ) × IsShape shape.k n shape }
-    ensures fits { IfOk result (λ moved. length moved ≤ length others.now) }
-    ensures moved { IfOk result (λ moved. wanted ≡ true → Has (IsSum others.now shape place) (length others.now) moved) }
+    ensures { IfOk result (Has (IsSum others.now shape place) (length others.now)) }
 {
-    if !wanted {
-        return Ok(Sequence::new(alloc));
-    }
     let mut moved = no_bits(alloc, others.len())?;
     let row = row_of(alloc, place, shape.k, shape.low)?;
     let masks = masks_of(alloc, row.as_slice())?;

@@ -1,39 +1,31 @@
-use Rattle.std.proofs.Common.{length, sym, subst}
-use Rattle.pat_grid_sums.specs.Sets.{Puts, AnyBefore, GoesBy, IsShiftedAny}
-use Rattle.pat_grid_sums.specs.Shapes.{IsRow, Has}
-use Rattle.pat_grid_sums.proofs.Putting.{has_all}
-use Rattle.pat_grid_sums.proofs.Shifting.{all_shifted, mask_room}
-use Rattle.pat_grid_sums.proofs.Splitting.{row_places, row_rises, width_is}
-use Rattle.pat_grid_sums.proofs.Summing.{moved_sums}
+use Rattle.std.proofs.Common.{◌-◌, ◌<◌, [], length, sym, subst, ◌∙◌, arith}
+use Rattle.std.proofs.lemmas.List.{get_or_default}
+use Rattle.pat_grid_sums.specs.Shapes.{IsSum, Has}
+use Rattle.pat_grid_sums.proofs.Splitting.{width_is}
+use Rattle.pat_grid_sums.proofs.Summing.{moved_on, moved_more}
+use Rattle.pat_grid_sums.proofs.Stepping.{if_ok}
 use Rattle.pat_grid_sums.proofs.moving.moved_if.Goals as goal
 
-pub masks_of-requires-clause-row : goal.masks_of-requires-clause-row
-masks_of-requires-clause-row c =
-    let s = c.args.shape in
-    let row = c.as_slice.result.now in
-    let is = subst (IsRow s.k s.low c.args.place) (sym c.as_slice.ensures) c.in_ok-row.ensures in
-    λ p l. (row_rises s.k s.low c.args.place row is p l, row_places s.k c.requires.0 s c.requires.1 c.args.place row is p l)
-
-pub move_all-requires-clause-room : goal.move_all-requires-clause-room
-move_all-requires-clause-room c =
-    let s = c.args.shape in
-    let row = c.as_slice.result.now in
-    let is = subst (IsRow s.k s.low c.args.place) (sym c.as_slice.ensures) c.in_ok-row.ensures in
-    mask_room row c.as_slice-2.result.now
-    (λ p l. (row_rises s.k s.low c.args.place row is p l, row_places s.k c.requires.0 s c.requires.1 c.args.place row is p l))
-    (subst (Has (AnyBefore (GoesBy row) (length row)) 64) (sym c.as_slice-2.ensures) c.in_ok-masks.ensures)
-
-pub returns-clause-moved : goal.returns-clause-moved
-returns-clause-moved c = λ wanted.
+pub returns-then-is_used : goal.returns-then-is_used
+returns-then-is_used c =
     let s = c.args.shape in
     let others = c.args.others.now in
-    let row = c.as_slice.result.now in
-    let masks = c.as_slice-2.result.now in
-    let is = subst (IsRow s.k s.low c.args.place) (sym c.as_slice.ensures) c.in_ok-row.ensures in
-    moved_sums s others row c.move_all.new.moved c.args.place (width_is s.k c.requires.0 s c.requires.1) is
-    (all_shifted others row masks c.move_all.new.moved
-    (row_rises s.k s.low c.args.place row is)
-    (subst (Has (AnyBefore (GoesBy row) (length row)) 64) (sym c.as_slice-2.ensures) c.in_ok-masks.ensures)
-    (row_places s.k c.requires.0 s c.requires.1 c.args.place row is)
-    (has_all (AnyBefore (IsShiftedAny others masks) 64) (length others) c.move_all.new.moved
-    (subst (λ xs. Puts (AnyBefore (IsShiftedAny others masks) 64) xs c.move_all.new.moved) c.in_ok-moved.ensures c.move_all.ensures)))
+    let all = c.args.all.now in
+    let unit = c.unit_of-unit.result in
+    let rest = c.args.place - unit in
+    let before = c.requires.before in
+    let many = before.as_many in
+    let some = c.if-unit-gt0.true in
+    let within = c.unit_of-unit.ensures.within in
+    let less : rest < c.args.place = omega arith in
+    let there : rest < length all = omega arith in
+    let is = c.as_slice.ensures ∙ c.index-all-place.is ∙ get_or_default all rest c.index-all-place.result [] there in
+    let once = subst (Has (IsSum others s rest) (length others)) (sym is) (before.moved rest 0 less (let e : 0 < 1 = omega arith in e) (c.is_used-then-unit-gt0.ensures.0 c.if-is_used.true)) in
+    if_ok _ _ _ (λ new twice.
+    let has : Has (IsSum others s c.args.place) (length others) new = moved_on s others c.as_slice.result.now new unit rest c.args.place (width_is s.k c.requires.shape.0 s c.requires.shape.1) c.unit_of-unit.ensures.sum once twice in
+    moved_more c.args.used others s c.args.place all new before (let m = has.as_many in omega arith) (λ _. has)) c.moved_by.ensures
+
+pub returns : goal.returns
+returns c =
+    let others = c.args.others.now in
+    if_ok _ _ _ (λ new has. moved_more c.args.used others c.args.shape c.args.place c.args.all.now new c.requires.before (let m = has.as_many in omega arith) (λ _. has)) c.moved_by-2.ensures

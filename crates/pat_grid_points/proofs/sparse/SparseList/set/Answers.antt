@@ -17,10 +17,10 @@ returns-clause-ok g c =
     let starts = c.begin.new.starts in
     let blocks = c.begin.new.blocks in
     let same = c.self-inside.view_is in
-    let begun = c.in_ok-begin.ensures.ok s.count s.common c.self.invariant in
+    let begun = c.in_ok-start.ensures.ok s.count s.common c.self.invariant in
     let count = list_count s.count s.common s.starts s.blocks c.args.self.now c.self.invariant c.self.view_is in
     let room = c.requires in
-    ap (λ r. sparse r.count r.common r.starts (set r.blocks (c.get-start.result * 16 + place % 16) item)) same
-    ∙ ap (λ n. sparse s.count s.common starts (set blocks (n * 16 + place % 16) item)) (sym (c.get-start.ensures 0) ∙ ap (λ r. get_or r.starts (place / 16) 0) same)
-    ∙ written_set s.count s.common starts blocks place item begun.0 begun.2 (omega arith)
+    ap (λ r. sparse r.count r.common r.starts (set r.blocks (c.in_ok-start.start * 16 + place % 16) item)) same
+    ∙ ap (λ n. sparse s.count s.common starts (set blocks (n * 16 + place % 16) item)) (sym begun.2)
+    ∙ written_set s.count s.common starts blocks place item begun.0 (λ e. begun.3 (sym begun.2 ∙ e)) (omega arith)
     ∙ ap (λ xs. set xs place item) (begun.1 ∙ c.self.view_is)
