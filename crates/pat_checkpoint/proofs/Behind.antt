@@ -1,6 +1,6 @@
 -- Where a history leads that goes on from a checkpoint which was read of a text: the interfaces of its mailboxes are the program's, and its
 -- strings are ones that a program's text can have.
-use Rattle.std.proofs.Common.{◌≡◌, ◌⊎◌, ℕ, ◌+◌, ◌-◌, ◌<◌, ◌≤◌, Bool, true, false, not, ◌&&◌, nat_eq, nat_lt, if◌then◌else◌, List, [], ◌∷◌, ◌++◌, length, map, Option, Some, refl, sym, ap, ◌∙◌, subst, inl, inr, ⊎_elim, arith}
+use Rattle.std.proofs.Common.{◌≡◌, ◌⊎◌, ℕ, ◌-◌, ◌<◌, ◌≤◌, true, false, not, ◌&&◌, nat_eq, nat_lt, if◌then◌else◌, List, [], ◌∷◌, length, map, Some, refl, sym, ap, subst, inl, inr, ⊎_elim, arith}
 use Rattle.std.specs.Prelude.{option_and_then, unwrap_or, slice_get}
 use Rattle.std.specs.List.{AllByRecursion, list_all}
 use Rattle.std.proofs.lemmas.Bool.{and_parts, or_cases, or_left, or_right, eqb-true, eq-eqb, ltb-true, lt-ltb, cond-true, cases_lt}
@@ -10,7 +10,7 @@ use Rattle.pat_semantics_spec.specs.WellFormed.{WellFormed}
 use Rattle.pat_semantics_spec.specs.Configs.{Control, Running, Returned, Thread, Config, Message}
 use Rattle.pat_semantics_spec.specs.Steps.{Act, ActLocal, ActNew, ActSend, ActSpawn, ActPrint, ActEnd, ActFree, ActReceive, Step, step, redex, without_thread}
 use Rattle.pat_semantics_spec.specs.Runs.{run_from, Entry, replay_from}
-use Rattle.pat_semantics_laws.specs.Laws.{history_steps, ReplayIsRun}
+use Rattle.pat_semantics_laws.specs.Laws.{history_steps}
 use Rattle.pat_semantics_laws.proofs.Lists.{append_among, any_filter}
 use Rattle.pat_semantics_laws.proofs.Replays.{first_of, replay_runs}
 use Rattle.pat_semantics_laws.proofs.Inversion.{step_of, print_step, new_step, receive_step, local_step_of, send_step, spawn_step, EndStep, end_value, end_return, end_step, free_step}
@@ -22,11 +22,10 @@ use Rattle.pat_texts_spec.specs.Numbers.{is_number}
 use Rattle.pat_checkpoint_spec.specs.Checkpoints.{Checkpoint, interface_at, interfaces_of}
 use Rattle.pat_checkpoint_spec.specs.Checked.{IsChecked}
 use Rattle.pat_checkpoint_spec.specs.Resumed.{made_along, interface_made, interfaces_after_history}
-use Rattle.pat_checkpoint_spec.specs.text.Lines.{MailboxLine, FrameLine, ThreadLine, Lines, thread_of, checkpoint_of}
+use Rattle.pat_checkpoint_spec.specs.text.Lines.{MailboxLine, FrameLine, ThreadLine, thread_of, checkpoint_of}
 use Rattle.pat_checkpoint_spec.specs.text.ValueText.{is_value, is_named}
 use Rattle.pat_checkpoint_spec.specs.text.ValueReading.{ascends_from}
 use Rattle.pat_checkpoint_spec.specs.text.Reading.{ReadsAs}
-use Rattle.pat_checkpoint_laws.specs.Laws.{CheckedIsTyped}
 use Rattle.pat_checkpoint_laws.specs.resuming.Laws.{InterfacesMade, MadeCounts, ResumedIsTyped}
 use Rattle.pat_checkpoint_laws.specs.text.Readable.{is_env, is_cert, is_node, is_mailbox_line, has_tag, is_message_line, is_control, is_name, is_frame_line, is_thread_line}
 use Rattle.pat_checkpoint_laws.specs.text.Laws.{FrontIsText, StringsAreTokens}

@@ -1,10 +1,10 @@
 -- Balances, mailbox by mailbox.
-use Rattle.std.proofs.Common.{◌≡◌, ℕ, zero, suc, ◌+◌, ◌<◌, ◌≤◌, Bool, true, false, ◌&&◌, not, ◌||◌, nat_eq, List, [], ◌∷◌, ◌++◌, length, map, drop, Option, Some, None, refl, sym, ap, ◌∙◌, subst, arith, get_or, slice_get, ⊎_elim}
+use Rattle.std.proofs.Common.{◌≡◌, ℕ, zero, suc, ◌+◌, ◌<◌, ◌≤◌, Bool, true, false, ◌&&◌, not, nat_eq, List, [], ◌∷◌, ◌++◌, length, map, drop, Option, Some, refl, sym, ap, ◌∙◌, subst, arith, get_or, slice_get, ⊎_elim}
 use Rattle.std.specs.Prelude.{IsTrue, unwrap_or, nat_le}
 use Rattle.std.specs.List.{list_all}
 use Rattle.std.proofs.lemmas.Bool.{and_parts, or_cases}
 use Rattle.std.proofs.lemmas.List.{length-map, drop_all}
-use Rattle.std.proofs.lemmas.Option.{slice_get-get_or, slice_get-map}
+use Rattle.std.proofs.lemmas.Option.{slice_get-get_or}
 use Rattle.pat_words_spec.specs.Patterns.{Pat}
 use Rattle.pat_semantics_spec.specs.Programs.{Program}
 use Rattle.pat_semantics_spec.specs.WellFormed.{WellFormed}

@@ -1,5 +1,5 @@
 -- A mailbox among those that are live, which ascend.
-use Rattle.std.proofs.Common.{◌≡◌, ℕ, zero, suc, ◌<◌, ◌≤◌, ◌||◌, ◌&&◌, true, false, nat_eq, nat_le, if◌then◌else◌, List, [], ◌∷◌, length, get_or, Some, Ok, Err, refl, sym, ap, ◌∙◌, subst, arith, ⊎_elim}
+use Rattle.std.proofs.Common.{◌≡◌, ℕ, zero, suc, ◌<◌, ◌≤◌, ◌||◌, ◌&&◌, true, false, nat_eq, nat_le, List, [], ◌∷◌, length, get_or, Some, Ok, Err, refl, sym, ap, ◌∙◌, arith, ⊎_elim}
 use Rattle.std.specs.Prelude.{slice_get, unwrap_or, map, nat_lt, IsTrue}
 use Rattle.std.specs.List.{list_all}
 use Rattle.std.specs.Map.{keys_of}

@@ -6,11 +6,11 @@ use Rattle.std.proofs.lemmas.Option.{slice_get-map, slice_get-get_or, slice_get_
 use Rattle.std.proofs.Math.Seq.{drop-cons}
 use Rattle.pat_semantics_spec.specs.Values.{Value, Const, Mailbox, Env}
 use Rattle.pat_semantics_spec.specs.Programs.{Program}
-use Rattle.pat_semantics_spec.specs.Configs.{Frame, Thread}
-use Rattle.pat_type_system_spec.specs.Types.{MailboxType, TypeEnv, no_types}
+use Rattle.pat_semantics_spec.specs.Configs.{Frame}
+use Rattle.pat_type_system_spec.specs.Types.{TypeEnv, no_types}
 use Rattle.pat_type_system_spec.specs.Typings.{Typing}
 use Rattle.pat_type_schemes_spec.specs.NodeTypes.{Needs, need_of, env_open}
-use Rattle.pat_derivation_spec.specs.Derivations.{Line, Derivation, type_at, written_typing}
+use Rattle.pat_derivation_spec.specs.Derivations.{Line, Derivation, written_typing}
 use Rattle.pat_semantics_spec.specs.Programs.{TagDecl}
 use Rattle.pat_type_system_spec.specs.Holdings.{declared_types}
 use Rattle.pat_types.specs.Views.{needs_view}

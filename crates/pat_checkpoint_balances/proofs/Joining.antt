@@ -1,8 +1,7 @@
 -- Products by neighbours, joined until one pattern is left.
-use Rattle.std.proofs.Common.{◌≡◌, ℕ, zero, suc, ◌+◌, ◌<◌, ◌≤◌, List, [], ◌∷◌, ◌++◌, length, map, drop, get_or, refl, sym, ap, ◌∙◌, arith, append_assoc}
-use Rattle.std.proofs.lemmas.List.{append-nil, length-map, map-append, drop_all}
-use Rattle.std.proofs.Math.Seq.{drop-cons}
-use Rattle.pat_words_spec.specs.Patterns.{Pat, One, prod_of}
+use Rattle.std.proofs.Common.{◌≡◌, ℕ, zero, suc, ◌+◌, ◌<◌, ◌≤◌, List, [], ◌∷◌, ◌++◌, length, map, refl, sym, ap, arith}
+use Rattle.std.proofs.lemmas.List.{length-map}
+use Rattle.pat_words_spec.specs.Patterns.{Pat, One}
 use Rattle.pat_patterns.specs.declared.pattern.Pattern.{Pattern}
 use Rattle.pat_patterns.specs.Views.{pattern_view, patterns_view}
 use Rattle.pat_checkpoint_spec.specs.Balances.{paired, joined_within, product_of}

@@ -1,11 +1,11 @@
 -- A table of the bound parts of lets, made from the last node to the first.
-use Rattle.std.proofs.Common.{◌≡◌, ℕ, zero, suc, ◌+◌, ◌-◌, ◌<◌, ◌≤◌, true, ◌||◌, false, nat_eq, if◌then◌else◌, List, [], ◌∷◌, ◌++◌, length, map, drop, get_or, Option, Some, None, refl, sym, ap, ◌∙◌, subst, arith, ⊎_elim, slice_get, slice_set}
+use Rattle.std.proofs.Common.{◌≡◌, ℕ, zero, suc, ◌+◌, ◌-◌, ◌<◌, ◌≤◌, true, ◌||◌, false, nat_eq, if◌then◌else◌, List, [], ◌∷◌, ◌++◌, length, map, drop, get_or, Option, Some, None, refl, sym, ap, ◌∙◌, arith, ⊎_elim, slice_get, slice_set}
 use Rattle.std.specs.Prelude.{unwrap_or, option_map, IsTrue}
-use Rattle.std.proofs.lemmas.Bool.{cond-true, cond-false, or_left, or_right, eq-eqb, eqb-true, ne_eqb, cases_lt, cases_Bool, false≢true}
+use Rattle.std.proofs.lemmas.Bool.{or_left, or_right, eq-eqb, eqb-true, ne_eqb, cases_lt, cases_Bool, false≢true}
 use Rattle.std.proofs.lemmas.List.{length-set, length-map, length-append, get_or-set_same, get_or-set_other}
 use Rattle.std.proofs.lemmas.Option.{slice_get-map, slice_get_past, slice_get-get_or, slice_get_within}
 use Rattle.std.proofs.Math.Seq.{drop-length}
-use Rattle.pat_semantics_spec.specs.Programs.{Core, Val, Let, Call, If, Print, New, Send, Spawn, Guard, Node, Program, node_at, parts, is_among}
+use Rattle.pat_semantics_spec.specs.Programs.{Core, Val, Let, Call, If, Print, New, Send, Spawn, Guard, Node, Program, parts, is_among}
 use Rattle.pat_semantics_spec.specs.WellFormed.{WellFormed}
 use Rattle.pat_type_system_spec.specs.Holdings.{let_bound, first_of_two, bound_of}
 use Rattle.pat_core.specs.declared.program.Node.{Node as CodeNode}

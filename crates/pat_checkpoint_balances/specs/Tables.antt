@@ -1,5 +1,5 @@
 -- What a walk over all places looks up, and what it adds of a thread.
-use Rattle.std.specs.Prelude.{◌≡◌, ℕ, ◌<◌, List, [], ◌∷◌, ◌++◌, length, map, Option, Some, None, option_map, unwrap_or, slice_get}
+use Rattle.std.specs.Prelude.{◌≡◌, ℕ, ◌<◌, List, [], ◌∷◌, ◌++◌, length, map, Option, Some, None, unwrap_or, slice_get}
 use Rattle.pat_semantics_spec.specs.Programs.{Core, Program}
 use Rattle.pat_semantics_spec.specs.Configs.{Frame, Thread}
 use Rattle.pat_type_system_spec.specs.Types.{TypeEnv, no_types}

@@ -1,5 +1,5 @@
 -- What the code's checkpoints are in the definitions.
-use Rattle.std.specs.Prelude.{List, map, Option, option_map}
+use Rattle.std.specs.Prelude.{map, Option, option_map}
 use Rattle.pat_inclusion_spec.specs.Certificates as certificates
 use Rattle.pat_derivations.specs.declared.data.Cert.{Cert}
 use Rattle.pat_derivations.specs.Views.{cert_view}

@@ -11,7 +11,6 @@ use Rattle.pat_semantics_spec.specs.Runs.{Entry, replay_from}
 use Rattle.pat_semantics_laws.specs.Laws.{history_steps}
 use Rattle.pat_semantics_laws.proofs.Replays.{replay_runs}
 use Rattle.pat_type_system_spec.specs.Interfaces.{interfaces_along}
-use Rattle.pat_core.specs.Views.{program_view}
 use Rattle.pat_derivation_spec.specs.Derivations.{Derivation}
 use Rattle.pat_derivations.specs.Views.{derivation_view}
 use Rattle.pat_reduce.specs.Views.{config_view, entry_view}

@@ -2,9 +2,7 @@
 use Rattle.std.proofs.Common.{◌≡◌, ℕ, Bool, true, false, not, ◌||◌, ◌&&◌, List, [], ◌∷◌, refl, sym, ap, ap₂, ◌∙◌}
 use Rattle.std.specs.Prelude.{nat_eq}
 use Rattle.std.specs.List.{list_all}
-use Rattle.pat_semantics_spec.specs.Values.{Value, Const, Mailbox}
 use Rattle.pat_semantics_spec.specs.Programs.{is_among}
-use Rattle.pat_type_system_spec.specs.Typed.{mailboxes_of}
 use Rattle.pat_derivation_spec.specs.Same.{all_differ}
 use Rattle.pat_checkpoint_numbers.specs.Marked.{are_new}
 use Rattle.std.proofs.lemmas.Bool.{eqb-true, eq-eqb}

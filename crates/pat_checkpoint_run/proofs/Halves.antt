@@ -1,5 +1,5 @@
 -- Threads ascend by number, so those above one stand behind all others.
-use Rattle.std.proofs.Common.{◌≡◌, ◌≤◌, arith, zero, suc, ℕ, Bool, true, false, cond, ◌&&◌, List, [], ◌∷◌, length, get_or, leb, Some, refl, ap, ◌∙◌}
+use Rattle.std.proofs.Common.{◌≡◌, ◌≤◌, arith, zero, suc, ℕ, Bool, true, false, cond, ◌&&◌, [], ◌∷◌, length, get_or, leb, Some, refl, ap, ◌∙◌}
 use Rattle.std.specs.Prelude.{option_map, find, nat_lt}
 use Rattle.std.specs.List.{AllWithin}
 use Rattle.std.specs.List.Sorted.{IsNonDecreasingBy, IsPartitionPoint}

@@ -16,7 +16,7 @@ use Rattle.pat_texts_spec.proofs.Choices.{passed, skipped}
 use Rattle.pat_checkpoint_spec.specs.text.Lines as lines
 use Rattle.pat_checkpoint_spec.specs.text.Lines.{Lines, thread_of, certs_of, checkpoint_of}
 use Rattle.pat_checkpoint_spec.specs.text.LineReading as reading
-use Rattle.pat_checkpoint_spec.specs.text.LineReading.{is_next, is_none, framed}
+use Rattle.pat_checkpoint_spec.specs.text.LineReading.{is_next, is_none}
 use Rattle.pat_derivation_lines.specs.declared.patterns.unread.Unread.{Unread}
 use Rattle.pat_derivation_lines.specs.declared.patterns.unread.Unread.TheVariants.{NotSpelled, NoMemory}
 use Rattle.pat_derivation_lines.specs.patterns.Answers.{Gives}

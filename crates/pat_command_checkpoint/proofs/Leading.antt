@@ -1,5 +1,5 @@
 -- What is answered of a history behind a checkpoint.
-use Rattle.std.proofs.Common.{◌≡◌, ◌++◌, ◌<◌, ℕ, List, length, map, Some, Result, Ok as Done, Err as Failed, refl, sym, ap, ◌∙◌, subst, inl, inr}
+use Rattle.std.proofs.Common.{◌<◌, ℕ, List, length, map, Result, Ok as Done, Err as Failed, refl, sym, subst, inl, inr}
 use Rattle.std.specs.Prelude.{IfOk}
 use Rattle.std.specs.List.{AllByRecursion}
 use Rattle.std.proofs.lemmas.List.{length-map}
@@ -8,14 +8,10 @@ use Rattle.pat_semantics_spec.specs.Configs.{Config}
 use Rattle.pat_semantics_spec.specs.Runs.{Entry}
 use Rattle.pat_semantics_laws.specs.Laws.{history_steps}
 use Rattle.pat_type_system_spec.specs.Interfaces.{interfaces_along}
-use Rattle.pat_core.specs.Views.{program_view}
-use Rattle.pat_derivations.specs.Views.{derivation_view}
-use Rattle.pat_reduce.specs.Views.{config_view, entry_view}
 use Rattle.pat_resolver_spec.specs.Places.{Places, places}
 use Rattle.pat_resolver_spec.specs.Resolved.{IsResolved}
 use Rattle.pat_derivation_spec.specs.Derivations.{Derivation}
 use Rattle.pat_derivation_spec.specs.Validity.{IsValid}
-use Rattle.pat_derivation_text_spec.specs.DerivationText.{derivation_text}
 use Rattle.pat_checkpoint_spec.specs.Checkpoints.{Checkpoint, interfaces_of}
 use Rattle.pat_checkpoint_spec.specs.Resumed.{interfaces_after_history}
 use Rattle.pat_checkpoint_laws.specs.Laws.{CheckedIsSafe}
@@ -23,10 +19,7 @@ use Rattle.pat_checkpoint_laws.specs.resuming.Laws.{ResumedIsTyped}
 use Rattle.pat_checkpoint.specs.Certified.{CanBeCertified}
 use Rattle.pat_checkpoint.specs.Strings.{HasSpelledStrings}
 use Rattle.pat_checkpoint.specs.Laws.{ReplayedInterfacesAreThere, ReplayedStringsAreSpelled}
-use Rattle.pat_checkpoint_input.specs.declared.pieces.Piece.{Piece}
 use Rattle.pat_checkpoint_input.specs.Pieces.{ReplaysPiece, RefusesPiece}
-use Rattle.pat_checkpoint_input.specs.Gives.{PieceGives}
-use Rattle.pat_front.specs.Lines.{line_of_verdict}
 use Rattle.pat_front.specs.declared.verdict.Verdict.{Verdict}
 use Rattle.pat_front.specs.exit_answers.Answers.{SaysVerdict}
 use Rattle.pat_front.specs.declared.exit_answers.answer.Answer.{Answer}

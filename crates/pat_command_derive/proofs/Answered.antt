@@ -1,5 +1,5 @@
 -- What the code comes to is allowed.
-use Rattle.std.proofs.Common.{◌≡◌, ℕ, List, Result, Ok as Done, Err as Failed, sym, subst}
+use Rattle.std.proofs.Common.{ℕ, List, Result, Ok as Done, Err as Failed, sym, subst}
 use Rattle.std.specs.Prelude.{IfOk}
 use Rattle.pat_core.specs.declared.program.Program.{Program}
 use Rattle.pat_core.specs.Views.{program_view}

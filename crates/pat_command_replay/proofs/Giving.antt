@@ -1,6 +1,5 @@
 -- What is answered of an input.
-use Rattle.std.proofs.Common.{◌≡◌, ℕ, List, map, Some, Result, Ok as Done, Err as Failed, refl, inl, inr}
-use Rattle.pat_semantics_spec.specs.Steps.{Step}
+use Rattle.std.proofs.Common.{ℕ, List, Result, Ok as Done, Err as Failed, refl, inl, inr}
 use Rattle.pat_core.specs.Views.{program_view}
 use Rattle.pat_derivations.specs.Views.{derivation_view}
 use Rattle.pat_resolver_spec.specs.Places.{places}

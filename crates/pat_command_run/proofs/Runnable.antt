@@ -1,5 +1,5 @@
 -- What the code comes to is allowed.
-use Rattle.std.proofs.Common.{◌≡◌, ℕ, List, Result, Ok as Done, Err as Failed, refl, sym, subst}
+use Rattle.std.proofs.Common.{ℕ, List, Result, Ok as Done, Err as Failed, refl, sym, subst}
 use Rattle.std.specs.Prelude.{IfOk}
 use Rattle.pat_semantics_spec.specs.WellFormed.{WellFormed}
 use Rattle.pat_semantics_spec.specs.Runs.{EndDone, EndWaiting, EndFull, EndBudget}

@@ -1,5 +1,5 @@
 -- What a finished run shows of its program.
-use Rattle.std.proofs.Common.{◌≡◌, ℕ, ◌+◌, ◌<◌, ◌≤◌, List, [], ◌∷◌, length, map, Option, Some, None, refl, sym, ap, ◌∙◌, subst, arith}
+use Rattle.std.proofs.Common.{◌≡◌, ℕ, ◌<◌, ◌≤◌, List, [], ◌∷◌, length, map, Option, Some, None, sym, ap, ◌∙◌, subst, arith}
 use Rattle.std.specs.Prelude.{option_and_then}
 use Rattle.std.proofs.lemmas.List.{length-map}
 use Rattle.pat_semantics_spec.specs.Programs.{Program}
@@ -19,7 +19,7 @@ use Rattle.pat_run.specs.declared.single.running.Finished.{Finished}
 use Rattle.pat_run.specs.single.Runners.{RunGives}
 use Rattle.pat_front.specs.declared.exit_answers.status.Status.{Status}
 use Rattle.pat_command_run.specs.declared.command.Detail.{Detail}
-use Rattle.pat_command_run.specs.Allowed.{EndsWith, RunsTo, RunShows, told}
+use Rattle.pat_command_run.specs.Allowed.{EndsWith, RunShows, told}
 use Rattle.pat_limits.specs.Limits.{most_steps, number_count}
 
 -- each entry of a history that replays has a step

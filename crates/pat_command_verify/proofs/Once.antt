@@ -11,7 +11,7 @@ use Rattle.pat_derivation_text_spec.specs.Reading.{ReadsAs, Unread}
 use Rattle.pat_derivation_rules.specs.declared.Rule.{Rule}
 use Rattle.pat_derivation_rules.specs.declared.Rule.TheVariants as rule
 use Rattle.pat_judge.specs.Views.{rule_view}
-use Rattle.pat_input_split.specs.program_with_text.MarkedPrograms.{HasProgram, IsMarkedRefusal}
+use Rattle.pat_input_split.specs.program_with_text.MarkedPrograms.{IsMarkedRefusal}
 use Rattle.pat_input_split.specs.program_with_text.OneProgram.{OneProgram}
 use Rattle.pat_front.specs.declared.verdict.Verdict.{Verdict}
 use Rattle.pat_front.specs.declared.verdict.Verdict.TheVariants as verdict

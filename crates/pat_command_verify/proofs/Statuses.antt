@@ -1,5 +1,5 @@
 -- What `verify` answers is a command's.
-use Rattle.std.proofs.Common.{◌≡◌, ◌≤◌, ◌⊎◌, ℕ, List, length, ⊎_elim}
+use Rattle.std.proofs.Common.{◌≤◌, ◌⊎◌, ℕ, List, length, ⊎_elim}
 use Rattle.std.specs.Prelude.{◌≢◌}
 use Rattle.pat_derivation_text_spec.specs.DerivationText.{marker}
 use Rattle.pat_input.specs.Inputs.{whole_limit}

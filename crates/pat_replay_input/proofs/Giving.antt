@@ -4,21 +4,19 @@ use Rattle.std.proofs.lemmas.List.{length-map, length-take-le}
 use Rattle.pat_semantics_spec.specs.Programs.{Program, Function, function_at}
 use Rattle.pat_semantics_spec.specs.Configs.{Config, start, start_of}
 use Rattle.pat_semantics_spec.specs.Runs.{Entry}
-use Rattle.pat_core.specs.Views.{program_view}
 use Rattle.pat_reduce.specs.declared.history.Entry.{Entry as CodeEntry}
 use Rattle.pat_reduce.specs.Views.{config_view, entry_view}
-use Rattle.pat_machine_spec.specs.Refusals.{IsRefusedAt}
 use Rattle.pat_texts_spec.specs.Joined.{cut}
 use Rattle.pat_texts_spec.proofs.Cutting.{CutInPieces, cut_pieces}
 use Rattle.pat_history_spec.specs.HistoryText.{marker}
-use Rattle.pat_history_spec.specs.Reading.{ReadsLines, ReadsAs, Unread}
+use Rattle.pat_history_spec.specs.Reading.{ReadsLines, ReadsAs}
 use Rattle.pat_input_split.specs.program_with_text.MarkedPrograms.{HasProgram, Explains}
 use Rattle.pat_front.specs.declared.front.FrontError.{FrontError}
 use Rattle.pat_front.specs.declared.front.FrontError.TheVariants as error
 use Rattle.pat_front.specs.declared.verdict.Verdict.{Verdict}
 use Rattle.pat_front.specs.declared.verdict.Verdict.TheVariants as verdict
 use Rattle.pat_replay_input.specs.declared.histories.Replayed.{Replayed}
-use Rattle.pat_replay_input.specs.Histories.{IsHistoryPart, HasReplay, HasBadLine, HasBadEntry, Unreplayed, Replays, RefusesText, IsReplayRefusal}
+use Rattle.pat_replay_input.specs.Histories.{IsHistoryPart, HasReplay, Unreplayed}
 use Rattle.pat_replay.specs.declared.error.ReplayError.{ReplayError}
 use Rattle.pat_replay.specs.declared.error.ReplayError.TheVariants as replay_error
 use Rattle.pat_replay.specs.Replays.{HasRoom, ReplayGives}

@@ -12,9 +12,9 @@ use Rattle.pat_input_split.specs.Marked.{IsMarked, IsUnmarked}
 use Rattle.pat_input_split.specs.Splits.{OneSplit}
 use Rattle.pat_front.specs.declared.verdict.Verdict.{Verdict}
 use Rattle.pat_front.specs.declared.verdict.Verdict.TheVariants as verdict
-use Rattle.pat_input_split.specs.program_with_text.MarkedPrograms.{HasProgram, IsMarkedRefusal}
+use Rattle.pat_input_split.specs.program_with_text.MarkedPrograms.{IsMarkedRefusal}
 use Rattle.pat_input_split.specs.program_with_text.OneProgram.{OneProgram}
-use Rattle.pat_replay_input.specs.Histories.{IsHistoryPart, HasReplay, HasBadLine, HasBadEntry, Unreplayed, RefusesText, Replays, IsReplayRefusal}
+use Rattle.pat_replay_input.specs.Histories.{IsHistoryPart, HasReplay, HasBadLine, HasBadEntry, Unreplayed, RefusesText}
 use Rattle.pat_replay_input.specs.OneReplay.{OneText, OneReplay}
 
 abbrev output_mark : List ℕ

@@ -1,5 +1,5 @@
 -- What is refused for another reason than being too long is short enough.
-use Rattle.std.proofs.Common.{◌≡◌, ◌≤◌, ◌⊎◌, ℕ, List, length, ⊎_elim}
+use Rattle.std.proofs.Common.{◌≤◌, ◌⊎◌, ℕ, List, length, ⊎_elim}
 use Rattle.std.specs.Prelude.{◌≢◌}
 use Rattle.pat_history_spec.specs.HistoryText.{marker}
 use Rattle.pat_input.specs.Inputs.{whole_limit}

@@ -1,5 +1,5 @@
 -- Two words more.
-use Rattle.std.proofs.Common.{◌≡◌, ◌≤◌, ℕ, List, [], ◌∷◌, length, map, drop, get_or, Option, Some, ap, sym, ◌∙◌, arith}
+use Rattle.std.proofs.Common.{◌≡◌, ◌≤◌, ℕ, List, [], ◌∷◌, length, map, drop, get_or, Some, ap, sym, ◌∙◌, arith}
 use Rattle.std.specs.Prelude.{option_and_then}
 use Rattle.pat_run.specs.declared.options.options.Choice.{Choice}
 use Rattle.pat_run.specs.options.Options.{choices, with_option}

@@ -1,28 +1,22 @@
 -- What texts come to.
-use Rattle.std.proofs.Common.{◌≡◌, ℕ, List, length, Result, Ok, Err, refl, sym, ap, subst, inl, inr}
+use Rattle.std.proofs.Common.{◌≡◌, ℕ, List, Result, Ok, Err, refl, sym, subst, inl, inr}
 use Rattle.std.specs.Prelude.{IfOk}
-use Rattle.pat_semantics_spec.specs.Faults.{IsSafe}
 use Rattle.pat_semantics_spec.specs.WellFormed.{WellFormed}
-use Rattle.pat_type_system_spec.specs.Typings.{IsTypable}
-use Rattle.pat_safety_laws.specs.Laws.{TypableIsSafe}
 use Rattle.pat_parser_spec.specs.Trees.{Tree}
 use Rattle.pat_resolver_spec.specs.Places.{places}
 use Rattle.pat_core.specs.declared.program.Program.{Program}
 use Rattle.pat_core.specs.Views.{program_view}
-use Rattle.pat_derivations.specs.declared.data.Derivation.{Derivation}
-use Rattle.pat_derivations.specs.Views.{derivation_view}
 use Rattle.pat_resolver_heads.specs.results.Views.{places_view}
 use Rattle.pat_front.specs.Texts.{IsProgramText}
-use Rattle.pat_front.specs.declared.reason.Reason.{Reason}
 use Rattle.pat_front.specs.declared.verdict.Verdict.TheVariants as verdict
-use Rattle.pat_front.specs.exit_answers.Answers.{Refuses, SaysVerdictWith}
+use Rattle.pat_front.specs.exit_answers.Answers.{Refuses}
 use Rattle.pat_front.specs.declared.exit_answers.answer.Answer.{Answer}
 use Rattle.pat_typecheck.specs.declared.accepting.Unaccepted.{Unaccepted}
 use Rattle.pat_typecheck.specs.declared.accepting.Unaccepted.TheVariants as unaccepted
 use Rattle.pat_typecheck.specs.declared.inputs.Checked.{Checked}
 use Rattle.pat_typecheck.specs.declared.inputs.Checked.TheVariants.{Accepted, Refused}
 use Rattle.pat_typecheck.specs.Explains.{Explains}
-use Rattle.pat_typecheck.specs.Reasons.{IsMade, IsUnaccepted}
+use Rattle.pat_typecheck.specs.Reasons.{IsUnaccepted}
 use Rattle.pat_typecheck.specs.Checks.{SaysReason, IsCheckedProgram, IsChecked}
 
 -- a line that refuses the bytes

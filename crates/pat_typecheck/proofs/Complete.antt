@@ -1,5 +1,5 @@
 -- Texts that are never refused.
-use Rattle.std.proofs.Common.{◌≡◌, ℕ, List, sym, subst, ⊎_elim}
+use Rattle.std.proofs.Common.{◌≡◌, ℕ, List, subst, ⊎_elim}
 use Rattle.pat_semantics_spec.specs.Programs.{Program}
 use Rattle.pat_type_system_spec.specs.Typings.{IsTypable}
 use Rattle.pat_parser_spec.specs.Trees.{Tree}

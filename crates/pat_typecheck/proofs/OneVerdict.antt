@@ -1,5 +1,5 @@
 -- A text has one verdict.
-use Rattle.std.proofs.Common.{◌≡◌, ℕ, List, [], ◌++◌, codes, Some, Bool, true, false, slice_get, refl, ap, sym, subst, ◌∙◌, ⊎_elim}
+use Rattle.std.proofs.Common.{◌≡◌, ℕ, List, [], ◌++◌, codes, Some, false, slice_get, refl, ap, sym, subst, ◌∙◌, ⊎_elim}
 use Rattle.pat_semantics_spec.specs.Programs.{Program}
 use Rattle.pat_semantics_spec.specs.WellFormed.{WellFormed}
 use Rattle.pat_parser_spec.specs.Trees.{Tree, Span as Place}
@@ -17,7 +17,7 @@ use Rattle.pat_infer_problems.specs.declared.error.Rule.TheVariants as rule
 use Rattle.pat_infer_problems.specs.Views.{rule_view}
 use Rattle.pat_infer_problems.specs.Results.{first_of}
 use Rattle.pat_solve_spec.specs.Answers as answers
-use Rattle.pat_solve_spec.specs.Answers.{IsRight, IsConstraint}
+use Rattle.pat_solve_spec.specs.Answers.{IsConstraint}
 use Rattle.pat_solve_spec.specs.Laws as solving
 use Rattle.pat_front.specs.Laws as front
 use Rattle.pat_front.specs.Lines.{line_of_verdict, line_with}
@@ -29,7 +29,7 @@ use Rattle.pat_front.specs.declared.verdict.Verdict.TheVariants.{Unaccepted}
 use Rattle.pat_derivation_text_spec.specs.DerivationText.{interface_name}
 use Rattle.pat_derivation_spec.specs.Derivations.{Derivation}
 use Rattle.pat_typecheck.specs.Places.{place_in, origin_in}
-use Rattle.pat_typecheck.specs.Reasons.{IsMade, BreaksRule, IsReason, IsUnaccepted}
+use Rattle.pat_typecheck.specs.Reasons.{IsMade, BreaksRule, IsReason}
 use Rattle.pat_typecheck.specs.Inputs.{IsAcceptedText, RefusesProgram, IsCheckRefusal}
 use Rattle.pat_typecheck.specs.Laws.{shows_word, OneVerdict}
 

@@ -8,7 +8,6 @@ use Rattle.pat_core.specs.declared.program.Sort.TheVariants as sort
 use Rattle.pat_core.specs.declared.program.Function.{Function}
 use Rattle.pat_core.specs.declared.program.Node.{Node}
 use Rattle.pat_core.specs.declared.program.Program.{Program}
-use Rattle.pat_resolver_spec.specs.Places.{FunctionPlaces}
 use Rattle.pat_resolver_heads.specs.results.Views.{places_view, function_places, sort_place}
 use Rattle.pat_type_schemes_spec.specs.Signatures.{Origin, OfParameter, OfResult, OfNeed}
 use Rattle.pat_infer_spec.specs.Constraints.{Place, AtNode, AtName}

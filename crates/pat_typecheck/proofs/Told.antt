@@ -4,7 +4,6 @@ use Rattle.std.specs.Prelude.{codes}
 use Rattle.std.proofs.lemmas.Option.{none-some, same_Some, slice_get-map}
 use Rattle.pat_words_spec.specs.Words.{Word}
 use Rattle.pat_semantics_spec.specs.Programs as core
-use Rattle.pat_semantics_spec.specs.WellFormed.{WellFormed}
 use Rattle.pat_type_system_spec.specs.Typings.{IsTypable}
 use Rattle.pat_core.specs.declared.program.Program.{Program}
 use Rattle.pat_core.specs.Views.{program_view}
@@ -16,9 +15,8 @@ use Rattle.pat_derivation_text_spec.specs.DerivationText.{interface_name, tag_na
 use Rattle.pat_derivations.specs.Views.{vars_view}
 use Rattle.pat_derivation_spec.specs.Derivations.{Derivation}
 use Rattle.pat_derivation_spec.specs.Validity.{IsValid}
-use Rattle.pat_type_schemes_spec.specs.Signatures.{Variable, signature_vars}
+use Rattle.pat_type_schemes_spec.specs.Signatures.{signature_vars}
 use Rattle.pat_infer_spec.specs.Constraints.{Constraint, Finding}
-use Rattle.pat_infer_spec.specs.Shapes.{IsNumber}
 use Rattle.pat_infer_spec.specs.Walk.{inferred, all_vars}
 use Rattle.pat_infer_problems.specs.Places.{span_or, place_of, origin_place}
 use Rattle.pat_infer_problems.specs.Results.{Refuses, first_of}
@@ -31,7 +29,7 @@ use Rattle.pat_infer_problems.specs.declared.problem.Problem.{Problem}
 use Rattle.pat_infer_problems.specs.Problems.{IsProblemOf}
 use Rattle.pat_solve_spec.specs.Derived.{derivation_with, CertsMade}
 use Rattle.pat_solve_spec.specs.Answers as answers
-use Rattle.pat_solve_spec.specs.Answers.{AllUsable, IsRight, IsConstraint, IsInBounds, IsUnusable, solution}
+use Rattle.pat_solve_spec.specs.Answers.{AllUsable, IsRight, IsConstraint, IsInBounds}
 use Rattle.pat_solve_spec.specs.Laws.{AreThere}
 use Rattle.pat_solve_bounds.specs.results.Views.{forms_of, IsSolution, AllInBounds}
 use Rattle.pat_solve_bounds.specs.declared.results.solution.Solution.{Solution}

@@ -1,5 +1,5 @@
 -- Refusals of programs as the code has them.
-use Rattle.std.specs.Prelude.{◌≡◌, ℕ, []}
+use Rattle.std.specs.Prelude.{ℕ}
 use Rattle.pat_words_spec.specs.Words.{Word}
 use Rattle.pat_semantics_spec.specs.Programs as core
 use Rattle.pat_type_system_spec.specs.Typings.{IsTypable}
@@ -8,8 +8,7 @@ use Rattle.pat_core.specs.declared.program.Program.{Program}
 use Rattle.pat_core.specs.Views.{program_view}
 use Rattle.pat_resolver_heads.specs.results.Views.{places_view}
 use Rattle.pat_solve_spec.specs.Answers as answers
-use Rattle.pat_solve_spec.specs.Answers.{IsRight, AllUsable}
-use Rattle.pat_solve_bounds.specs.results.Views.{AllInBounds}
+use Rattle.pat_solve_spec.specs.Answers.{IsRight}
 use Rattle.pat_solve.specs.Smallest.{IsLeastRefutation}
 use Rattle.pat_typecheck.specs.declared.accepting.Unaccepted.{Unaccepted}
 use Rattle.pat_typecheck.specs.declared.accepting.Unaccepted.TheVariants.{Refused, NoMemory}

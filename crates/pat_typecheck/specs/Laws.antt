@@ -6,7 +6,6 @@ use Rattle.pat_parser_spec.specs.Trees.{Tree}
 use Rattle.pat_solve_spec.specs.Answers.{AllUsable}
 use Rattle.pat_solve_bounds.specs.results.Views.{AllInBounds}
 use Rattle.pat_front.specs.Texts.{IsProgramText}
-use Rattle.pat_front.specs.declared.reason.Reason.{Reason}
 use Rattle.pat_front.specs.declared.reason.Reason.TheVariants.{Refuted}
 use Rattle.pat_front.specs.declared.verdict.Verdict.{Verdict}
 use Rattle.pat_front.specs.declared.verdict.Verdict.TheVariants.{Unaccepted}

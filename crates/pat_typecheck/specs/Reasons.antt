@@ -1,5 +1,5 @@
 -- Why a program is accepted, and why not.
-use Rattle.std.specs.Prelude.{◌≡◌, ℕ, ◌<◌, List, [], ◌++◌, codes, length, Some}
+use Rattle.std.specs.Prelude.{◌≡◌, ℕ, List, [], ◌++◌, codes, Some}
 use Rattle.pat_words_spec.specs.Words.{Word}
 use Rattle.pat_semantics_spec.specs.Programs.{Program}
 use Rattle.pat_type_system_spec.specs.Typings.{IsTypable}

@@ -1,5 +1,5 @@
 -- What a worker learns in one hold of the turn: its entries are those that it had, and that of the receipt.
-use Rattle.std.proofs.Common.{◌≡◌, ℕ, nat_eq, List, [], ◌∷◌, ◌++◌, Result, Ok, Err, ap, sym, ◌∙◌, subst}
+use Rattle.std.proofs.Common.{◌≡◌, ℕ, nat_eq, List, [], ◌∷◌, ◌++◌, Ok, Err, ap, sym, ◌∙◌, subst}
 use Rattle.std.proofs.lemmas.List.{append-nil}
 use Rattle.std.proofs.lemmas.List.Elements.{All-push}
 use Rattle.pat_reduce.specs.declared.history.Entry.{Entry}
@@ -13,7 +13,7 @@ use Rattle.pat_turn.specs.Shown.{ShownPass}
 use Rattle.pat_workers.specs.declared.turns.machines.Taken.{Taken}
 use Rattle.pat_workers.specs.turns.Holds.{IsHold, TakingGives, CommittingGives}
 use Rattle.pat_workers.proofs.Histories.{taking_log, give_back_log, commit_adds}
-use Rattle.pat_workers.specs.Receipts.{placed, told_by, told, AreReceiptsOf}
+use Rattle.pat_workers.specs.Receipts.{placed, told_by, AreReceiptsOf}
 use Rattle.pat_workers.proofs.Placed.{placed_stay, placed_more, told_append}
 
 pub receipts_same : (n : ℕ) (seen now : List Entry) (rs : List Receipt) → placed n now ≡ placed n seen → AreReceiptsOf n seen rs → AreReceiptsOf n now rs

@@ -1,5 +1,5 @@
 -- What the workers did, at each place.
-use Rattle.std.proofs.Common.{◌≡◌, ℕ, zero, suc, ◌+◌, ◌<◌, cond, false, List, [], ◌∷◌, ◌++◌, length, map, set, slice_get, get_or, refl, sym, ap, ◌∙◌, subst, arith, Some, Result, Ok, Err, Vec, Global}
+use Rattle.std.proofs.Common.{◌≡◌, ℕ, zero, suc, ◌+◌, ◌<◌, cond, List, [], ◌∷◌, ◌++◌, length, map, set, slice_get, get_or, refl, sym, ap, ◌∙◌, subst, arith, Some, Result, Ok, Err, Vec, Global}
 use Rattle.std.specs.Prelude.{is_ok}
 use Rattle.std.specs.Result.{OnOk}
 use Rattle.std.proofs.lemmas.List.Elements.{All-nil, All-cons}

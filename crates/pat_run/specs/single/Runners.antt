@@ -1,5 +1,5 @@
 -- What a run with options comes to, whoever runs it.
-use Rattle.std.specs.Prelude.{◌≡◌, ℕ, ◌<◌, List, Some, Result, IfOk}
+use Rattle.std.specs.Prelude.{◌≡◌, ◌<◌, List, Some, Result, IfOk}
 use Rattle.std.specs.List.{All}
 use Rattle.pat_semantics_spec.specs.Programs.{Program}
 use Rattle.pat_semantics_spec.specs.Configs.{Config}

@@ -8,7 +8,7 @@ use Rattle.pat_core.specs.declared.program.Program.{Program as CodeProgram}
 use Rattle.pat_core.specs.Views.{program_view}
 use Rattle.pat_machine_spec.specs.Commits.{IsCommit}
 use Rattle.pat_machine_spec.specs.Turns.{IsTurn}
-use Rattle.pat_machine.specs.Shown.{Shown, entries_of}
+use Rattle.pat_machine.specs.Shown.{entries_of}
 use Rattle.pat_machine.specs.Gives.{IsOver, outcome_view}
 use Rattle.pat_run.specs.declared.single.running.Finished.{Finished}
 

@@ -1,4 +1,4 @@
-use Rattle.std.proofs.Common.{◌≡◌, ℕ, suc, zero, ◌+◌, ap, refl, sym, ◌∙◌, ◌&&◌, Bool, true, false, List, [], ◌∷◌, length, map, drop, arith}
+use Rattle.std.proofs.Common.{◌≡◌, ℕ, suc, ap, refl, sym, ◌∙◌, ◌&&◌, true, false, List, [], ◌∷◌, length, map, drop, arith}
 use Rattle.std.specs.List.{list_all}
 use Rattle.std.proofs.lemmas.List.{drop_all}
 use Rattle.std.proofs.Math.Seq.{drop-cons}
@@ -7,7 +7,6 @@ use Rattle.pat_semantics_spec.specs.Programs.{Program}
 use Rattle.pat_type_system_spec.specs.Holdings.{receivers}
 use Rattle.pat_derivation_spec.specs.Derivations.{Derivation, written_typing}
 use Rattle.pat_patterns.specs.declared.pattern.Pattern.{Pattern}
-use Rattle.pat_patterns.specs.Views.{patterns_view}
 use Rattle.pat_checkpoint_spec.specs.Checkpoints.{Checkpoint, interfaces_of}
 use Rattle.pat_checkpoint_spec.specs.HoldingsInOrder.{lines_held}
 use Rattle.pat_checkpoint_spec.specs.Mailboxes.{is_single, holders_hold}

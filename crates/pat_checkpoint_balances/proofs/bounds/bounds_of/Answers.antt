@@ -1,4 +1,4 @@
-use Rattle.std.proofs.Common.{◌≡◌, ◌-◌, zero, length, get_or, map, ap, sym, ◌∙◌, subst, arith}
+use Rattle.std.proofs.Common.{◌-◌, length, get_or, map, ap, sym, ◌∙◌, subst, arith}
 use Rattle.pat_core.specs.declared.program.Node.{Node}
 use Rattle.pat_core.specs.Views.{core_view, node_view, program_view}
 use Rattle.pat_checkpoint_balances.specs.Tables.{Notes}

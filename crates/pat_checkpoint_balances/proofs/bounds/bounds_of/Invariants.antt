@@ -1,7 +1,4 @@
-use Rattle.std.proofs.Common.{◌≡◌, ℕ, ◌<◌, length, drop}
-use Rattle.pat_type_system_spec.specs.Holdings.{bound_of}
 use Rattle.pat_core.specs.Views.{program_view}
-use Rattle.pat_checkpoint_balances.specs.Tables.{bound_in}
 use Rattle.pat_checkpoint_balances.proofs.Lets.{IsEmptyTable, TellsFrom}
 use Rattle.pat_checkpoint_balances.proofs.bounds.bounds_of.Given as goal
 

@@ -1,4 +1,4 @@
-use Rattle.std.proofs.Common.{◌≡◌, refl, ap}
+use Rattle.std.proofs.Common.{refl, ap}
 use Rattle.pat_primitives.specs.Views.{polarity_view}
 use Rattle.pat_types.specs.Views.{type_view}
 use Rattle.pat_patterns.specs.Views.{pattern_view}

@@ -1,4 +1,4 @@
-use Rattle.std.proofs.Common.{◌≡◌, ◌++◌, ◌+◌, [], ◌∷◌, ap, sym, ◌∙◌, map, take, arith, subst}
+use Rattle.std.proofs.Common.{◌++◌, ◌+◌, [], ◌∷◌, ap, sym, ◌∙◌, take, arith, subst}
 use Rattle.std.proofs.lemmas.List.{map_more, take_all}
 use Rattle.pat_types.specs.Views.{need_view, needs_view}
 use Rattle.pat_checkpoint_balances.specs.Gathered.{rows_view, Parted}

@@ -1,4 +1,4 @@
-use Rattle.std.proofs.Common.{◌≡◌, ap, ◌∙◌, map, subst}
+use Rattle.std.proofs.Common.{ap, ◌∙◌, map, subst}
 use Rattle.pat_core.specs.Views.{program_view}
 use Rattle.pat_types.specs.Views.{needs_view}
 use Rattle.pat_derivations.specs.Views.{derivation_view}

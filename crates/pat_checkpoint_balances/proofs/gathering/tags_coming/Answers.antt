@@ -1,4 +1,4 @@
-use Rattle.std.proofs.Common.{◌≡◌, ◌++◌, ◌+◌, [], ◌∷◌, ap, sym, ◌∙◌, map, take, arith}
+use Rattle.std.proofs.Common.{◌++◌, ◌+◌, [], ◌∷◌, ap, sym, ◌∙◌, map, take, arith}
 use Rattle.std.proofs.lemmas.List.{map_more, take_all}
 use Rattle.pat_words_spec.specs.Patterns.{Tag}
 use Rattle.pat_reduce.specs.threads.ThreadViews.{message_view}

@@ -1,4 +1,4 @@
-use Rattle.std.proofs.Common.{sym, ◌∙◌}
+use Rattle.std.proofs.Common.{◌∙◌}
 use Rattle.pat_checkpoint_balances.proofs.Halves.{interface_there, no_interface}
 use Rattle.pat_checkpoint_balances.proofs.places.interface_of.Goals as goal
 

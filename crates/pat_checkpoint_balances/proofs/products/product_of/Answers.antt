@@ -1,4 +1,4 @@
-use Rattle.std.proofs.Common.{◌≡◌, ap, ◌∙◌, sym, subst, length, ◌<◌, arith}
+use Rattle.std.proofs.Common.{ap, ◌∙◌, arith}
 use Rattle.pat_patterns.specs.Views.{patterns_view}
 use Rattle.pat_checkpoint_spec.specs.Balances.{paired, product_of}
 use Rattle.pat_checkpoint_balances.proofs.Joining.{same_product, fewer_patterns}

@@ -1,4 +1,4 @@
-use Rattle.std.proofs.Common.{◌≡◌, ap, ◌∙◌}
+use Rattle.std.proofs.Common.{ap, ◌∙◌}
 use Rattle.pat_patterns.specs.Views.{pattern_view}
 use Rattle.pat_checkpoint_balances.specs.Gathered.{rows_view}
 use Rattle.pat_checkpoint_balances.proofs.RowLaws.{unchanged, put_one}

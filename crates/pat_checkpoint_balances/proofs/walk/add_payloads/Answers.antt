@@ -1,4 +1,4 @@
-use Rattle.std.proofs.Common.{◌≡◌, ◌++◌, ap, ◌∙◌, ℕ, map}
+use Rattle.std.proofs.Common.{◌++◌, ap, ◌∙◌, ℕ, map}
 use Rattle.std.specs.Prelude.{option_and_then, slice_get}
 use Rattle.pat_type_system_spec.specs.Typings.{payload_sort}
 use Rattle.pat_type_system_spec.specs.Types.{TypeEnv}

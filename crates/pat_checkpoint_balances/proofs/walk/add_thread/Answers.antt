@@ -1,4 +1,4 @@
-use Rattle.std.proofs.Common.{◌≡◌, ◌++◌, ap, ◌∙◌, map, append_assoc}
+use Rattle.std.proofs.Common.{◌++◌, ap, ◌∙◌, map, append_assoc}
 use Rattle.pat_derivation_spec.specs.Derivations.{written_typing}
 use Rattle.pat_derivations.specs.Views.{derivation_view}
 use Rattle.pat_types.specs.Views.{needs_view}

@@ -1,4 +1,4 @@
-use Rattle.std.proofs.Common.{◌≡◌, ◌<◌, ap, ◌∙◌, length, get_or, subst}
+use Rattle.std.proofs.Common.{◌<◌, ap, ◌∙◌, length, get_or, subst}
 use Rattle.pat_derivation_spec.specs.Derivations.{written_typing}
 use Rattle.pat_core.specs.Views.{program_view}
 use Rattle.pat_types.specs.Views.{needs_view}

@@ -1,4 +1,4 @@
-use Rattle.std.proofs.Common.{◌≡◌, true, not, map, ap, sym, ◌∙◌, ◌∷◌, ◌&&◌, subst}
+use Rattle.std.proofs.Common.{not, map, ap, sym, ◌∙◌, ◌∷◌, ◌&&◌}
 use Rattle.std.specs.List.{list_all}
 use Rattle.std.proofs.lemmas.Bool.{and_parts}
 use Rattle.pat_semantics_spec.specs.Programs.{is_among}

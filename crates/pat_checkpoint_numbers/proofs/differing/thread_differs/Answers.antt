@@ -1,4 +1,4 @@
-use Rattle.std.proofs.Common.{◌≡◌, true, ap, sym, ◌∙◌, map, subst, refl}
+use Rattle.std.proofs.Common.{◌≡◌, true, sym, ◌∙◌, map, subst, refl}
 use Rattle.std.specs.Prelude.{IfOk}
 use Rattle.std.specs.List.{list_all}
 use Rattle.pat_reduce.specs.threads.ThreadViews.{control_view, frame_view}

@@ -1,4 +1,4 @@
-use Rattle.std.proofs.Common.{◌≡◌, drop, map}
+use Rattle.std.proofs.Common.{◌≡◌, drop}
 use Rattle.pat_checkpoint_spec.specs.Numbers.{ascends}
 use Rattle.pat_checkpoint_numbers.proofs.numbers.ascend.Given as goal
 

@@ -1,4 +1,4 @@
-use Rattle.std.proofs.Common.{◌≡◌, drop, map}
+use Rattle.std.proofs.Common.{◌≡◌, drop}
 use Rattle.std.specs.Map.{keys_of}
 use Rattle.pat_reduce.specs.Views.{threads_view}
 use Rattle.pat_checkpoint_spec.specs.Numbers.{ascends}

@@ -1,4 +1,4 @@
-use Rattle.std.proofs.Common.{map, sym, subst}
+use Rattle.std.proofs.Common.{sym, subst}
 use Rattle.std.specs.Prelude.{◌<◌, length, IfOk}
 use Rattle.std.specs.List.{AllByRecursion}
 use Rattle.pat_core.specs.Views.{program_view}

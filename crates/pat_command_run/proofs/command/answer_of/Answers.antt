@@ -1,4 +1,4 @@
-use Rattle.std.proofs.Common.{ℕ, List, subst}
+use Rattle.std.proofs.Common.{subst}
 use Rattle.pat_typecheck.specs.Checks.{IsChecked}
 use Rattle.pat_command_run.proofs.Runnable.{checked_well, checked_typable, accepted_allowed, refused_allowed}
 use Rattle.pat_command_run.proofs.command.answer_of.Goals as goal

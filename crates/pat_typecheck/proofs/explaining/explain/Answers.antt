@@ -1,4 +1,4 @@
-use Rattle.std.proofs.Common.{◌≡◌, List, [], ℕ, sym, subst}
+use Rattle.std.proofs.Common.{sym, subst}
 use Rattle.pat_core.specs.Views.{program_view}
 use Rattle.pat_resolver_heads.specs.results.Views.{places_view}
 use Rattle.pat_solve_bounds.specs.results.Views.{IsRefusal, IsComplete}

@@ -1,6 +1,3 @@
-use Rattle.std.proofs.Common.{subst}
-use Rattle.std.specs.Prelude.{IfOk}
-use Rattle.pat_front.specs.exit_answers.Answers.{Refuses}
 use Rattle.pat_typecheck.proofs.Checking.{refused_text}
 use Rattle.pat_typecheck.proofs.inputs.refused_text.Goals as goal
 

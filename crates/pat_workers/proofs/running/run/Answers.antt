@@ -1,16 +1,13 @@
-use Rattle.std.proofs.Common.{◌≡◌, ℕ, ◌<◌, List, length, Some, get_or, ap, sym, ◌∙◌, subst, arith, slice_get, slice_index_or}
+use Rattle.std.proofs.Common.{◌≡◌, List, length, ap, sym, ◌∙◌, subst, arith}
 use Rattle.std.proofs.lemmas.List.{length-map}
 use Rattle.std.proofs.lemmas.Result.{IfOk-weaker}
 use Rattle.pat_core.specs.Views.{program_view}
 use Rattle.pat_core.specs.declared.program.Program.{Program}
 use Rattle.pat_reduce.specs.declared.history.Entry.{Entry}
 use Rattle.pat_machine.specs.declared.job.Named.{Named}
-use Rattle.pat_machine.specs.Shown.{Shown}
-use Rattle.pat_turn.specs.Shown.{ShownPass, ShownTurn, AreAll, IsOfAll}
+use Rattle.pat_turn.specs.Shown.{ShownPass, AreAll, IsOfAll}
 use Rattle.pat_workers.specs.turns.Holds.{worker_of}
 use Rattle.pat_workers.specs.declared.serving.Worker.{Worker}
-use Rattle.pat_workers.specs.Workers.{IsReady}
-use Rattle.pat_workers.specs.Runs.{RunGives}
 use Rattle.pat_workers.proofs.Placed.{some_is}
 use Rattle.pat_workers.proofs.Rows.{length_new, ready_at, worked_at}
 use Rattle.pat_workers.proofs.Ending.{are_all, run_gives}
