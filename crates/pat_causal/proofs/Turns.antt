@@ -9,32 +9,32 @@ use Rattle.pat_semantics_spec.specs.Runs.{Entry}
 use Rattle.pat_reduce.specs.declared.history.Entry.{Entry as CodeEntry}
 use Rattle.pat_reduce.specs.Views.{entry_view}
 use Rattle.pat_causal_spec.specs.Independent.{spawned_by, sent_by, are_independent, independent_at, is_greater, is_out_of_order}
-use Rattle.pat_causal_spec.specs.Reordered.{exchanged, LeadsTo}
+use Rattle.pat_causal_spec.specs.Reordered.{exchanged}
 use Rattle.pat_causal_laws.specs.Moving.{SettledFrom, IsMoving}
 use Rattle.pat_causal_laws.proofs.Moves.{begins, moves_on, stops_here, stops_first, leads_on}
 use Rattle.pat_causal.specs.declared.counts.Counts.{Counts as CodeCounts}
 use Rattle.pat_causal.specs.Counts.{AreCounts}
-use Rattle.pat_causal.specs.Leading.{LeadOn}
+use Rattle.pat_causal.specs.Order.{IsLed, LeadOn}
 use Rattle.pat_causal.proofs.Places.{length_seen, seen_at, counted_last, counts_less, counts_small, order_at, exchange_inserted}
 use Rattle.pat_limits.specs.Limits.{most_entries, number_count}
 
--- the entry came to this place among the others, it is known what those before it make, and the exchanges are noted
-pub record IsOnWay (es : List Entry) (x : Entry) (before places : List ℕ) (place : ℕ) (counts : CodeCounts) : Type 0 where
+-- the entry came to this place among the others by exchanges, and it is known what those before it make
+pub record IsOnWay (es : List Entry) (x : Entry) (place : ℕ) (counts : CodeCounts) : Type 0 where
   pub within : place ≤ length es
   pub moving : IsMoving place (insert es place x)
   pub known : AreCounts counts (take place es)
-  pub led : LeadOn before (es ++ x ∷ []) places (insert es place x)
+  pub led : LeadOn (es ++ x ∷ []) (insert es place x)
 
 -- it begins behind all others
-pub starts : (es : List Entry) (x : Entry) (places : List ℕ) (counts : CodeCounts) → SettledFrom 0 0 es → AreCounts counts es → IsOnWay es x places places (length es) counts
-starts es x places counts settled known = record {
+pub starts : (es : List Entry) (x : Entry) (counts : CodeCounts) → SettledFrom 0 0 es → AreCounts counts es → IsOnWay es x (length es) counts
+starts es x counts settled known = record {
   within = omega arith;
   moving = subst (IsMoving (length es)) (sym (insert_end es x)) (begins es x settled);
   known = subst (AreCounts counts) (sym (take-length es)) known;
-  led = λ fs rest h. subst (λ l. LeadsTo places fs (l ++ rest)) (sym (insert_end es x)) h;
+  led = λ fs rest h. subst (λ l. IsLed fs (l ++ rest)) (sym (insert_end es x)) h;
 }
 
-module _ (ordered : List CodeEntry) (x : Entry) (before places : List ℕ) (place : ℕ) (counts : CodeCounts) (d : CodeEntry) (way : IsOnWay (map entry_view ordered) x before places place counts) (more : 0 < place) where
+module _ (ordered : List CodeEntry) (x : Entry) (place : ℕ) (counts : CodeCounts) (d : CodeEntry) (way : IsOnWay (map entry_view ordered) x place counts) (more : 0 < place) where
   abbrev es : List Entry
   es = map entry_view ordered
 
@@ -85,8 +85,8 @@ module _ (ordered : List CodeEntry) (x : Entry) (before places : List ℕ) (plac
     stopped off = stops_here (place - 1) (insert es place x) moving_next (test ∙ off)
 
     -- or moves one place further
-    pub turned : (noted : List ℕ) → (is_greater (Some own) (Some x) && are_independent fewer.spawned fewer.sent own x) ≡ true → noted ≡ places ++ (place - 1) ∷ [] → IsOnWay (map entry_view ordered) x before noted (place - 1) fewer
-    turned noted on note =
+    pub turned : (is_greater (Some own) (Some x) && are_independent fewer.spawned fewer.sent own x) ≡ true → IsOnWay (map entry_view ordered) x (place - 1) fewer
+    turned on =
         let out : is_out_of_order (insert es place x) (place - 1) ≡ true = test ∙ on in
         let size = length_seen ordered in
         let inside = there in
@@ -98,13 +98,15 @@ module _ (ordered : List CodeEntry) (x : Entry) (before places : List ℕ) (plac
           moving = subst (IsMoving (place - 1)) is (moves_on (place - 1) (insert es place x) moving_next out);
           known = fewer_known;
           led = λ fs rest h.
-              subst (λ l. LeadsTo noted fs (l ++ rest)) is
-              (subst (λ l. LeadsTo l fs (exchanged (place - 1) (insert es place x) ++ rest)) (sym note)
-              (leads_on places fs (insert es place x) rest (place - 1) free (way.led fs rest h)));
+              let before = way.led fs rest h in
+              subst (λ l. IsLed fs (l ++ rest)) is (record {
+                places = before.places ++ (place - 1) ∷ [];
+                led = leads_on before.places fs (insert es place x) rest (place - 1) free before.led;
+              });
         }
 
 -- at the first place there is nothing to pass
-pub stopped_first : (es : List Entry) (x : Entry) (before places : List ℕ) (place : ℕ) (counts : CodeCounts) → IsOnWay es x before places place counts → place ≤ 0 → SettledFrom 0 0 (insert es 0 x)
-stopped_first es x before places place counts way none =
+pub stopped_first : (es : List Entry) (x : Entry) (place : ℕ) (counts : CodeCounts) → IsOnWay es x place counts → place ≤ 0 → SettledFrom 0 0 (insert es 0 x)
+stopped_first es x place counts way none =
     let is : place ≡ 0 = omega arith in
     stops_first (insert es 0 x) (subst (λ k. IsMoving k (insert es k x)) is way.moving)

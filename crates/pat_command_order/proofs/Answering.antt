@@ -5,16 +5,17 @@ use Rattle.pat_semantics_spec.specs.Programs.{Program}
 use Rattle.pat_semantics_spec.specs.Configs.{Config}
 use Rattle.pat_semantics_spec.specs.Runs.{Entry, Outcome, IsHistory}
 use Rattle.pat_history_laws.specs.Readable.{AreReadable}
-use Rattle.pat_causal_spec.specs.Reordered.{exchanged, LeadsTo, IsReordered}
+use Rattle.pat_causal_spec.specs.Reordered.{exchanged, LeadsTo}
 use Rattle.pat_causal_laws.proofs.Histories.{leads_replays, leads_count}
 use Rattle.pat_causal_laws.proofs.Moves.{exchanged_length}
+use Rattle.pat_causal.specs.Order.{HasOrder}
 use Rattle.pat_replay_input.specs.RunText.{order_text}
 use Rattle.pat_front.specs.declared.verdict.Verdict.{Verdict}
 use Rattle.pat_front.specs.declared.verdict.Verdict.TheVariants as verdict
 use Rattle.pat_front.specs.exit_answers.Answers.{SaysVerdict}
 use Rattle.pat_front.specs.declared.exit_answers.answer.Answer.{Answer}
 use Rattle.pat_replay_input.specs.Histories.{standing, Replays, IsReplayRefusal}
-use Rattle.pat_command_order.specs.Allowed.{IsOrdered, HasTooMany, IsOrderRefusal, AllowedOrder}
+use Rattle.pat_command_order.specs.Allowed.{IsOrdered, HasTooMany, AllowedOrder}
 use Rattle.pat_limits.specs.Limits.{most_entries}
 
 -- no entry that a reader takes has a local step as its shared act
@@ -28,8 +29,8 @@ leads_length [] es fs led = ap length (sym led)
 leads_length (i ∷ places) es fs led = leads_length places (exchanged i es) fs led.1 ∙ exchanged_length i es
 
 module _ (bytes : List ℕ) (p : Program) (es : List Entry) (c : Config) (replays : Replays bytes p es c) where
-  pub ordered_is : (fs : List Entry) (places : List ℕ) (o : Option Outcome) (out : List ℕ) → length es ≤ most_entries → IsReordered es fs places → o ≡ standing p c → out ≡ order_text fs c o → IsOrdered bytes out
-  ordered_is fs places o out few reordered stands shown =
+  pub ordered_is : (fs : List Entry) (o : Option Outcome) (out : List ℕ) → length es ≤ most_entries → HasOrder es fs → o ≡ standing p c → out ≡ order_text fs c o → IsOrdered bytes out
+  ordered_is fs o out few order stands shown =
       record {
         program = p;
         entries = es;
@@ -37,10 +38,10 @@ module _ (bytes : List ℕ) (p : Program) (es : List Entry) (c : Config) (replay
         replays = replays;
         few = few;
         ordered = fs;
-        places = places;
-        reordered = reordered;
-        same = leads_replays p places es fs c reordered.led replays.leads.replayed;
-        steps = leads_count places es fs reordered.led;
+        places = order.places;
+        reordered = order.reordered;
+        same = leads_replays p order.places es fs c order.reordered.led replays.leads.replayed;
+        steps = leads_count order.places es fs order.reordered.led;
         shown = shown ∙ ap (order_text fs c) stands;
       }
 

@@ -7,7 +7,7 @@ use Rattle.pat_front.specs.declared.verdict.Verdict.{Verdict}
 use Rattle.pat_front.specs.declared.verdict.Verdict.TheVariants as verdict
 use Rattle.pat_replay_input.specs.Histories.{Replays, IsReplayRefusal}
 use Rattle.pat_replay_input.specs.OneReplay.{OneReplay}
-use Rattle.pat_command_order.specs.Allowed.{IsOrdered, HasTooMany, IsOrderRefusal}
+use Rattle.pat_command_order.specs.Allowed.{HasTooMany, IsOrderRefusal}
 use Rattle.pat_command_order.specs.Answers.{OneAnswer}
 use Rattle.pat_limits.specs.Limits.{most_entries}
 

@@ -3,10 +3,7 @@ use crate::calls::{
     a_job_is_served, jobs_are_taken_and_given_back, mailboxes_are_read,
     no_job_is_taken_without_a_step,
 };
-use crate::causal::{
-    a_pair_is_exchanged, a_waiting_run_in_order, of_one_thread_or_of_another_than_is_made,
-    pairs_are_independent_or_not,
-};
+use crate::causal::{a_waiting_run_in_order, pairs_change_places_or_stay, two_in_order};
 use crate::mailboxes::a_message_is_found_and_taken;
 use crate::runs::drives_to_an_outcome;
 
@@ -18,8 +15,7 @@ fn the_machine(rt: HostRuntime) {
     mailboxes_are_read(&rt, rt.alloc());
     drives_to_an_outcome(&rt, rt.alloc());
     a_message_is_found_and_taken(&rt, rt.alloc());
-    pairs_are_independent_or_not(&rt);
-    of_one_thread_or_of_another_than_is_made(&rt);
-    a_pair_is_exchanged(&rt);
+    pairs_change_places_or_stay(&rt, rt.alloc());
+    two_in_order(&rt, rt.alloc());
     a_waiting_run_in_order(&rt, rt.alloc());
 }

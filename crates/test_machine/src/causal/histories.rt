@@ -26,7 +26,6 @@ pub fn a_waiting_run_in_order(rt: &impl Abort, alloc: Global) {
         entry(1, 1, None),
         entry(2, 1, None),
     ];
-    let reordered = order(alloc, &entries).expect(rt, "memory");
-    check(rt, reordered.entries.as_slice() == wanted.as_slice());
-    check(rt, reordered.places.as_slice() == [3, 5, 4].as_slice());
+    let ordered = order(alloc, &entries).expect(rt, "memory");
+    check(rt, ordered.as_slice() == wanted.as_slice());
 }

@@ -1,7 +1,8 @@
-// Which neighbours are independent: for each reason why they may not be, a pair that isn't, and one that is but for it.
+// Which neighbours change places: for each reason why they may not, a pair that stays, and one that doesn't but for it.
 use crate::checking::check;
-use pat_causal::{exchange, independent};
+use pat_causal::order;
 use pat_reduce::{Act, Entry};
+use std::alloc::Global;
 use std::process::Abort;
 
 pub fn entry(thread: u32, local: u32, shared: Option<Act>) -> Entry {
@@ -13,18 +14,19 @@ pub fn entry(thread: u32, local: u32, shared: Option<Act>) -> Entry {
     }
 }
 
-// Whether entries of threads 1 and 2 are independent, behind a spawn and a send of thread 0: the next thread is 2, the next message 1.
-fn are(first: Option<Act>, second: Option<Act>) -> bool {
+// Whether entries of threads 3 and 2 change places, behind a spawn and a send of thread 0: the next thread is 2, the next message 1.
+fn change(rt: &impl Abort, alloc: Global, first: Option<Act>, second: Option<Act>) -> bool {
     let entries = [
         entry(0, 1, Some(Act::Spawn)),
         entry(0, 0, Some(Act::Send)),
-        entry(1, 0, first),
+        entry(3, 0, first),
         entry(2, 3, second),
     ];
-    independent(&entries, 2)
+    let ordered = order(alloc, &entries).expect(rt, "memory");
+    ordered.len() == 4 && ordered[2].thread == 2
 }
 
-pub fn pairs_are_independent_or_not(rt: &impl Abort) {
+pub fn pairs_change_places_or_stay(rt: &impl Abort, alloc: Global) {
     let pairs = [
         (None, None, true),
         // A free touches all that names its mailbox.
@@ -48,20 +50,28 @@ pub fn pairs_are_independent_or_not(rt: &impl Abort) {
         (Some(Act::Receive(1)), Some(Act::Send), true),
     ];
     for (first, second, wanted) in pairs {
-        check(rt, are(first, second) == wanted);
+        check(rt, change(rt, alloc, first, second) == wanted);
     }
 }
 
-pub fn of_one_thread_or_of_another_than_is_made(rt: &impl Abort) {
-    check(rt, !independent(&[entry(1, 1, None), entry(1, 1, None)], 0));
-    let spawning = [entry(1, 1, Some(Act::Spawn)), entry(3, 1, None)];
-    check(rt, independent(&spawning, 0));
-}
-
-pub fn a_pair_is_exchanged(rt: &impl Abort) {
-    let mut two = [entry(1, 0, None), entry(2, 3, Some(Act::End))];
-    if independent(&two, 0) {
-        exchange(&mut two, 0);
+// Two entries, and what stands first in the end.
+pub fn two_in_order(rt: &impl Abort, alloc: Global) {
+    let early = entry(1, 0, None);
+    let late = entry(1, 1, None);
+    let ending = entry(2, 3, Some(Act::End));
+    let spawning = entry(3, 1, Some(Act::Spawn));
+    let pairs = [
+        // Of one thread.
+        (late, early, late),
+        (early, late, early),
+        // The lesser thread is first already.
+        (early, ending, early),
+        (ending, early, early),
+        // It makes another thread than the one that goes on.
+        (spawning, ending, ending),
+    ];
+    for (first, second, wanted) in pairs {
+        let ordered = order(alloc, &[first, second]).expect(rt, "memory");
+        check(rt, ordered.len() == 2 && ordered[0] == wanted);
     }
-    check(rt, two[0].thread == 2 && two[1].thread == 1);
 }

@@ -1,9 +1,7 @@
-use Rattle.std.proofs.Common.{◌≤◌, length, map, sym, ap, subst, arith}
+use Rattle.std.proofs.Common.{◌≤◌, length, map, sym, subst, arith}
 use Rattle.std.proofs.lemmas.List.{length-map}
 use Rattle.pat_core.specs.Views.{program_view}
-use Rattle.pat_semantics_spec.specs.Runs.{IsHistory}
 use Rattle.pat_reduce.specs.Views.{config_view, entry_view}
-use Rattle.pat_causal_spec.specs.Reordered.{IsReordered}
 use Rattle.pat_causal_laws.proofs.Histories.{leads_history}
 use Rattle.pat_command_order.proofs.Answering.{leads_length, ordered_is}
 use Rattle.pat_command_order.proofs.command.shown.Goals as goal
@@ -11,15 +9,15 @@ use Rattle.pat_limits.specs.Limits.{most_entries}
 
 pub order_text_of-requires-clause-history : goal.order_text_of-requires-clause-history
 order_text_of-requires-clause-history c =
-    subst (λ l. IsHistory (map entry_view l)) (sym c.deref.ensures.value)
-    (leads_history c.args.reordered.now.places.items (map entry_view c.args.replayed.now.entries.items) (map entry_view c.args.reordered.now.entries.items) c.requires.reordered.led c.requires.history)
+    let order = c.requires.ordered in
+    leads_history order.places (map entry_view c.args.replayed.now.entries.items) (map entry_view c.args.ordered.now) order.reordered.led c.requires.history
 
 pub order_text_of-requires-clause-few : goal.order_text_of-requires-clause-few
 order_text_of-requires-clause-few c =
     let few : length c.args.replayed.now.entries.items ≤ most_entries = c.requires.few in
-    let same = ap length c.deref.ensures.value in
-    let led = leads_length c.args.reordered.now.places.items (map entry_view c.args.replayed.now.entries.items) (map entry_view c.args.reordered.now.entries.items) c.requires.reordered.led in
-    let a = length-map c.args.reordered.now.entries.items entry_view in
+    let order = c.requires.ordered in
+    let led = leads_length order.places (map entry_view c.args.replayed.now.entries.items) (map entry_view c.args.ordered.now) order.reordered.led in
+    let a = length-map c.args.ordered.now entry_view in
     let b = length-map c.args.replayed.now.entries.items entry_view in
     omega arith
 
@@ -27,6 +25,5 @@ pub returns : goal.returns
 returns c = λ bytes replays.
     let r = c.args.replayed.now in
     let few : length (map entry_view r.entries.items) ≤ most_entries = subst (λ n. n ≤ most_entries) (sym (length-map r.entries.items entry_view)) c.requires.few in
-    let reordered = subst (λ l. IsReordered (map entry_view r.entries.items) (map entry_view l) c.args.reordered.now.places.items) (sym c.deref.ensures.value) c.requires.reordered in
     let text = c.in_ok-text.ensures (config_view r.config) (sym c.as_slice-printed.ensures) (sym c.in_ok-remains.ensures) in
-    ordered_is bytes (program_view r.code.program) (map entry_view r.entries.items) (config_view r.config) replays (map entry_view c.deref.result.now) c.args.reordered.now.places.items _ c.in_ok-text.text.items few reordered c.standing_of-standing.ensures text
+    ordered_is bytes (program_view r.code.program) (map entry_view r.entries.items) (config_view r.config) replays (map entry_view c.args.ordered.now) _ c.in_ok-text.text.items few c.requires.ordered c.standing_of-standing.ensures text
