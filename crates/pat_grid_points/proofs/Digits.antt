@@ -3,9 +3,12 @@ use Rattle.std.proofs.Common.{◌≡◌, ℕ, zero, suc, ◌+◌, ◌-◌, ◌*�
 use Rattle.std.specs.Prelude.{nat_eq, nat_le}
 use Rattle.std.proofs.lemmas.Bool.{and_parts, leb-true, cases_eq, cases_lt, cond-true, cond-false, eq-eqb, ne_eqb}
 use Rattle.std.proofs.lemmas.List.{get_or-set_same, get_or-set_other, get_or-replicate, length-replicate, get_or_past}
-use Rattle.std.proofs.Math.Nat.{pow-le-pow_right, pow-le-pow_left, pow-suc, mul_comm, mul_assoc, add-mul, mul-le-mul_left, one-le-pow, zero-div, zero-mod}
+use Rattle.std.proofs.Math.Nat.{pow-le-pow_right, pow-le-pow_left, pow-suc, mul_comm, mul_assoc, add-mul, mul-le-mul_left, one-le-pow, zero-div, zero-mod, mod-lt}
+use Rattle.std.proofs.lemmas.Nat.{div-add-mod', div-mul-add, mod-mul-add}
+use mathlib.Core.Path.{fun_ext}
 use Rattle.pat_words_spec.specs.Words.{Word, plus}
 use Rattle.pat_words_spec.specs.Cuts.{cut_at}
+use Rattle.pat_bags.specs.Views.{counted}
 use Rattle.pat_inclusion_spec.specs.Points.{grid_fits}
 use Rattle.pat_inclusion_spec.specs.bounds.Numbers.{points_in, number_of, point_of}
 use Rattle.pat_inclusion_laws.proofs.NumberLaws.{number_below, point_counts, point_fits, point_number}
@@ -84,15 +87,75 @@ one_written k n number m rest counts h =
         let s = h.sums t in
         omega arith
 
+-- ---- the point behind another
+
+last_digit : (k m c : ℕ) → point_of k (suc m) c m ≡ c % (k + 1)
+last_digit k m c = cond-true (nat_eq m m) (c % (k + 1)) (point_of k m (c / (k + 1)) m) (eq-eqb m m refl)
+
+-- only the last digit is another, unless it begins anew
+next_digit : (b c : ℕ) → 0 < b → ((c + 1) % b ≡ 0 → ⊥) → c % b + 1 < b
+next_digit b c l more =
+    let all = div-add-mod' c b in
+    let low : c % b < b = mod-lt c {m = b} l in
+    let one = add-mul (c / b) 1 b in
+    ⊎_elim (λ less. less)
+    (λ ge. absurd (more (ap (λ i. i % b) (let e : c + 1 ≡ (c / b + 1) * b + 0 = omega arith in e) ∙ mod-mul-add (c / b + 1) b 0 l)))
+    (cases_lt (c % b + 1) b)
+
+module _ (k m number : ℕ) (counts : List ℕ) (more : number % (k + 1) ≡ 0 → ⊥) (before : (c : ℕ) → number ≡ c + 1 → counted counts ≡ point_of k (suc m) c) where
+  past_none : 0 < number
+  past_none = ⊎_elim (λ l. l) (λ l. absurd (more (ap (λ i. i % (k + 1)) (let e : number ≡ 0 = omega arith in e) ∙ zero-mod (k + 1)))) (cases_lt 0 number)
+
+  abbrev c : ℕ
+  c = number - 1
+
+  follows : number ≡ c + 1
+  follows = let l = past_none in omega arith
+
+  stays_low : c % (k + 1) + 1 < k + 1
+  stays_low = next_digit (k + 1) c (omega arith) (λ e. more (ap (λ i. i % (k + 1)) follows ∙ e))
+
+  parts : number ≡ c / (k + 1) * (k + 1) + (c % (k + 1) + 1)
+  parts = let all = div-add-mod' c (k + 1) in let e = follows in omega arith
+
+  last_grows : number % (k + 1) ≡ c % (k + 1) + 1
+  last_grows = ap (λ i. i % (k + 1)) parts ∙ mod-mul-add (c / (k + 1)) (k + 1) (c % (k + 1) + 1) stays_low
+
+  others_stay : number / (k + 1) ≡ c / (k + 1)
+  others_stay = ap (λ i. i / (k + 1)) parts ∙ div-mul-add (c / (k + 1)) (k + 1) (c % (k + 1) + 1) stays_low
+
+  count_before : (t : ℕ) → get_or counts t 0 ≡ point_of k (suc m) c t
+  count_before t = ap (λ (w : Word). w t) (before c follows)
+
+  pub last_small : get_or counts m 0 + 1 ≤ k
+  last_small = let e = count_before m ∙ last_digit k m c in let l = stays_low in omega arith
+
+  pub point_next : m < length counts → counted (set counts m (get_or counts m 0 + 1)) ≡ point_of k (suc m) number
+  point_next l = fun_ext (λ t. ⊎_elim (here t) (other t) (cases_eq t m))
+    where
+      here : (t : ℕ) → t ≡ m → get_or (set counts m (get_or counts m 0 + 1)) t 0 ≡ point_of k (suc m) number t
+      here t e =
+          ap (λ i. get_or (set counts m (get_or counts m 0 + 1)) i 0) e
+          ∙ get_or-set_same counts m (get_or counts m 0 + 1) 0 l
+          ∙ ap (λ i. i + 1) (count_before m ∙ last_digit k m c)
+          ∙ sym last_grows
+          ∙ sym (last_digit k m number)
+          ∙ ap (point_of k (suc m) number) (sym e)
+
+      other : (t : ℕ) → (t ≡ m → ⊥) → get_or (set counts m (get_or counts m 0 + 1)) t 0 ≡ point_of k (suc m) number t
+      other t d =
+          get_or-set_other counts m t (get_or counts m 0 + 1) 0 d
+          ∙ count_before t
+          ∙ cond-false (nat_eq t m) (c % (k + 1)) (point_of k m (c / (k + 1)) t) (ne_eqb t m d)
+          ∙ ap (λ i. point_of k m i t) (sym others_stay)
+          ∙ sym (cond-false (nat_eq t m) (number % (k + 1)) (point_of k m (number / (k + 1)) t) (ne_eqb t m d))
+
 -- ---- sums of points
 
 number_same : (k n : ℕ) (u v : Word) → ((t : ℕ) → t < n → u t ≡ v t) → number_of k n u ≡ number_of k n v
 number_same k zero u v h = refl
 number_same k (suc n) u v h =
     ap₂ (λ x y. x * (k + 1) + y) (number_same k n u v (λ t l. h t (omega arith))) (h n (omega arith))
-
-last_digit : (k m c : ℕ) → point_of k (suc m) c m ≡ c % (k + 1)
-last_digit k m c = cond-true (nat_eq m m) (c % (k + 1)) (point_of k m (c / (k + 1)) m) (eq-eqb m m refl)
 
 first_digits : (k m c t : ℕ) → t < m → point_of k (suc m) c t ≡ point_of k m (c / (k + 1)) t
 first_digits k m c t l =

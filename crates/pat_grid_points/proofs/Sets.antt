@@ -9,7 +9,7 @@ use Rattle.pat_bags.specs.Views.{word_of}
 use Rattle.pat_inclusion_spec.specs.bounds.CutSets.{IsPoint}
 use Rattle.pat_inclusion_spec.specs.bounds.Numbers.{points_in, number_of, point_of}
 use Rattle.pat_inclusion_laws.proofs.NumberLaws.{number_below, number_point, number_small, point_fits, point_number}
-use Rattle.pat_grid_points.specs.Views.{held_from}
+use Rattle.pat_grid_points.specs.Views.{held_from, points_from, points_between}
 
 -- a point of the set
 abbrev pub In : ℕ → ℕ → List Bool → Word → Type 0
@@ -79,17 +79,39 @@ held_next k n c to held l within none =
     held_skip k n c (to - c) held (omega arith) (λ d a b. none d a (omega arith))
     ∙ ap (λ i. held_from k n i (drop i held)) e
 
--- the points from number c on: that of c, which is there, and the others
-pub held_turn : (k n c to : ℕ) (held : List Bool) (old new : List Bag) (b : Bag) → c < length held → get_or held c false ≡ true → new ≡ old ++ b ∷ [] → word_of b ≡ point_of k n c → c + 1 ≤ to → to ≤ length held → ((d : ℕ) → c + 1 ≤ d → d < to → get_or held d false ≡ false) → map word_of new ++ held_from k n to (drop to held) ≡ map word_of old ++ held_from k n c (drop c held)
-held_turn k n c to held old new b l h e w past within none =
-    ap (λ bags. map word_of bags ++ held_from k n to (drop to held)) e
-    ∙ ap (λ ws. ws ++ held_from k n to (drop to held)) (map-append word_of old (b ∷ []))
-    ∙ append_assoc (map word_of old) (word_of b ∷ []) (held_from k n to (drop to held))
-    ∙ ap (λ u. map word_of old ++ u ∷ held_from k n to (drop to held)) w
-    ∙ ap (λ us. map word_of old ++ point_of k n c ∷ us) (sym (held_next k n (c + 1) to held past within none))
-    ∙ ap (λ i. map word_of old ++ point_of k n c ∷ held_from k n i (drop (c + 1) held)) (let s : c + 1 ≡ suc c = omega arith in s)
-    ∙ ap (λ t. map word_of old ++ held_from k n c (t ∷ drop (c + 1) held)) (sym h)
-    ∙ ap (λ x. map word_of old ++ held_from k n c x) (sym (drop_more held c false l))
+-- the points of a run of numbers that are all held come first
+run_first : (k n c m : ℕ) (held : List Bool) → c + m ≤ length held → ((d : ℕ) → c ≤ d → d < c + m → get_or held d false ≡ true) → held_from k n c (drop c held) ≡ points_from k n c m ++ held_from k n (c + m) (drop (c + m) held)
+run_first k n c zero held l all = ap (λ i. held_from k n i (drop i held)) (let e : c ≡ c + 0 = omega arith in e)
+run_first k n c (suc m) held l all =
+    ap (held_from k n c) (drop_more held c false (omega arith))
+    ∙ ap (λ b. held_from k n c (b ∷ drop (c + 1) held)) (all c (omega arith) (omega arith))
+    ∙ ap (λ i. point_of k n c ∷ held_from k n (suc c) (drop i held)) (let e : c + 1 ≡ suc c = omega arith in e)
+    ∙ ap (λ ws. point_of k n c ∷ ws) (run_first k n (suc c) m held (omega arith) (λ d a b. all d (omega arith) (omega arith)))
+    ∙ ap (λ i. points_from k n c (suc m) ++ held_from k n i (drop i held)) (let e : suc c + m ≡ c + suc m = omega arith in e)
+
+-- the points from number c on: those of a run, which are there, and the others
+pub held_turn : (k n c end to : ℕ) (held : List Bool) (old new : List Bag) → c ≤ end → end ≤ length held → ((d : ℕ) → c ≤ d → d < end → get_or held d false ≡ true) → map word_of new ≡ map word_of old ++ points_between k n c end → end ≤ to → to ≤ length held → ((d : ℕ) → end ≤ d → d < to → get_or held d false ≡ false) → map word_of new ++ held_from k n to (drop to held) ≡ map word_of old ++ held_from k n c (drop c held)
+held_turn k n c end to held old new l room all e past within none =
+    let is : c + (end - c) ≡ end = omega arith in
+    ap (λ ws. ws ++ held_from k n to (drop to held)) e
+    ∙ append_assoc (map word_of old) (points_between k n c end) (held_from k n to (drop to held))
+    ∙ ap (λ us. map word_of old ++ (points_between k n c end ++ us)) (sym (held_next k n end to held past within none))
+    ∙ ap (λ us. map word_of old ++ us)
+    (ap (λ i. points_between k n c end ++ held_from k n i (drop i held)) (sym is)
+    ∙ sym (run_first k n c (end - c) held (omega arith) (λ d a b. all d a (omega arith))))
+
+-- one of a run of points is listed
+pub run_turn : (k n c to : ℕ) (old new : List Bag) (b : Bag) → c < to → new ≡ old ++ b ∷ [] → word_of b ≡ point_of k n c → map word_of new ++ points_between k n (c + 1) to ≡ map word_of old ++ points_between k n c to
+run_turn k n c to old new b l e w =
+    let next : to - c ≡ suc (to - (c + 1)) = omega arith in
+    let follows : c + 1 ≡ suc c = omega arith in
+    let rest = points_between k n (c + 1) to in
+    ap (λ bags. map word_of bags ++ rest) e
+    ∙ ap (λ ws. ws ++ rest) (map-append word_of old (b ∷ []))
+    ∙ append_assoc (map word_of old) (word_of b ∷ []) rest
+    ∙ ap (λ u. map word_of old ++ u ∷ rest) w
+    ∙ ap (λ i. map word_of old ++ point_of k n c ∷ points_from k n i (to - (c + 1))) follows
+    ∙ ap (λ m. map word_of old ++ points_from k n c m) (sym next)
 
 pub held_all : (k n c : ℕ) (held : List Bool) (words : List Word) → length held ≤ c → words ++ held_from k n c (drop c held) ≡ words
 held_all k n c held words l = ap (λ x. words ++ held_from k n c x) (drop_all c held l) ∙ append-nil words

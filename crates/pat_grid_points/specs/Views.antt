@@ -1,5 +1,5 @@
 -- Grids as the definitions see them.
-use Rattle.std.specs.Prelude.{◌≡◌, ℕ, suc, Bool, true, false, List, [], ◌∷◌, IsTrue, slice_index_or}
+use Rattle.std.specs.Prelude.{◌≡◌, ◌-◌, ℕ, zero, suc, Bool, true, false, List, [], ◌∷◌, IsTrue, slice_index_or}
 use Rattle.pat_words_spec.specs.Words.{Word, plus}
 use Rattle.pat_words_spec.specs.Cuts.{cut_at}
 use Rattle.pat_inclusion_spec.specs.bounds.CutSets.{IsPoint}
@@ -23,6 +23,15 @@ held_from k n c (false ∷ held) = held_from k n (suc c) held
 -- the points of the grid, ascending
 abbrev pub points_of : Grid → List Word
 points_of g = held_from g.k g.tags 0 g.held
+
+-- so many points, from that with number c on
+abbrev pub points_from : ℕ → ℕ → ℕ → ℕ → List Word
+points_from k n c zero = []
+points_from k n c (suc count) = point_of k n c ∷ points_from k n (suc c) count
+
+-- the points with the numbers from one on, up to another that isn't of them
+abbrev pub points_between : ℕ → ℕ → ℕ → ℕ → List Word
+points_between k n from to = points_from k n from (to - from)
 
 -- the number of the sum of the points with these numbers
 abbrev pub summed : ℕ → ℕ → ℕ → ℕ → ℕ

@@ -1,10 +1,11 @@
 // What a grid has.
-ghost use Rattle.std.specs.Prelude.{◌≡◌, ◌↔◌, ◌<◌, ◌≤◌, ℕ, true, false, length, get_or, IsTrue, IfSome, IfNone, IfOk, map};
+ghost use Rattle.std.specs.Prelude.{◌≡◌, ◌↔◌, ◌<◌, ◌≤◌, ◌+◌, ◌++◌, ℕ, true, false, length, get_or, IsTrue, IfSome, IfNone, IfOk, OnOk, map};
 ghost use Rattle.pat_words_spec.specs.Words.{Word};
 ghost use Rattle.pat_words_spec.specs.Cuts.{cut_at};
 ghost use Rattle.pat_bags.specs.Views.{word_of};
 ghost use Rattle.pat_inclusion_spec.specs.Points.{points_fit};
-ghost use Rattle.pat_grid_points.specs.Views.{HasPoint, points_of, IsLike};
+ghost use Rattle.pat_inclusion_spec.specs.bounds.Numbers.{point_of};
+ghost use Rattle.pat_grid_points.specs.Views.{HasPoint, points_of, points_between, IsLike};
 
 use crate::grid::Grid;
 use crate::numbers::{bag_of, number_of};
@@ -37,7 +38,7 @@ impl Grid {
             if !other.held.get(number) {
                 return Some(bag_of(number, self.k, self.tags));
             }
-            number = next_held(&self.held, number + 1);
+            number = next_held(&self.held, other.held.same_until(number));
         }
         None
     }
@@ -51,10 +52,36 @@ impl Grid {
         let mut bags = Sequence::new(alloc);
         let mut number = next_held(&self.held, 0);
         while number < self.held.len() {
-            bags.push(bag_of(number, self.k, self.tags))?;
-            number = next_held(&self.held, number + 1);
+            let end = self.held.same_until(number);
+            self.list_run(number, end, &mut bags)?;
+            number = next_held(&self.held, end);
         }
         Ok(bags)
+    }
+
+    /// Appends the points with the numbers `from..to`.
+    fn list_run(&self, from: usize, to: usize, bags: &mut Sequence<Bag>) -> Result<(), AllocError>
+        ensures { OnOk result (map word_of bags.new ≡ map word_of bags.old ++ points_between self.now.k self.now.tags from to) }
+    {
+        let mut bag = bag_of(from, self.k, self.tags);
+        for number in from..to {
+            bags.push(bag)?;
+            bag = self.point_behind(&bag, number + 1);
+        }
+        Ok(())
+    }
+
+    /// The point with the number, from the one before it: mostly only the last digit differs.
+    fn point_behind(&self, before: &Bag, number: usize) -> Bag
+        requires { (c : ℕ) → number ≡ c + 1 → word_of before.now ≡ point_of self.now.k self.now.tags c }
+        ensures { word_of result ≡ point_of self.now.k self.now.tags number }
+    {
+        if self.tags == 0 || number % (self.k as usize + 1) == 0 {
+            return bag_of(number, self.k, self.tags);
+        }
+        let mut counts = before.counts;
+        counts[self.tags as usize - 1] += 1;
+        Bag { counts }
     }
 }
 

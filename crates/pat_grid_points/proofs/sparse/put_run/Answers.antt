@@ -1,4 +1,4 @@
-use Rattle.std.proofs.Common.{◌≡◌, ◌+◌, ◌*◌, ◌-◌, sym, subst, arith}
+use Rattle.std.proofs.Common.{◌≡◌, ◌+◌, ◌*◌, ◌-◌, subst, arith}
 use Rattle.pat_grid_points.specs.Sparse.{IsFilled}
 use Rattle.pat_grid_points.proofs.InBlocks.{filled_none, filled_one, filled_more}
 use Rattle.pat_grid_points.proofs.sparse.put_run.Goals as goal

@@ -1,4 +1,4 @@
-use Rattle.std.proofs.Common.{◌<◌, ◌≤◌, ◌∙◌, ◌++◌, ap, sym, map, length, drop, arith}
+use Rattle.std.proofs.Common.{◌≤◌, false, ◌∙◌, ◌++◌, ap, sym, map, length, drop, arith}
 use Rattle.pat_bags.specs.Views.{word_of}
 use Rattle.pat_grid_points.specs.Views.{held_from}
 use Rattle.pat_grid_points.proofs.Sets.{held_all, held_next, held_turn}
@@ -20,14 +20,15 @@ pub loop-number-preserved : goal.loop-number-preserved
 loop-number-preserved c =
     let s = c.args.self.now in
     let number = c.loop-number.number in
-    let to = c.next_held-number-in-loop-number.result in
-    let next = c.next_held-number-in-loop-number.ensures in
     let below = c.loop-number-test.true in
     let count = c.len.ensures in
-    let l : number < length s.held = omega arith in (
+    let here = c.loop-number.invariant.1 (omega arith) in
+    let run = c.same_until-end.ensures in
+    let past = run.past in
+    let next = c.next_held-number-in-loop-number.ensures in (
       next.within,
       next.there,
-      held_turn s.k s.tags number to s.held c.loop-number.bags c.push.new.self c.bag_of.result l (c.loop-number.invariant.1 l) c.in_ok-push.ensures.ok c.bag_of.ensures next.from next.within next.before
+      held_turn s.k s.tags number c.same_until-end.result c.next_held-number-in-loop-number.result s.held c.loop-number.bags c.list_run.new.bags (omega arith) run.within (λ d a b. run.same d false a b ∙ here) c.in_ok-list_run.ensures next.from next.within next.before
           ∙ c.loop-number.invariant.2,
     )
 

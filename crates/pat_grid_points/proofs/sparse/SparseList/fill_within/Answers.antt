@@ -1,4 +1,4 @@
-use Rattle.std.proofs.Common.{◌+◌, ◌*◌, ◌/◌, ◌%◌, ap, sym, ◌∙◌, subst, get_or, arith}
+use Rattle.std.proofs.Common.{◌+◌, ◌*◌, ◌/◌, ◌%◌, ap, sym, ◌∙◌, subst, arith}
 use Rattle.pat_grid_points.specs.Sparse.{sparse, IsFilled}
 use Rattle.pat_grid_points.proofs.InBlocks.{list_count, run_filled}
 use Rattle.pat_grid_points.proofs.sparse.SparseList.fill_within.Goals as goal

@@ -1,4 +1,4 @@
-use Rattle.std.proofs.Common.{◌+◌, ◌*◌, ◌/◌, ◌%◌, ap, sym, ◌∙◌, get_or, set, arith}
+use Rattle.std.proofs.Common.{◌+◌, ◌*◌, ◌%◌, ap, sym, ◌∙◌, set, arith}
 use Rattle.pat_grid_points.specs.Sparse.{sparse}
 use Rattle.pat_grid_points.proofs.InBlocks.{list_count, list_block, written_set}
 use Rattle.pat_grid_points.proofs.sparse.SparseList.set.Goals as goal
