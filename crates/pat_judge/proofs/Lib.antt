@@ -4,4 +4,5 @@ mod FirstBad
 mod Counted
 mod Shaped
 mod Scoped
+mod Settled
 mod Sound

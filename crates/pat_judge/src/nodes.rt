@@ -20,12 +20,13 @@ use pat_core::{Function, Node, Program};
 use pat_derivation_rules::Rule;
 use pat_derivations::{Derivation, DerivedNode};
 use pat_judge_nodes::{
-    Demand, demands, drops_well, has_no_alias, names_in_scope, payloads_stand_apart, uses_well,
+    Demand, demands, drops_well, from_open, has_no_alias, names_in_scope, payloads_stand_apart,
+    uses_well,
 };
 use std::alloc::{AllocError, Global};
 
 /// The first broken rule of those behind Alias, where the node has these demands.
-#[tactic(auto, using(crate::proofs::Breaking::breaks_use, crate::proofs::Breaking::breaks_drop, crate::proofs::Breaking::breaks_payload, crate::proofs::Breaking::breaks_covers, crate::proofs::Breaking::breaks_cert, crate::proofs::Breaking::breaks_none))]
+#[tactic(auto, using(crate::proofs::Breaking::breaks_use, crate::proofs::Breaking::breaks_drop, crate::proofs::Breaking::breaks_payload, crate::proofs::Breaking::breaks_covers, crate::proofs::Breaking::breaks_cert, crate::proofs::Breaking::breaks_none, crate::proofs::Settled::used_alike, crate::proofs::Settled::dropped_alike))]
 fn broken_by(
     alloc: Global,
     program: &Program,
@@ -47,10 +48,11 @@ fn broken_by(
         ≡ after_alias (program_view program.now) (derivation_view derivation.now)
         (place number (node_view node.now) (function_view function.now) (line_view line.now))) }
 {
-    if !uses_well(demands) {
+    let open = from_open(program, derivation, demands);
+    if !uses_well(open) {
         return Ok(Some(Rule::Use));
     }
-    if !drops_well(program, derivation, &tables.tests, demands) {
+    if !drops_well(program, derivation, &tables.tests, open) {
         return Ok(Some(Rule::Drop));
     }
     if !payloads_stand_apart(program, derivation, number, node, function, line) {
@@ -61,7 +63,7 @@ fn broken_by(
     }
     let plain = tables.plain.as_slice();
     let certs = line.certs.as_slice();
-    if are_shown(alloc, program, derivation, plain, demands, certs)? {
+    if are_shown(alloc, program, derivation, plain, open, certs)? {
         Ok(None)
     } else {
         Ok(Some(Rule::Cert))

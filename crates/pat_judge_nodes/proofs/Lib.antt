@@ -1,5 +1,6 @@
 mod Above
 mod Differing
 mod Lookups
+mod Settled
 mod Tables
 mod Walks

@@ -8,5 +8,6 @@ mod uses;
 pub use drops::drops_well;
 pub use scopes::{in_scope, names_in_scope, nodes_above};
 pub use uses::{
-    Demand, Signature, demands, has_no_alias, payloads_stand_apart, signatures, uses_well,
+    Demand, Signature, demands, from_open, has_no_alias, payloads_stand_apart, signatures,
+    uses_well,
 };

@@ -3,9 +3,11 @@
 
 mod alias;
 mod payloads;
+mod settled;
 mod uses;
 
 pub use alias::has_no_alias;
 pub use pat_obligations::{Demand, Signature, demands, signatures};
 pub use payloads::payloads_stand_apart;
+pub use settled::from_open;
 pub use uses::uses_well;

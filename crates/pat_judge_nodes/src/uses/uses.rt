@@ -99,7 +99,7 @@ fn is_of_type(term: &TypeOf, variable: &MailboxType) -> bool
 }
 
 /// Whether polarity and usage fit.
-fn fits(given: &MailboxType, asked: &MailboxType) -> bool
+pub fn fits(given: &MailboxType, asked: &MailboxType) -> bool
     ensures { result ≡ uses_fit (type_view given.now) (type_view asked.now) }
 {
     same_polarity(given.polarity, asked.polarity) && usage_fits(given.usage, asked.usage)
