@@ -13,8 +13,9 @@ ghost use Rattle.pat_types.specs.Views.{needs_view};
 ghost use Rattle.pat_derivations.specs.Views.{derivation_view};
 ghost use Rattle.pat_certificate_values.specs.Tested.{IsTested};
 
-use crate::shape::shape::{names_are_well, names_mailbox};
-use crate::shape::words::needs_have_words;
+use crate::shape::shape::names_mailbox;
+use crate::shape::starting::both;
+use crate::shape::words::has_a_word;
 use pat_certificate_values::{Tests, has_word, is_formed, tag_count};
 use pat_core::{Function, Program};
 use pat_derivations::Derivation;
@@ -31,7 +32,7 @@ pub struct NeedsTests {
     pub have_words: bool,
 }
 
-/// Tests them. Mostly all is well, and one walk along each pattern is enough.
+/// Tests them.
 pub fn tested_needs(
     program: &Program,
     derivation: &Derivation,
@@ -46,44 +47,44 @@ pub fn tested_needs(
     ensures words { result.have_words ≡ list_all (λ e. has_a_word_of
         (scope_of (program_view program.now) (derivation_view derivation.now)) e.1.polarity e.1.pattern) (needs_view env.now) }
 {
-    if are_sound(program, derivation, tests, function, env) {
-        return NeedsTests {
-            are_well: true,
-            have_words: true,
-        };
+    let mut are_well = true;
+    let mut have_words = true;
+    for (variable, of) in env {
+        let named = names_mailbox(function.vars.as_slice(), *variable, of.interface);
+        let own = tested_type(program, derivation, tests, of);
+        are_well = both(are_well, both(named, own.are_well));
+        have_words = both(have_words, own.have_words);
     }
-    let are_well = names_are_well(program, derivation, function, env);
-    let have_words = needs_have_words(program, derivation, tests, env);
     NeedsTests {
         are_well,
         have_words,
     }
 }
 
-/// Whether they fulfil both.
-fn are_sound(
+/// So of one type, but for what its variable names. Mostly all is well, and one walk along the pattern is enough.
+#[inline(always)]
+fn tested_type(
     program: &Program,
     derivation: &Derivation,
     tests: &Tests,
-    function: &Function,
-    env: &[(u32, MailboxType)],
-) -> bool
+    of: &MailboxType,
+) -> NeedsTests
     requires { IsTested (scope_of (program_view program.now) (derivation_view derivation.now)) tests.now }
-    ensures well { IsTrue result → list_all (λ e. is_mailbox_of e.1.interface (slice_get (function_view function.now).vars e.0)
-        && is_formed_of (scope_of (program_view program.now) (derivation_view derivation.now)) e.1.interface e.1.pattern)
-        (needs_view env.now) ≡ true }
-    ensures words { IsTrue result → list_all (λ e. has_a_word_of
-        (scope_of (program_view program.now) (derivation_view derivation.now)) e.1.polarity e.1.pattern) (needs_view env.now) ≡ true }
+    ensures well { result.are_well ≡ is_formed_of (scope_of (program_view program.now) (derivation_view derivation.now))
+        of.now.interface (pattern_view of.now.pattern) }
+    ensures words { result.have_words ≡ has_a_word_of (scope_of (program_view program.now) (derivation_view derivation.now))
+        (polarity_view of.now.polarity) (pattern_view of.now.pattern) }
 {
-    for (variable, of) in env {
-        if !names_mailbox(function.vars.as_slice(), *variable, of.interface) {
-            return false;
-        }
-        if !is_sound(program, derivation, tests, of) {
-            return false;
-        }
+    if is_sound(program, derivation, tests, of) {
+        return NeedsTests {
+            are_well: true,
+            have_words: true,
+        };
     }
-    true
+    NeedsTests {
+        are_well: is_formed(program, derivation, of.interface, &of.pattern),
+        have_words: has_a_word(program, derivation, tests, of.polarity, &of.pattern),
+    }
 }
 
 /// Whether the type's pattern is one of its interface, and has a word where it is a sending one.

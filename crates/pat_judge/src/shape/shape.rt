@@ -22,7 +22,7 @@ use pat_core::{Clause, Core, Function, Kind, Node, Program};
 use pat_derivations::{Derivation, DerivedNode, ascends};
 use pat_obligations::{Signature, kind_of, line_of, signature_of};
 use pat_primitives::Base;
-use pat_types::{MailboxType, TypeOf};
+use pat_types::TypeOf;
 
 /// Whether the type of a term has the kind.
 fn has_kind(of: &TypeOf, kind: Kind) -> bool
@@ -52,49 +52,6 @@ pub fn names_mailbox(kinds: &[Kind], variable: u32, interface: u32) -> bool
         None => false,
         Some(kind) => same_kind(*kind, Kind::Mailbox(interface)),
     }
-}
-
-/// Whether the variables of the function name mailboxes of the interfaces of their types, and the patterns are ones of them.
-pub fn names_are_well(
-    program: &Program,
-    derivation: &Derivation,
-    function: &Function,
-    env: &[(u32, MailboxType)],
-) -> bool
-    ensures { result ≡ list_all (λ e. is_mailbox_of e.1.interface (slice_get (function_view function.now).vars e.0)
-        && is_formed_of (scope_of (program_view program.now) (derivation_view derivation.now)) e.1.interface e.1.pattern)
-        (needs_view env.now) }
-{
-    for (variable, of) in env {
-        if !(names_mailbox(function.vars.as_slice(), *variable, of.interface)
-            && is_formed(program, derivation, of.interface, &of.pattern))
-        {
-            return false;
-        }
-    }
-    true
-}
-
-/// Whether the variables are in scope at the node, and name mailboxes of the interfaces of their types, with patterns of them.
-fn are_named_well(
-    program: &Program,
-    derivation: &Derivation,
-    names_are_in_scope: bool,
-    names_are_well: bool,
-    number: usize,
-    node: &Node,
-    function: &Function,
-    env: &[(u32, MailboxType)],
-) -> bool
-    requires node { node_at (program_view program.now) number ≡ Some (node_view node.now) }
-    requires function { function_at (program_view program.now) node.now.function ≡ Some (function_view function.now) }
-    requires scope { names_are_in_scope ≡ list_all (λ e. is_in_scope (program_view program.now) number e.0) (needs_view env.now) }
-    requires well { names_are_well ≡ list_all (λ e. is_mailbox_of e.1.interface (slice_get (function_view function.now).vars e.0)
-        && is_formed_of (scope_of (program_view program.now) (derivation_view derivation.now)) e.1.interface e.1.pattern)
-        (needs_view env.now) }
-    ensures { result ≡ list_all (is_named_well (program_view program.now) (derivation_view derivation.now) number) (needs_view env.now) }
-{
-    both(names_are_in_scope, names_are_well)
 }
 
 fn type_is_formed(program: &Program, derivation: &Derivation, of: &TypeOf) -> bool
@@ -227,16 +184,7 @@ pub fn has_shape(
     let of = &line.of.result;
     let kind = has_kind(of, node.kind);
     let order = ascends(env);
-    let names = are_named_well(
-        program,
-        derivation,
-        names_are_in_scope,
-        names_are_well,
-        number,
-        node,
-        function,
-        env,
-    );
+    let names = both(names_are_in_scope, names_are_well);
     let formed = type_is_formed(program, derivation, of);
     let tails = tails_agree(derivation, of, &node.core);
     let first = first_agrees(

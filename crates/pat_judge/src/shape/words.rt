@@ -24,7 +24,7 @@ use pat_primitives::Polarity;
 use pat_types::{MailboxType, TypeOf};
 
 /// Whether the pattern, if it is a sending one, has a word.
-fn has_a_word(
+pub fn has_a_word(
     program: &Program,
     derivation: &Derivation,
     tests: &Tests,
@@ -93,25 +93,6 @@ fn params_have_words(
                 }
                 rest = more;
             }
-        }
-    }
-    true
-}
-
-/// Whether each variable's sending pattern has a word.
-pub fn needs_have_words(
-    program: &Program,
-    derivation: &Derivation,
-    tests: &Tests,
-    env: &[(u32, MailboxType)],
-) -> bool
-    requires { IsTested (scope_of (program_view program.now) (derivation_view derivation.now)) tests.now }
-    ensures { result ≡ list_all (λ e. has_a_word_of
-        (scope_of (program_view program.now) (derivation_view derivation.now)) e.1.polarity e.1.pattern) (needs_view env.now) }
-{
-    for (_, of) in env {
-        if !has_a_word(program, derivation, tests, of.polarity, &of.pattern) {
-            return false;
         }
     }
     true
