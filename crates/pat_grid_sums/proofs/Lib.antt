@@ -1,5 +1,6 @@
 mod Putting
 mod Splitting
+mod Adding
 mod Shifting
 mod Units
 mod Summing

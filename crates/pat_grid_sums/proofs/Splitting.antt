@@ -234,17 +234,3 @@ module _ (k n : ℕ) (s : Shape) (shape : IsShape k n s) where
 
   pub words_is : s.words ≡ points_in s.k s.high
   words_is = shape.words ∙ ap (λ i. points_in i s.high) (sym shape.bound)
-
-  pub row_few : (l : ℕ) (row : List ℕ) → IsRow s.k s.low l row → length row ≤ 64
-  row_few l row h = let e = h.0 in let room = shape.room in let is = width_is in omega arith
-
-  pub row_long : (i : ℕ) (row : List ℕ) → IsRow s.k s.high i row → length row ≡ s.words
-  row_long i row h = h.0 ∙ sym words_is
-
-  pub row_words : (i : ℕ) (row : List ℕ) → IsRow s.k s.high i row → (w : ℕ) → w < length row → get_or row w 0 < s.words
-  row_words i row h w m =
-      let e = h.0 in
-      let is = h.1 w (omega arith) in
-      let below = summed_below s.k s.high i w in
-      let words = words_is in
-      omega arith

@@ -3,18 +3,17 @@ use Rattle.std.proofs.Common.{◌≡◌, ℕ, ◌+◌, ◌*◌, ◌/◌, ◌%◌
 use Rattle.std.specs.Prelude.{IsTrue, ◌↔◌}
 use Rattle.std.specs.Int.{bit_at}
 use Rattle.std.proofs.lemmas.Bool.{cases_lt}
-use Rattle.std.proofs.lemmas.Nat.Bits.{bit_at-zero}
 use Rattle.std.proofs.lemmas.Nat.{div-mul-add, mod-mul-add, div-add-mod'}
 use Rattle.std.proofs.Math.Nat.{add-mul}
 use Rattle.std.proofs.lemmas.List.{get_or_append_left, get_or_push, length_push}
 use Rattle.pat_inclusion_spec.specs.bounds.Numbers.{points_in}
 use Rattle.pat_grid_points.specs.Views.{summed}
-use Rattle.pat_grid_points.proofs.Digits.{summed_below, summed_zero_left}
+use Rattle.pat_grid_points.proofs.Digits.{summed_below}
 use Rattle.pat_grid_sums.specs.declared.shape.Shape.{Shape}
-use Rattle.pat_grid_sums.specs.Sets.{In, Puts, AnyBefore, IsListed, AtNumber, Lists, IsMovedAny, IsJoined, IsAdded}
-use Rattle.pat_grid_sums.specs.Shapes.{IsShape, IsRow, IsSum, Has, AreMoved, IsGathered, IsRowSum, AreSums}
+use Rattle.pat_grid_sums.specs.Sets.{In, Puts, AnyBefore, IsListed, AtNumber, Lists, IsMovedAny, IsAdded}
+use Rattle.pat_grid_sums.specs.Shapes.{IsShape, IsRow, IsSum, IsAtSum, Has, AreMoved, IsGathered, IsRowSum, IsAlikeSum, AreSums}
 use Rattle.pat_grid_sums.specs.Systems.{Holds, IsSumOf}
-use Rattle.pat_grid_sums.proofs.Putting.{puts_none, puts_as, has_all, has_as, in_within}
+use Rattle.pat_grid_sums.proofs.Putting.{puts_as, has_all, has_as, in_within}
 use Rattle.pat_grid_sums.proofs.Splitting.{all_points, word_within, place_within, sum_word, sum_place}
 use Rattle.pat_grid_sums.proofs.Units.{sum_of_three}
 
@@ -83,63 +82,38 @@ moved_for ones others s m used all bits are = record {
 }
 
 -- one bit of the word
-pub added_if : (ones : List ℕ) (word : ℕ) (moved : List (List ℕ)) (row : List ℕ) (l : ℕ) (wanted : Bool) (now x y : List ℕ) → (IsTrue wanted ↔ In ones word l) → now ≡ get_or moved l [] → Puts (λ h q. IsTrue wanted × AnyBefore (IsJoined now row) (length row) h q) x y → Puts (IsAdded ones word moved row l) x y
-added_if ones word moved row l wanted now x y test is h =
-    puts_as (λ a q. IsTrue wanted × AnyBefore (IsJoined now row) (length row) a q) (IsAdded ones word moved row l) x y
-    (λ a q t. (test.0 t.0, subst (λ xs. AnyBefore (IsJoined xs row) (length row) a q) is t.1))
-    (λ a q t. (test.1 t.0, subst (λ xs. AnyBefore (IsJoined xs row) (length row) a q) (sym is) t.1))
-    h
-
--- where there are fewer words than the row has places, those past the last are of no bits
-pub joined_all : (moved row x y : List ℕ) (m : ℕ) → m ≡ length moved → length moved ≤ length row → Puts (AnyBefore (IsJoined moved row) m) x y → Puts (AnyBefore (IsJoined moved row) (length row)) x y
-joined_all moved row x y m end fits h =
-    puts_as (AnyBefore (IsJoined moved row) m) (AnyBefore (IsJoined moved row) (length row)) x y
-    (λ a q t. let l = t.1 in (t.0, omega arith, t.2))
-    (λ a q t. let l = in_within moved t.0 q t.2.1 in (t.0, omega arith, t.2))
+pub added_if : (ones : List ℕ) (word : ℕ) (moved : List (List ℕ)) (l : ℕ) (wanted : Bool) (now x y : List ℕ) → (IsTrue wanted ↔ In ones word l) → now ≡ get_or moved l [] → Puts (λ h q. IsTrue wanted × In now h q) x y → Puts (IsAdded ones word moved l) x y
+added_if ones word moved l wanted now x y test is h =
+    puts_as (λ a q. IsTrue wanted × In now a q) (IsAdded ones word moved l) x y
+    (λ a q t. (test.0 t.0, subst (λ xs. In xs a q) is t.1))
+    (λ a q t. (test.1 t.0, subst (λ xs. In xs a q) (sym is) t.1))
     h
 
 -- ---- what is gathered for a word
 
--- nothing, of no bits
-pub gathered_none : (moved : List (List ℕ)) (s : Shape) (words : List ℕ) → words ≡ replicate s.words 0 → IsGathered moved s 0 words
-gathered_none moved s words e =
-    let P : ℕ → ℕ → Type 0 = λ h q. (l : ℕ) × (l < length moved) × (bit_at 0 l ≡ 1) × (h < s.words) × In (get_or moved l []) h q in
-    subst (Has P s.words) (sym e)
-    (has_all P s.words (replicate s.words 0)
-    (puts_none P (replicate s.words 0) (λ h q t. let z = bit_at-zero t.0 in let one = t.2 in absurd (omega arith))))
-
--- what the row of no point puts in
-pub gathered_made : (s : Shape) (ones : List ℕ) (moved : List (List ℕ)) (row zeros words : List ℕ) (i : ℕ) → s.words ≡ points_in s.k s.high → IsRow s.k s.high 0 row → zeros ≡ replicate s.words 0 → Puts (AnyBefore (IsAdded ones i moved row) (length moved)) zeros words → IsGathered moved s (get_or ones i 0) words
-gathered_made s ones moved row zeros words i count row_is none h =
+-- what is put in by all bits of a word
+pub gathered_made : (s : Shape) (ones : List ℕ) (moved : List (List ℕ)) (zeros words : List ℕ) (i : ℕ) → ((l : ℕ) → l < length moved → length (get_or moved l []) ≤ s.words) → zeros ≡ replicate s.words 0 → Puts (AnyBefore (IsAdded ones i moved) (length moved)) zeros words → IsGathered moved s (get_or ones i 0) words
+gathered_made s ones moved zeros words i short none h =
     let P : ℕ → ℕ → Type 0 = λ a q. (l : ℕ) × (l < length moved) × In ones i l × (a < s.words) × In (get_or moved l []) a q in
-    let many = row_is.0 in
-    let at : (w : ℕ) → w < s.words → get_or row w 0 ≡ w = λ w l. row_is.1 w (omega arith) ∙ sym (summed_zero_left s.k s.high w (omega arith)) in
     has_all P s.words words
-    (puts_as (AnyBefore (IsAdded ones i moved row) (length moved)) P (replicate s.words 0) words
-    (λ a q t.
-    let w = t.2.1.0 in
-    let few = t.2.1.1 in
-    let l : w < s.words = omega arith in
-    let is : a ≡ w = t.2.1.2.0 ∙ at w l in
-    (t.0, t.1, t.2.0, subst (λ b. b < s.words) (sym is) l, subst (λ b. In (get_or moved t.0 []) b q) (sym is) t.2.1.2.1))
-    (λ a q t.
-    let few = t.3 in
-    (t.0, t.1, (t.2, (a, (let e : a < length row = omega arith in e), (sym (at a t.3), t.4)))))
-    (subst (λ z. Puts (AnyBefore (IsAdded ones i moved row) (length moved)) z words) none h))
+    (puts_as (AnyBefore (IsAdded ones i moved) (length moved)) P (replicate s.words 0) words
+    (λ a q t. (t.0, t.1, t.2.0, (let l = in_within (get_or moved t.0 []) a q t.2.1 in let few = short t.0 t.1 in let e : a < s.words = omega arith in e), t.2.1))
+    (λ a q t. (t.0, t.1, (t.2, t.4)))
+    (subst (λ z. Puts (AnyBefore (IsAdded ones i moved) (length moved)) z words) none h))
 
--- where it goes, in the row of the word, are the sums of the word's points
-pub row_sums : (s : Shape) (ones : List ℕ) (moved : List (List ℕ)) (words row x y : List ℕ) (i : ℕ) → s.words ≡ points_in s.k s.high → IsRow s.k s.high i row → IsGathered moved s (get_or ones i 0) words → Puts (AnyBefore (IsJoined words row) (length row)) x y → Puts (IsRowSum ones moved s i) x y
-row_sums s ones moved words row x y i count row_is gathered h =
-    let many = row_is.0 in
-    puts_as (AnyBefore (IsJoined words row) (length row)) (IsRowSum ones moved s i) x y
+-- each word of what was gathered at its sum with another word's point: where that word is the same, these are the sums of its points
+pub alike_at_sums : (s : Shape) (ones : List ℕ) (moved : List (List ℕ)) (words x y : List ℕ) (i j : ℕ) → s.words ≡ points_in s.k s.high → get_or ones j 0 ≡ get_or ones i 0 → IsGathered moved s (get_or ones i 0) words → Puts (AnyBefore (IsAtSum s.k s.high j words) (points_in s.k s.high)) x y → Puts (IsAlikeSum ones moved s i j) x y
+alike_at_sums s ones moved words x y i j count same gathered h =
+    puts_as (AnyBefore (IsAtSum s.k s.high j words) (points_in s.k s.high)) (IsAlikeSum ones moved s i j) x y
     (λ a q t.
     let w = t.0 in
     let few = t.1 in
     let g = gathered.only w q t.2.1 in
-    (g.0, w, g.1, g.2, g.3, t.2.0 ∙ row_is.1 w (omega arith), g.4))
+    (same, (g.0, w, g.1, subst (λ b. bit_at b g.0 ≡ 1) (sym same) g.2, g.3, t.2.0, g.4)))
     (λ a q t.
-    let few = t.4 in
-    (t.1, (let e : t.1 < length row = omega arith in e), (t.5 ∙ sym (row_is.1 t.1 (omega arith)), gathered.put t.1 q (t.0, t.2, t.3, t.4, t.6))))
+    let r = t.1 in
+    let few = r.4 in
+    (r.1, (let e : r.1 < points_in s.k s.high = omega arith in e), (r.5, gathered.put r.1 q (r.0, r.2, subst (λ b. bit_at b r.0 ≡ 1) same r.3, r.4, r.6))))
     h
 
 -- ---- sums of sets

@@ -50,10 +50,10 @@ IsShifted others mask by word h q = (h ≡ word) × ((p : ℕ) × In others word
 abbrev pub IsShiftedAny : List ℕ → List ℕ → ℕ → ℕ → ℕ → Type 0
 IsShiftedAny others masks by h q = AnyBefore (IsShifted others (get_or masks by 0) by) (length others) h q
 
--- the bits of word w go where the row says
-abbrev pub IsJoined : List ℕ → List ℕ → ℕ → ℕ → ℕ → Type 0
-IsJoined moved row w h q = (h ≡ get_or row w 0) × In moved w q
+-- the bits of the p-th word from a place on are as far behind the base as the row says
+abbrev pub IsJoined : List ℕ → ℕ → ℕ → List ℕ → ℕ → ℕ → ℕ → Type 0
+IsJoined words from base row p h q = (h ≡ base + get_or row p 0) × In words (from + p) q
 
--- so do those that were moved by bit l of the word
-abbrev pub IsAdded : List ℕ → ℕ → List (List ℕ) → List ℕ → ℕ → ℕ → ℕ → Type 0
-IsAdded ones word moved row l h q = In ones word l × AnyBefore (IsJoined (get_or moved l []) row) (length row) h q
+-- those that were moved by bit l of the word
+abbrev pub IsAdded : List ℕ → ℕ → List (List ℕ) → ℕ → ℕ → ℕ → Type 0
+IsAdded ones word moved l h q = In ones word l × In (get_or moved l []) h q

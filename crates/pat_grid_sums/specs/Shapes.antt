@@ -33,6 +33,10 @@ abbrev pub HasSums : ℕ → ℕ → ℕ → List ℕ → ℕ → ℕ → ℕ �
 HasSums k n v words bits from scale =
     (w q : ℕ) → w < points_in k n → bit_at bits q ≡ 1 → In words (from + summed k n v w * scale) q
 
+-- the bits of word w are at its sum with the point
+abbrev pub IsAtSum : ℕ → ℕ → ℕ → List ℕ → ℕ → ℕ → ℕ → Type 0
+IsAtSum k n v words w h q = (h ≡ summed k n v w) × In words w q
+
 -- in each word the bits are moved by the place
 abbrev pub IsSum : List ℕ → Shape → ℕ → ℕ → ℕ → Type 0
 IsSum others s l h q = (p : ℕ) × (p < s.width) × (h < length others) × In others h p × (q ≡ summed s.k s.low l p)

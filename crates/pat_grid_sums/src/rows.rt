@@ -1,12 +1,14 @@
 // Sums of one point with each point.
 
-ghost use Rattle.std.specs.Prelude.{◌≡◌, ◌<◌, ◌≤◌, ◌+◌, ◌*◌, ◌/◌, ◌%◌, ℕ, length, set, replicate, IfOk, IsTrue};
+ghost use Rattle.std.specs.Prelude.{◌≡◌, ◌<◌, ◌≤◌, ◌+◌, ◌*◌, ◌/◌, ◌%◌, ℕ, length, get_or, set, replicate, IfOk, OnOk, IsTrue};
 ghost use Rattle.std.specs.Int.{bit_at};
 ghost use Rattle.pat_inclusion_spec.specs.bounds.Numbers.{points_in};
 ghost use Rattle.pat_grid_points.specs.Views.{summed};
-ghost use Rattle.pat_grid_sums.specs.Shapes.{FilledTo, IsRow, HasSums};
+ghost use Rattle.pat_grid_sums.specs.Sets.{Puts, AnyBefore, IsJoined};
+ghost use Rattle.pat_grid_sums.specs.Shapes.{FilledTo, IsRow, IsAtSum, HasSums};
 ghost use Rattle.pat_limits.specs.Limits.{most_points};
 
+use crate::bits::join;
 use pat_sequences::Sequence;
 use std::alloc::{AllocError, Global};
 
@@ -96,6 +98,44 @@ fn put_digits(above: usize, digit: usize, k: u32, from: usize, row: &mut Sequenc
             from + other,
             above * (most + 1) + (digit + other).min(most),
         );
+    }
+}
+
+/// Puts each word in at the sum of its point with this one. There is a row of sums for the first tags and one for the last: the words
+/// whose points have the same first tags go by the row of the last.
+pub fn add_sums(
+    alloc: Global,
+    words: &[u64],
+    point: usize,
+    k: u32,
+    tags: u8,
+    sums: &mut Sequence<u64>,
+) -> Result<(), AllocError>
+    requires few { points_in k tags ≤ most_points }
+    requires words { length words.now ≡ points_in k tags }
+    requires sums { length sums.old ≡ points_in k tags }
+    ensures { OnOk result (Puts (AnyBefore (IsAtSum k tags point words.now) (points_in k tags)) sums.old sums.new) }
+{
+    let last = tags / 2;
+    let width = (k as usize + 1).pow(last as u32);
+    let firsts = row_of(alloc, point / width, k, tags - last)?;
+    let lasts = row_of(alloc, point % width, k, last)?;
+    for block in 0..firsts.len() {
+        let base = firsts.as_slice()[block] * width;
+        add_block(words, block * width, base, lasts.as_slice(), sums);
+    }
+    Ok(())
+}
+
+/// Puts in the words from a place on, each as far behind the base as the row says.
+fn add_block(words: &[u64], from: usize, base: usize, row: &[usize], sums: &mut Sequence<u64>)
+    requires long { from + length row.now ≤ length words.now }
+    requires few { length sums.old ≤ most_points }
+    requires row { (p : ℕ) → p < length row.now → base + get_or row.now p 0 < length sums.old }
+    ensures { Puts (AnyBefore (IsJoined words.now from base row.now) (length row.now)) sums.old sums.new }
+{
+    for place in 0..row.len() {
+        join(sums, base + row[place], words[from + place]);
     }
 }
 

@@ -4,13 +4,13 @@ ghost use Rattle.std.specs.Prelude.{◌≡◌, ◌<◌, ◌≤◌, ◌/◌, ℕ,
 ghost use Rattle.std.specs.Int.{bit_at};
 ghost use Rattle.pat_inclusion_spec.specs.Points.{grid_fits};
 ghost use Rattle.pat_inclusion_spec.specs.bounds.Numbers.{points_in};
-ghost use Rattle.pat_grid_sums.specs.Sets.{In, Puts, AnyBefore, AtNumber, IsJoined, IsAdded};
-ghost use Rattle.pat_grid_sums.specs.Shapes.{IsShape, IsRow, Has, IsGathered, IsFirst, IsRowSum, IsAlikeSum, IsFirstSum, AreSums};
+ghost use Rattle.pat_grid_sums.specs.Sets.{In, Puts, AnyBefore, AtNumber, IsAdded};
+ghost use Rattle.pat_grid_sums.specs.Shapes.{IsShape, Has, IsGathered, IsFirst, IsRowSum, IsAlikeSum, IsFirstSum, AreSums};
 ghost use Rattle.pat_grid_sums.specs.Systems.{IsSumOf};
 
-use crate::bits::{has, join, list_all, no_bits, put_all};
+use crate::bits::{has, join_all, list_all, no_bits, put_all};
 use crate::moving::{all_bits, moved_by_each};
-use crate::rows::{has_sums, row_of};
+use crate::rows::{add_sums, has_sums};
 use crate::shape::{Shape, shape_of};
 use pat_sequences::Sequence;
 use std::alloc::{AllocError, Global};
@@ -79,21 +79,19 @@ fn sums_of(
     ensures { IfOk result (Has (AnyBefore (IsRowSum ones.now moved.now shape) (length ones.now)) shape.words) }
 {
     let mut sums = no_bits(alloc, shape.words)?;
-    let still = row_of(alloc, 0, shape.k, shape.high)?;
     for word in 0..ones.len() {
-        add_alike(alloc, ones, word, moved, still.as_slice(), shape, &mut sums)?;
+        add_alike(alloc, ones, word, moved, shape, &mut sums)?;
     }
     Ok(sums)
 }
 
 /// Adds those of the points of all words that are the same as this one, if it is the first of them: what was moved by the places of such
-/// a word is put together once. `still` is the row of no point.
+/// a word is put together once.
 fn add_alike(
     alloc: Global,
     ones: &[u64],
     word: usize,
     moved: &[Sequence<u64>],
-    still: &[usize],
     shape: Shape,
     sums: &mut Sequence<u64>,
 ) -> Result<(), AllocError>
@@ -102,7 +100,6 @@ fn add_alike(
     requires few { length moved.now ≤ 64 }
     requires moved { (l : ℕ) → l < length moved.now → length (get_or moved.now l []) ≤ shape.words }
     requires long { length sums.old ≡ shape.words }
-    requires still { IsRow shape.k shape.high 0 still.now }
     ensures { OnOk result (Puts (IsFirstSum ones.now moved.now shape word) sums.old sums.new) }
 {
     if ones[word] == 0 {
@@ -112,7 +109,7 @@ fn add_alike(
         return Ok(());
     }
     let mut words = no_bits(alloc, shape.words)?;
-    add_word(ones, word, moved, still, &mut words);
+    add_word(ones, word, moved, &mut words);
     let bits = all_bits(words.as_slice());
     for other in 0..ones.len() {
         add_if_alike(
@@ -170,48 +167,27 @@ fn add_if_alike(
     if has_sums(sums.as_slice(), bits, other, shape.k, shape.high, 0, 1) {
         return Ok(());
     }
-    let row = row_of(alloc, other, shape.k, shape.high)?;
-    add_moved(gathered, row.as_slice(), sums);
-    Ok(())
+    add_sums(alloc, gathered, other, shape.k, shape.high, sums)
 }
 
-/// Puts what was moved by the places of one word in where the row says.
-fn add_word(
-    ones: &[u64],
-    word: usize,
-    moved: &[Sequence<u64>],
-    row: &[usize],
-    sums: &mut Sequence<u64>,
-)
+/// Puts in what was moved by the places of one word.
+fn add_word(ones: &[u64], word: usize, moved: &[Sequence<u64>], words: &mut Sequence<u64>)
     requires word { word < length ones.now }
     requires few { length moved.now ≤ 64 }
-    requires moved { (l : ℕ) → l < length moved.now → length (get_or moved.now l []) ≤ length row.now }
-    requires row { (w : ℕ) → w < length row.now → get_or row.now w 0 < length sums.old }
-    ensures { Puts (AnyBefore (IsAdded ones.now word moved.now row.now) (length moved.now)) sums.old sums.new }
+    requires moved { (l : ℕ) → l < length moved.now → length (get_or moved.now l []) ≤ length words.old }
+    ensures { Puts (AnyBefore (IsAdded ones.now word moved.now) (length moved.now)) words.old words.new }
 {
     for bit in 0..moved.len() {
-        add_if(has(ones, word, bit), moved[bit].as_slice(), row, sums);
+        add_if(has(ones, word, bit), moved[bit].as_slice(), words);
     }
 }
 
-/// Puts each word in where the row says, if it is asked for.
-fn add_if(wanted: bool, moved: &[u64], row: &[usize], sums: &mut Sequence<u64>)
-    requires fits { length moved.now ≤ length row.now }
-    requires row { (w : ℕ) → w < length row.now → get_or row.now w 0 < length sums.old }
-    ensures { Puts (λ h q. IsTrue wanted × AnyBefore (IsJoined moved.now row.now) (length row.now) h q) sums.old sums.new }
+/// Puts in all points of the other set, if they are asked for.
+fn add_if(wanted: bool, moved: &[u64], words: &mut Sequence<u64>)
+    requires { length moved.now ≤ length words.old }
+    ensures { Puts (λ h q. IsTrue wanted × In moved.now h q) words.old words.new }
 {
     if wanted {
-        add_moved(moved, row, sums);
-    }
-}
-
-/// Puts each word in where the row says.
-fn add_moved(moved: &[u64], row: &[usize], sums: &mut Sequence<u64>)
-    requires fits { length moved.now ≤ length row.now }
-    requires row { (w : ℕ) → w < length row.now → get_or row.now w 0 < length sums.old }
-    ensures { Puts (AnyBefore (IsJoined moved.now row.now) (length row.now)) sums.old sums.new }
-{
-    for word in 0..moved.len() {
-        join(sums, row[word], moved[word]);
+        join_all(moved, words);
     }
 }

@@ -1,20 +1,17 @@
-use Rattle.std.proofs.Common.{◌≡◌, ℕ, ◌<◌, ◌∙◌, length, get_or, ap, sym, subst, arith}
+use Rattle.std.proofs.Common.{◌≡◌, ℕ, ◌<◌, ◌≤◌, [], ◌∙◌, length, get_or, ap, sym, subst, arith}
 use Rattle.std.specs.Int.{bit_at}
 use Rattle.std.proofs.lemmas.List.{length-replicate}
 use Rattle.pat_grid_sums.specs.Sets.{In, Puts, AnyBefore}
 use Rattle.pat_grid_sums.specs.Shapes.{IsGathered, IsAlikeSum}
 use Rattle.pat_grid_sums.proofs.Putting.{puts_more}
-use Rattle.pat_grid_sums.proofs.Splitting.{words_is, row_words}
 use Rattle.pat_grid_sums.proofs.Summing.{gathered_made}
 use Rattle.pat_grid_sums.proofs.Alike.{are_first}
 use Rattle.pat_grid_sums.proofs.sums.add_alike.Goals as goal
 
-pub add_word-requires-clause-row : goal.add_word-requires-clause-row
-add_word-requires-clause-row c =
+pub add_word-requires-clause-moved : goal.add_word-requires-clause-moved
+add_word-requires-clause-moved c =
     let s = c.args.shape in
-    let row = c.args.still.now in
-    λ w l. subst (λ n. get_or row w 0 < n) (sym (ap length c.in_ok-words.ensures ∙ length-replicate s.words 0))
-    (row_words s.k c.requires.shape.0 s c.requires.shape.1 0 row c.requires.still w l)
+    λ l below. subst (λ n. length (get_or c.args.moved.now l []) ≤ n) (sym (ap length c.in_ok-words.ensures ∙ length-replicate s.words 0)) (c.requires.moved l below)
 
 pub add_if_alike-requires-clause-gathered : goal.add_if_alike-requires-clause-gathered
 add_if_alike-requires-clause-gathered c =
@@ -28,7 +25,7 @@ pub loop-other-preserved : goal.loop-other-preserved
 loop-other-preserved c =
     let a = c.args in
     let s = a.shape in
-    let made = gathered_made s a.ones.now a.moved.now a.still.now c.in_ok-words.words c.add_word.new.sums a.word (words_is s.k c.requires.shape.0 s c.requires.shape.1) c.requires.still c.in_ok-words.ensures c.add_word.ensures in
+    let made = gathered_made s a.ones.now a.moved.now c.in_ok-words.words c.add_word.new.words a.word c.requires.moved c.in_ok-words.ensures c.add_word.ensures in
     puts_more (IsAlikeSum a.ones.now a.moved.now s a.word) c.loop-other.other a.sums.now c.loop-other.sums c.add_if_alike.new.sums c.loop-other.invariant
     (c.in_ok-add_if_alike.ensures a.moved.now (subst (IsGathered a.moved.now s (get_or a.ones.now a.word 0)) (sym c.as_slice-in-loop-other.ensures) made))
 

@@ -8,5 +8,5 @@ use Rattle.pat_grid_sums.proofs.sums.add_word.Goals as goal
 pub loop-bit-preserved : goal.loop-bit-preserved
 loop-bit-preserved c =
     let a = c.args in
-    puts_more (IsAdded a.ones.now a.word a.moved.now a.row.now) c.loop-bit.bit a.sums.now c.loop-bit.sums c.add_if.new.sums c.loop-bit.invariant
-    (added_if a.ones.now a.word a.moved.now a.row.now c.loop-bit.bit c.has.result c.as_slice.result.now c.loop-bit.sums c.add_if.new.sums c.has.ensures (c.as_slice.ensures ∙ c.index-moved-bit.is ∙ get_or_default a.moved.now c.loop-bit.bit c.index-moved-bit.result [] c.loop-bit-test.true) c.add_if.ensures)
+    puts_more (IsAdded a.ones.now a.word a.moved.now) c.loop-bit.bit a.words.now c.loop-bit.words c.add_if.new.words c.loop-bit.invariant
+    (added_if a.ones.now a.word a.moved.now c.loop-bit.bit c.has.result c.as_slice.result.now c.loop-bit.words c.add_if.new.words c.has.ensures (c.as_slice.ensures ∙ c.index-moved-bit.is ∙ get_or_default a.moved.now c.loop-bit.bit c.index-moved-bit.result [] c.loop-bit-test.true) c.add_if.ensures)

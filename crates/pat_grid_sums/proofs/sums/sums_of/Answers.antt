@@ -1,8 +1,7 @@
 use Rattle.std.proofs.Common.{◌≡◌, replicate, length, sym, subst, arith}
 use Rattle.pat_grid_sums.specs.Sets.{Puts, AnyBefore}
-use Rattle.pat_grid_sums.specs.Shapes.{IsRow, IsFirstSum}
+use Rattle.pat_grid_sums.specs.Shapes.{IsFirstSum}
 use Rattle.pat_grid_sums.proofs.Putting.{puts_begun, puts_more}
-use Rattle.pat_grid_sums.proofs.Splitting.{words_few}
 use Rattle.pat_grid_sums.proofs.Alike.{firsts_are_all}
 use Rattle.pat_grid_sums.proofs.sums.sums_of.Goals as goal
 
@@ -12,12 +11,6 @@ loop-word-init c =
     let P = IsFirstSum a.ones.now a.moved.now a.shape in
     let zeros = replicate a.shape.words 0 in
     subst (Puts (AnyBefore P 0) zeros) (sym c.in_ok-sums.ensures) (puts_begun P zeros)
-
-pub row_of-requires : goal.row_of-requires
-row_of-requires c = words_few c.args.shape.k c.requires.shape.0 c.args.shape c.requires.shape.1
-
-pub add_alike-requires-clause-still : goal.add_alike-requires-clause-still
-add_alike-requires-clause-still c = subst (IsRow c.args.shape.k c.args.shape.high 0) (sym c.as_slice.ensures) c.in_ok-still.ensures
 
 pub loop-word-preserved : goal.loop-word-preserved
 loop-word-preserved c =
