@@ -1,9 +1,9 @@
 -- What the grids of values say of a pattern over them.
-use Rattle.std.proofs.Common.{◌≡◌, ℕ, zero, suc, ◌+◌, ◌<◌, ◌≤◌, ◌↔◌, ⊎_elim, inl, inr, Bool, true, false, List, [], ◌∷◌, ◌++◌, length, get_or, take, Some, refl, sym, ap, ◌∙◌, subst, arith}
+use Rattle.std.proofs.Common.{◌≡◌, ℕ, zero, suc, ◌+◌, ◌<◌, ◌≤◌, ◌↔◌, ⊎_elim, inl, inr, Bool, true, false, List, [], ◌∷◌, ◌++◌, map, length, get_or, take, Some, refl, sym, ap, ◌∙◌, subst, arith}
 use Rattle.std.specs.Prelude.{slice_get, ◌&&◌, nat_lt, Result, Ok, Err, IfOk}
 use Rattle.std.proofs.lemmas.Option.{slice_get_past}
-use Rattle.pat_grid_certificates.proofs.Points.{cut_lower, cut_higher}
-use Rattle.std.proofs.lemmas.Bool.{and_parts, ltb-true}
+use Rattle.pat_grid_certificates.proofs.Points.{cut_lower, cut_higher, member_cut, all_fit}
+use Rattle.std.proofs.lemmas.Bool.{and_parts}
 use Rattle.std.proofs.lemmas.List.{take_more, map-append}
 use Rattle.pat_words_spec.specs.Words.{Word}
 use Rattle.pat_words_spec.specs.Patterns.{Pat, Sum, Var, In, InUnder, no_values, is_closed, subst_of}
@@ -27,6 +27,7 @@ use Rattle.pat_grid_certificates.specs.declared.values.Right.TheVariants.{Patter
 use Rattle.pat_patterns.specs.declared.pattern.Pattern.{Pattern}
 use Rattle.pat_patterns.specs.Views.{pattern_view}
 use Rattle.pat_bags.specs.declared.Bag.{Bag}
+use Rattle.pat_bags.specs.Views.{word_of}
 use Rattle.pat_grid_certificates.specs.Views.{value_view, values_view, counts_view, right_view}
 use Rattle.pat_grid_certificates.specs.Shows.{patterns_of, right_of, is_large, form_in, ValuesFit, CutsLie, WordsLie}
 use Rattle.pat_grid_certificates.specs.Cutting.{IsValueGrid, AreValueGrids, IsCutMember}
@@ -120,6 +121,20 @@ higher_grid k n b bs own g fits l mine own_has like has = record {
       subst (λ i. IsCutMember b bs (cut_at i u) ↔ CutOf k (In (points_pattern b n (counts_view bs))) u) (sym mine.0) c in
       (λ x. m.0 (o.0 (h.0 x)), λ x. h.1 (o.1 (m.1 x)));
 }
+
+-- what follows from two facts of an answer
+pub if_both : {A E : Type 0} (P Q R : A → Type 0) (r : Result A E) → IfOk r P → IfOk r Q → ((x : A) → P x → Q x → R x) → IfOk r R
+if_both P Q R (Ok x) p q h = h x p q
+if_both P Q R (Err e) p q h = tt
+
+-- the grid of the points themselves
+pub own_points : (n b : ℕ) (bs : List Bag) (g : Grid) → value_fits n (GridForm b (counts_view bs)) ≡ true → ((u : Word) → HasPoint g u ↔ MemberOf (map word_of bs) u) → (u : Word) → HasPoint g u ↔ IsCutMember b bs u
+own_points n b bs g fits has u =
+    let m = member_cut b n bs u (all_fit n b bs fits) in (λ h. m.0 ((has u).0 h), λ h. (has u).1 (m.1 h))
+
+pub same_grid : (k n b : ℕ) (bs : List Bag) (g : Grid) → value_fits n (GridForm b (counts_view bs)) ≡ true → b ≡ k → (g.k ≡ b) × (g.tags ≡ n) → ((u : Word) → HasPoint g u ↔ MemberOf (map word_of bs) u) → IsValueGrid k n (GridForm b (counts_view bs)) g
+same_grid k n b bs g fits e like has =
+    subst (λ i. IsValueGrid i n (GridForm b (counts_view bs)) g) e (lower_grid b n b bs g fits (omega arith) like (own_points n b bs g fits has))
 
 -- ---- the grid at a place
 

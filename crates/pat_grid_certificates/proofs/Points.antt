@@ -1,5 +1,5 @@
 -- The points of a value, cut at another bound.
-use Rattle.std.proofs.Common.{◌≡◌, ℕ, zero, suc, ◌≤◌, ◌↔◌, inl, inr, ⊎_elim, true, List, [], ◌∷◌, refl, sym, ◌∙◌, subst, arith}
+use Rattle.std.proofs.Common.{◌≡◌, ℕ, zero, suc, ◌≤◌, ◌↔◌, inl, inr, ⊎_elim, true, List, [], ◌∷◌, map, refl, sym, ◌∙◌, subst, arith}
 use Rattle.std.specs.Prelude.{◌&&◌, nat_lt, nat_eq, nat_le}
 use Rattle.std.specs.List.{AllByRecursion, list_all, list_any}
 use Rattle.std.proofs.lemmas.Bool.{and_parts, or_cases, or_left, or_right, cases_lt, eqb-true}
@@ -7,6 +7,7 @@ use Rattle.pat_words_spec.specs.Words.{Word}
 use Rattle.pat_words_spec.specs.Patterns.{In}
 use Rattle.pat_words_spec.specs.Tags.{HasTagsBelow}
 use Rattle.pat_words_spec.specs.Cuts.{cut_at, CutOf}
+use Rattle.pat_words_spec.specs.Languages.{MemberOf}
 use Rattle.pat_words_laws.proofs.WordLaws.{word_ext, count_eq}
 use Rattle.pat_bags.specs.declared.Bag.{Bag}
 use Rattle.pat_bags.specs.Views.{word_of}
@@ -28,7 +29,7 @@ pub fits_grid : (n k : ℕ) (bs : List Bag) → value_fits n (GridForm k (counts
 fits_grid n k bs h =
     (and_parts (grid_fits k n) (list_all (point_fits k n) (counts_view bs) && points_ascend (counts_view bs)) (fits_points n k bs h)).0
 
-all_fit : (n k : ℕ) (bs : List Bag) → value_fits n (GridForm k (counts_view bs)) ≡ true → list_all (point_fits k n) (counts_view bs) ≡ true
+pub all_fit : (n k : ℕ) (bs : List Bag) → value_fits n (GridForm k (counts_view bs)) ≡ true → list_all (point_fits k n) (counts_view bs) ≡ true
 all_fit n k bs h =
     (and_parts (list_all (point_fits k n) (counts_view bs)) (points_ascend (counts_view bs))
     (and_parts (grid_fits k n) (list_all (point_fits k n) (counts_view bs) && points_ascend (counts_view bs)) (fits_points n k bs h)).1).0
@@ -77,6 +78,17 @@ member_any k n (b ∷ bs) u h m =
     (λ e. or_left here later (same_from n u (counted b.counts) (e ∙ sym (own_cut k n b p.0))))
     (λ r. or_right here later (member_any k n bs u p.1 r))
     m
+
+-- the points, each its own cut
+pub member_cut : (k n : ℕ) (bs : List Bag) (u : Word) → list_all (point_fits k n) (counts_view bs) ≡ true → MemberOf (map word_of bs) u ↔ IsCutMember k bs u
+member_cut k n [] u h = (λ m. m, λ m. m)
+member_cut k n (b ∷ bs) u h =
+    let p = and_parts (point_fits k n b.counts) (list_all (point_fits k n) (counts_view bs)) h in
+    let own = own_cut k n b p.0 in
+    let more = member_cut k n bs u p.1 in (
+      ⊎_elim (λ e. inl (sym e ∙ own)) (λ m. inr (more.0 m)),
+      ⊎_elim (λ e. inl (own ∙ sym e)) (λ m. inr (more.1 m)),
+    )
 
 -- a word of the value, by its cut
 module _ (b n : ℕ) (bs : List Bag) (fits : value_fits n (GridForm b (counts_view bs)) ≡ true) where

@@ -42,26 +42,6 @@ pub fn check_grid(
         (λ yes. IsTrue yes
         → Included (subst_of (patterns_of tags vs) (pattern_view left.now)) (right_of tags vs (right_view right.now))) }
 {
-    cuts_show(alloc, left, right, vars, k, tags)
-}
-
-/// So by the grids of both sides.
-fn cuts_show(
-    alloc: Global,
-    left: &Pattern,
-    right: &Right,
-    vars: &[VarValue],
-    k: u32,
-    tags: u8,
-) -> Result<bool, AllocError>
-    requires fits { IsTrue (grid_fits k tags) }
-    requires left { IsTrue (tags_below tags (pattern_view left.now)) }
-    requires right { IsTrue (right_tags tags (right_view right.now)) }
-    requires values { ValuesFit tags (values_view vars.now) }
-    ensures { let vs = values_view vars.now in
-        IfOk result (λ yes. IsTrue yes ↔ (IsTrue (is_large k vs (right_view right.now))
-        × CutsLie k tags (subst_of (patterns_of tags vs) (pattern_view left.now)) (right_of tags vs (right_view right.now)))) }
-{
     if !is_large_enough(right, vars, k) {
         return Ok(false);
     }
@@ -146,8 +126,5 @@ fn lies_in(grid: &Grid, other: &Grid) -> bool
     requires { IsLike grid.now other.now }
     ensures { IsTrue result ↔ ((u : Word) → HasPoint grid.now u → HasPoint other.now u) }
 {
-    match grid.missing(other) {
-        Some(_) => false,
-        None => true,
-    }
+    grid.missing(other).is_none()
 }

@@ -80,13 +80,14 @@ fn points_grid(
     requires value { IsTrue (value_fits tags (GridForm bound (counts_view points.now))) }
     ensures { IfOk result (IsValueGrid k tags (GridForm bound (counts_view points.now))) }
 {
-    if bound >= k {
-        let grid = marked(alloc, points, k, tags)?;
-        return Ok(grid);
+    if bound > k {
+        return marked(alloc, points, k, tags);
     }
-    let own = marked(alloc, points, bound, tags)?;
-    let grid = spread(alloc, &own, k)?;
-    Ok(grid)
+    let own = Grid::from_points(alloc, bound, tags, points)?;
+    if bound == k {
+        return Ok(own);
+    }
+    spread(alloc, &own, k)
 }
 
 /// Of each value the words, cut at `k`.

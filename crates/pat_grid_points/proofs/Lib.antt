@@ -5,3 +5,4 @@ mod Listed
 mod InBlocks
 mod Linked
 mod Along
+mod Ascending

@@ -1,7 +1,9 @@
 -- Grids as the definitions see them.
-use Rattle.std.specs.Prelude.{◌≡◌, ◌-◌, ℕ, zero, suc, Bool, true, false, List, [], ◌∷◌, IsTrue, slice_index_or}
+use Rattle.std.specs.Prelude.{◌≡◌, ◌-◌, ℕ, zero, suc, Bool, true, false, List, [], ◌∷◌, map, IsTrue, slice_index_or}
 use Rattle.pat_words_spec.specs.Words.{Word, plus}
 use Rattle.pat_words_spec.specs.Cuts.{cut_at}
+use Rattle.pat_bags.specs.declared.Bag.{Bag}
+use Rattle.pat_bags.specs.Views.{word_of}
 use Rattle.pat_inclusion_spec.specs.bounds.CutSets.{IsPoint}
 use Rattle.pat_inclusion_spec.specs.bounds.Numbers.{number_of, point_of}
 use Rattle.pat_grid_points.specs.declared.grid.Grid.{Grid}
@@ -32,6 +34,10 @@ points_from k n c (suc count) = point_of k n c ∷ points_from k n (suc c) count
 -- the points with the numbers from one on, up to another that isn't of them
 abbrev pub points_between : ℕ → ℕ → ℕ → ℕ → List Word
 points_between k n from to = points_from k n from (to - from)
+
+-- the numbers of the points
+abbrev pub numbers_of : ℕ → ℕ → List Bag → List ℕ
+numbers_of k n bags = map (λ b. number_of k n (cut_at k (word_of b))) bags
 
 -- the number of the sum of the points with these numbers
 abbrev pub summed : ℕ → ℕ → ℕ → ℕ → ℕ
