@@ -5,7 +5,7 @@ ghost use Rattle.pat_grid_sums.specs.Shapes.{IsShape};
 ghost use Rattle.pat_grid_sums.specs.Systems.{setting_in, IsSystem, AreSets, IsPart, IsClosedAt, Stands, Looked, Passed, IsSettled, NoPoints};
 
 use crate::bits::{is_same, no_bits};
-use crate::rows::no_numbers;
+use crate::rows::{no_numbers, put_number};
 use crate::shape::Shape;
 use crate::steps::grown;
 use crate::system::{System, parts_of};
@@ -199,21 +199,13 @@ fn look(
         return Ok(false);
     }
     let words = grown(alloc, system, shape, sets.as_slice(), s)?;
-    mark(&mut marks.looked, s, now);
+    put_number(&mut marks.looked, s, now);
     if is_same(words.as_slice(), sets.as_slice()[s].as_slice()) {
         return Ok(false);
     }
     put_set(sets, s, words);
-    mark(&mut marks.changed, s, now);
+    put_number(&mut marks.changed, s, now);
     Ok(true)
-}
-
-/// Puts the number in at the symbol.
-fn mark(numbers: &mut Sequence<usize>, s: usize, now: usize)
-    requires { s < length numbers.old }
-    ensures { numbers.new ≡ set numbers.old s now }
-{
-    numbers.items[s] = now;
 }
 
 /// Puts the set in at the symbol.

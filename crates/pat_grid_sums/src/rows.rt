@@ -140,9 +140,9 @@ fn add_block(words: &[u64], from: usize, base: usize, row: &[usize], sums: &mut 
 }
 
 /// Puts the number in at the place.
-fn put_number(row: &mut Sequence<usize>, place: usize, number: usize)
-    requires { place < length row.old }
-    ensures { row.new ≡ set row.old place number }
+pub fn put_number(numbers: &mut Sequence<usize>, place: usize, number: usize)
+    requires { place < length numbers.old }
+    ensures { numbers.new ≡ set numbers.old place number }
 {
-    row.items[place] = number;
+    numbers.items[place] = number;
 }

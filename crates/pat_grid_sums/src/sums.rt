@@ -110,18 +110,10 @@ fn add_alike(
     }
     let mut words = no_bits(alloc, shape.words)?;
     add_word(ones, word, moved, &mut words);
-    let bits = all_bits(words.as_slice());
+    let gathered = words.as_slice();
+    let bits = all_bits(gathered);
     for other in 0..ones.len() {
-        add_if_alike(
-            alloc,
-            ones,
-            word,
-            other,
-            words.as_slice(),
-            bits,
-            shape,
-            sums,
-        )?;
+        add_if_alike(alloc, ones, word, other, gathered, bits, shape, sums)?;
     }
     Ok(())
 }

@@ -22,7 +22,7 @@ loop-other-preserved c = (
       let places = c.requires.places in
       let e : count + 1 ≡ made * (k + 1) + (c.loop-other.other + 1) = omega arith in
       let is : a.above * (k + 1) + c.min.result ≡ a.above * (k + 1) + min (a.digit + c.loop-other.other) k = omega (arith, c.min.ensures) in
-      subst (λ m. FilledTo k (n + 1) v m c.put_number.new.row) e
+      subst (λ m. FilledTo k (n + 1) v m c.put_number.new.numbers) e
       (subst (FilledTo k (n + 1) v (count + 1)) (sym c.put_number.ensures)
       (filled_more k (n + 1) v count _ _ c.loop-other.row (c.loop-other.invariant.1 n v made high low at h) (omega arith) (omega arith)
       (digit_sum k n v a.above a.digit made c.loop-other.other (a.above * (k + 1) + c.min.result) high low (omega arith) is))),

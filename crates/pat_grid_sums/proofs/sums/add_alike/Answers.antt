@@ -1,7 +1,6 @@
-use Rattle.std.proofs.Common.{◌≡◌, ℕ, ◌<◌, ◌≤◌, [], ◌∙◌, length, get_or, ap, sym, subst, arith}
-use Rattle.std.specs.Int.{bit_at}
+use Rattle.std.proofs.Common.{◌≡◌, ◌≤◌, [], ◌∙◌, length, get_or, ap, sym, subst, arith}
 use Rattle.std.proofs.lemmas.List.{length-replicate}
-use Rattle.pat_grid_sums.specs.Sets.{In, Puts, AnyBefore}
+use Rattle.pat_grid_sums.specs.Sets.{Puts, AnyBefore}
 use Rattle.pat_grid_sums.specs.Shapes.{IsGathered, IsAlikeSum}
 use Rattle.pat_grid_sums.proofs.Putting.{puts_more}
 use Rattle.pat_grid_sums.proofs.Summing.{gathered_made}
@@ -15,11 +14,10 @@ add_word-requires-clause-moved c =
 
 pub add_if_alike-requires-clause-gathered : goal.add_if_alike-requires-clause-gathered
 add_if_alike-requires-clause-gathered c =
-    ap length c.as_slice-in-loop-other.ensures ∙ c.add_word.ensures.as_long ∙ ap length c.in_ok-words.ensures ∙ length-replicate c.args.shape.words 0
+    ap length c.as_slice-gathered.ensures ∙ c.add_word.ensures.as_long ∙ ap length c.in_ok-words.ensures ∙ length-replicate c.args.shape.words 0
 
 pub add_if_alike-requires-clause-bits : goal.add_if_alike-requires-clause-bits
-add_if_alike-requires-clause-bits c =
-    subst (λ xs. (h q : ℕ) → h < length xs → In xs h q → bit_at c.all_bits-bits.result q ≡ 1) (c.as_slice.ensures ∙ sym c.as_slice-in-loop-other.ensures) c.all_bits-bits.ensures
+add_if_alike-requires-clause-bits c = c.all_bits-bits.ensures
 
 pub loop-other-preserved : goal.loop-other-preserved
 loop-other-preserved c =
@@ -27,7 +25,7 @@ loop-other-preserved c =
     let s = a.shape in
     let made = gathered_made s a.ones.now a.moved.now c.in_ok-words.words c.add_word.new.words a.word c.requires.moved c.in_ok-words.ensures c.add_word.ensures in
     puts_more (IsAlikeSum a.ones.now a.moved.now s a.word) c.loop-other.other a.sums.now c.loop-other.sums c.add_if_alike.new.sums c.loop-other.invariant
-    (c.in_ok-add_if_alike.ensures a.moved.now (subst (IsGathered a.moved.now s (get_or a.ones.now a.word 0)) (sym c.as_slice-in-loop-other.ensures) made))
+    (c.in_ok-add_if_alike.ensures a.moved.now (subst (IsGathered a.moved.now s (get_or a.ones.now a.word 0)) (sym c.as_slice-gathered.ensures) made))
 
 pub returns : goal.returns
 returns c =
