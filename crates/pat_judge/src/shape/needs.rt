@@ -47,44 +47,46 @@ pub fn tested_needs(
     ensures words { result.have_words ≡ list_all (λ e. has_a_word_of
         (scope_of (program_view program.now) (derivation_view derivation.now)) e.1.polarity e.1.pattern) (needs_view env.now) }
 {
-    let mut are_well = true;
-    let mut have_words = true;
+    let mut all = NeedsTests {
+        are_well: true,
+        have_words: true,
+    };
     for (variable, of) in env {
-        let named = names_mailbox(function.vars.as_slice(), *variable, of.interface);
-        let own = tested_type(program, derivation, tests, of);
-        are_well = both(are_well, both(named, own.are_well));
-        have_words = both(have_words, own.have_words);
+        test_need(
+            program, derivation, tests, function, *variable, of, &mut all,
+        );
     }
-    NeedsTests {
-        are_well,
-        have_words,
-    }
+    all
 }
 
-/// So of one type, but for what its variable names. Mostly all is well, and one walk along the pattern is enough.
+/// Notes what the type of one variable fulfils. Mostly all is well, and one walk along the pattern is enough.
 #[inline(always)]
-fn tested_type(
+fn test_need(
     program: &Program,
     derivation: &Derivation,
     tests: &Tests,
+    function: &Function,
+    variable: u32,
     of: &MailboxType,
-) -> NeedsTests
+    all: &mut NeedsTests,
+)
     requires { IsTested (scope_of (program_view program.now) (derivation_view derivation.now)) tests.now }
-    ensures well { result.are_well ≡ is_formed_of (scope_of (program_view program.now) (derivation_view derivation.now))
-        of.now.interface (pattern_view of.now.pattern) }
-    ensures words { result.have_words ≡ has_a_word_of (scope_of (program_view program.now) (derivation_view derivation.now))
-        (polarity_view of.now.polarity) (pattern_view of.now.pattern) }
+    ensures well { all.new.are_well ≡ (all.old.are_well
+        && (is_mailbox_of of.now.interface (slice_get (function_view function.now).vars variable)
+        && is_formed_of (scope_of (program_view program.now) (derivation_view derivation.now)) of.now.interface
+        (pattern_view of.now.pattern))) }
+    ensures words { all.new.have_words ≡ (all.old.have_words
+        && has_a_word_of (scope_of (program_view program.now) (derivation_view derivation.now)) (polarity_view of.now.polarity)
+        (pattern_view of.now.pattern)) }
 {
-    if is_sound(program, derivation, tests, of) {
-        return NeedsTests {
-            are_well: true,
-            have_words: true,
-        };
+    let named = names_mailbox(function.vars.as_slice(), variable, of.interface);
+    if named && is_sound(program, derivation, tests, of) {
+        return;
     }
-    NeedsTests {
-        are_well: is_formed(program, derivation, of.interface, &of.pattern),
-        have_words: has_a_word(program, derivation, tests, of.polarity, &of.pattern),
-    }
+    let formed = is_formed(program, derivation, of.interface, &of.pattern);
+    let word = has_a_word(program, derivation, tests, of.polarity, &of.pattern);
+    all.are_well = both(all.are_well, both(named, formed));
+    all.have_words = both(all.have_words, word);
 }
 
 /// Whether the type's pattern is one of its interface, and has a word where it is a sending one.

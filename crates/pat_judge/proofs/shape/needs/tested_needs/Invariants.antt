@@ -13,8 +13,8 @@ use Rattle.pat_judge.proofs.shape.needs.tested_needs.Given as goal
 -- what was found so far, and what is left, is what all are
 abbrev pub invariant-loop-variable : goal.invariant-loop-variable
 invariant-loop-variable l = record {
-  well : (l.are_well && list_all (λ e. is_mailbox_of e.1.interface (slice_get (function_view l.function).vars e.0) && is_formed (scope_of (program_view l.program) (derivation_view l.derivation)) e.1.interface e.1.pattern) (needs_view (drop l.variable-index l.env)))
+  well : (l.all.are_well && list_all (λ e. is_mailbox_of e.1.interface (slice_get (function_view l.function).vars e.0) && is_formed (scope_of (program_view l.program) (derivation_view l.derivation)) e.1.interface e.1.pattern) (needs_view (drop l.variable-index l.env)))
       ≡ list_all (λ e. is_mailbox_of e.1.interface (slice_get (function_view l.function).vars e.0) && is_formed (scope_of (program_view l.program) (derivation_view l.derivation)) e.1.interface e.1.pattern) (needs_view l.env);
-  words : (l.have_words && list_all (λ e. has_a_word (scope_of (program_view l.program) (derivation_view l.derivation)) e.1.polarity e.1.pattern) (needs_view (drop l.variable-index l.env)))
+  words : (l.all.have_words && list_all (λ e. has_a_word (scope_of (program_view l.program) (derivation_view l.derivation)) e.1.polarity e.1.pattern) (needs_view (drop l.variable-index l.env)))
       ≡ list_all (λ e. has_a_word (scope_of (program_view l.program) (derivation_view l.derivation)) e.1.polarity e.1.pattern) (needs_view l.env);
 }
