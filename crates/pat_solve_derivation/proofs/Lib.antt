@@ -4,3 +4,4 @@ mod Needing
 mod Showing
 mod Kept
 mod Added
+mod Apart

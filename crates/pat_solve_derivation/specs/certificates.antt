@@ -1,2 +1,3 @@
 pub mod ClosedValues
 pub mod Making
+pub mod Apart

@@ -14,7 +14,7 @@ ghost use Rattle.pat_solve_derivation.specs.certificates.ClosedValues.{AreClosed
 ghost use Rattle.pat_solve_derivation.specs.certificates.Making.{scope_in, forms_in, IsSolved};
 ghost use Rattle.pat_solve_derivation.specs.Made.{IsBare, HasCerts, AreMade};
 
-use crate::certificates::{Solved, certificates, unmade_forms};
+use crate::certificates::{Solved, certificates, is_let_apart, unmade_forms};
 use pat_certificate_checks::plain_values;
 use pat_core::{Function, Node, Program};
 use pat_derivations::{Cert, Derivation, DerivedNode};
@@ -48,6 +48,9 @@ fn certs_at(
     ensures closed { OnOk result (AreClosed (scope_in solved.now) closed.new) }
 {
     derived_laws();
+    if is_let_apart(solved.derivation, number, node, function) {
+        return Ok(Sequence::new(alloc));
+    }
     let all = demands(
         alloc,
         solved.program,

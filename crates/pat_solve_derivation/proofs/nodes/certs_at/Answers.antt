@@ -1,4 +1,4 @@
-use Rattle.std.proofs.Common.{◌≡◌, sym, ap, ◌∙◌, subst}
+use Rattle.std.proofs.Common.{◌≡◌, [], sym, ap, ◌∙◌, subst}
 use Rattle.std.specs.List.{AllByRecursion, flat_map}
 use Rattle.std.proofs.lemmas.Result.{IfOk-weaker}
 use Rattle.pat_derivation_spec.specs.Demands.{inclusions_of}
@@ -50,3 +50,17 @@ returns-clause-certs c =
     (λ certs h. certs_needed p forms d c.requires.bare c.args.number node function line c.requires.node c.requires.line (certs_view certs)
     (subst (λ ds. AreCertsFor s forms (flat_map inclusions_of ds) (certs_view certs)) is h))
     c.certificates.ensures.certs
+
+pub returns-then-is_let_apart-clause-certs : goal.returns-then-is_let_apart-clause-certs
+returns-then-is_let_apart-clause-certs c =
+    let p = program_view c.args.solved.now.program.now in
+    let d = derivation_view c.args.solved.now.derivation.now in
+    let s = scope_in c.args.solved.now in
+    let forms = forms_in c.args.solved.now in
+    let node = node_view c.args.node.now in
+    let function = function_view c.args.function.now in
+    let line = line_view c.args.line.now in
+    subst (λ certs. AreCertsFor s forms (needed_at p d.vars c.args.number node function) (certs_view certs)) (sym c.new.ensures)
+    (certs_needed p forms d c.requires.bare c.args.number node function line c.requires.node c.requires.line []
+    (c.is_let_apart.ensures c.if-is_let_apart.true p line s forms
+    (all_written p forms d c.requires.bare c.args.number node function line c.requires.node c.requires.line c.derived_laws.ensures.written c.requires.solved.well c.requires.function)))
